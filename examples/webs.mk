@@ -19,8 +19,22 @@
 # can take an inclusion away, and then that file may be missing: give it a rule without a recipe,
 # `missing.w:`. The C is then made at each make.
 #
-# A file name with spaces stops make too: each word is taken as a file. Names are those of GNU make,
-# so no `$`, `%`, `#`, `:` or quotes in them.
+# A name is made of letters, digits, `.`, `_`, `/`, `+` and `-`, and does not begin with `-`. One of
+# another form is no prerequisite, and make warns of it with `?` for each other character: the text
+# of a web never becomes a command, or a word of the Makefile. Only regular files are read.
 
-files_of = $(foreach file,$(filter-out $2,$1),$(file) $(call files_of,$(shell LC_ALL=C sed -n \
-    's/^@[iI][[:space:]"]*\([^[:space:]"]*\).*/\1/p' $(file) 2>/dev/null),$2 $(file)))
+files_of = $(call files_of_names,$(shell printf '%s\n' \
+    $(foreach name,$1,'$(subst ','\'',$(name))') | LC_ALL=C sed '$(other_characters)'))
+
+files_of_names = $(foreach file,$(filter-out $2,$1), \
+    $(if $(findstring ?,$(file))$(filter -%,$(file)), \
+    $(warning $(file) is no prerequisite, by its name (webs.mk)), \
+    $(file) $(call files_of_names,$(call included_in,$(file)),$2 $(file))))
+
+# A file of which the system says that it is empty is not read: some in /proc would be waited for.
+included_in = $(shell [ -f $1 ] && [ -s $1 ] && LC_ALL=C sed -n '/^@[iI]/{$(inclusion)}' $1)
+
+# What is after the code, without a name's quotes and without what follows it.
+inclusion = s/^..[[:space:]]*//; /^"/!s/[[:space:]"].*//; s/^"\([^"]*\).*/\1/; \
+    $(other_characters); p;
+other_characters = s|[^A-Za-z0-9._/+-]|?|g

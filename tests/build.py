@@ -8,7 +8,8 @@ usage: build.py CTANGLE RETANGLE TOP       TOP is the folder of the repository
 - A project of one's own: webs.mk, a change file, two outputs, in another folder by make -C.
 - examples/Makefile: each source of its programs is touched.
 - make try: the C of README.md's web; a web with its inclusions, change file and further outputs; an
-  error. A script stands for the kit's command, and runs CTANGLE. Without that command: one message.
+  error; included files outside of the web's folder; files that cannot be read. A script stands for
+  the kit's command, and runs CTANGLE. Without that command: one message.
 - make install and make uninstall with PROGRAM_PREFIX.
 - docs/programs.md: what differs and is one run; the web of each fault; the abbreviation's change
   file. Each message of docs/faults.md is in docs/ctangle.1.
@@ -241,6 +242,56 @@ def test_try_web(temporary):
     check(status == 2 and b'/b.w is not there\n' in errors, 'make try, no web', printed + errors)
 
 
+OUTSIDE = {
+    'w/a.w': b'@ A.\n@c\n@<Do@>\n@i ../o/b.w\n@i "../o/no.w"\n@i FULL/o/d.w\n@i p/../q.w now\n',
+    'w/q.w': b'@ @(q.h@>=\n@<Do@>\n', 'w/p/x': b'',
+    'w/a.ch': b'@x\n@i ../o/b.w\n@y\n@ New.\n@i ../o/b.w\n@z\n',
+    'o/b.w': b'@ @<Do@>=\nint x;\n@i ../o/c\\\\c.w\n@<none@>\n',
+    'o/c\\\\c.w': b'int c;\n@ @(o.h@>=\n"', 'o/d.w': b'@ @(q.h@>=\nint d;\n',
+}
+
+
+def test_try_outside(temporary):
+    """A file outside of the web's folder has its own name in messages and in the C."""
+    source, out = copy_of_top(temporary, 'outside'), os.path.join(temporary, 'outside', 'bin', 'try')
+    folder = new_folder(temporary, 'around', {})
+    lay(folder, {name: text.replace(b'FULL', folder.encode()) for name, text in OUTSIDE.items()})
+    for given in (['a'], ['a', 'a']):
+        arguments = ['WEB=' + folder + '/w/a'] + ['CHANGE=' + folder + '/w/a.ch'] * (len(given) - 1)
+        printed, errors, status = make_try(temporary, source, arguments)
+        _, said, ended = run([ctangle] + given, os.path.join(folder, 'w'))
+        check(status == 0 and ended == 1 and said in printed and said.count(b'\n') == 3,
+              'make try, files outside', printed + errors + said)
+        for name in ('a.c', 'q.h', 'o.h'):
+            same(read(out, name), read(folder, 'w', name), 'make try, files outside, ' + name)
+
+
+def test_try_unreadable(temporary):
+    """Each file that has no text is one message, and no run."""
+    source = copy_of_top(temporary, 'unreadable')
+    folder = new_folder(temporary, 'no webs', {
+        'a.w': b'@ @c\n@i d.w\n', 'b.w': b'@ @c\n\0@(h\0.h@>', 'c.w': b'', 'e.w': b'@ @c\n@i c.w\n',
+        'long.w': b'@ @c\n@ @(%s/x.h@>=\n1\n' % (b'x' * 300), 'ok.w': b'@ @c\nint x;\n'})
+    os.mkdir(os.path.join(folder, 'd.w'))
+    os.mkfifo(os.path.join(folder, 'f.w'))
+    os.chmod(os.path.join(folder, 'c.w'), 0)
+    cases = [(['WEB=d.w'], '%s/d.w is a folder'), (['WEB=b'], '%s/b.w is no text: it has a byte 0'),
+             (['WEB=f'], '%s/f.w is no file with a text'), (['WEB=a'], '%s/d.w is a folder'),
+             (['WEB=/proc/self/mem.'], '/proc/self/mem. is not there'), (['WEB=ok', 'CHANGE=d.w'], '%s/d.w is a folder'),
+             (['WEB=ok', 'CHANGE=none'], '%s/none.ch is not there')]
+    if os.getuid() != 0:        # who may read each file
+        cases += [(['WEB=c'], '%s/c.w may not be read'), (['WEB=e'], '%s/c.w may not be read')]
+    for words, message in cases:
+        words = [re.sub('=(?!/)', '=' + folder + '/', word) for word in words]
+        printed, errors, status = make_try(temporary, source, words)
+        lines = [line for line in errors.decode().splitlines() if line.startswith('make try: ')]
+        expected = message % folder if '%s' in message else message
+        check(status == 2 and lines == ['make try: ' + expected] and b'Traceback' not in errors
+              and b'C: ' not in printed, 'make try, ' + expected, printed + errors)
+    printed, errors, status = make_try(temporary, source, ['WEB=' + folder + '/long'])
+    check(b'Traceback' not in errors and b'cannot write' in printed, 'make try, a long name', printed + errors)
+
+
 def test_no_kit(temporary):
     """Without the kit's command there is one plain message, and nothing else is tried."""
     source = copy_of_top(temporary, 'no kit')
@@ -306,10 +357,11 @@ def surprise(temporary, name, files, arguments, errors, status):
 
 def test_surprises(temporary):
     web = b'@ A.\n@c\nint a = %s;\n'
-    folder = surprise(temporary, 'two apostrophes', {'a.w': web % b"1'000'000"}, ['a'], b'', 0)
-    check(b"\nint a = 1'000'000;\n" in read(folder, 'a.c'), 'two apostrophes', read(folder, 'a.c'))
-    surprise(temporary, 'an apostrophe', {'a.w': web % b"1'000"}, ['a'],
+    folder = surprise(temporary, 'separators', {'a.w': web % b"10'000"}, ['a'], b'', 0)
+    check(b"\nint a = 10'000;\n" in read(folder, 'a.c'), 'separators', read(folder, 'a.c'))
+    surprise(temporary, 'an apostrophe after a full stop', {'a.w': web % b"0x1.F'Fp0"}, ['a'],
              b'a.w:3: error: quoted text did not end\n', 1)
+    surprise(temporary, 'a raw string', {'a.w': web % b'R"(say "hi   there")"'}, ['a'], b'a.w:3: error: raw string\n', 1)
 
     folder = surprise(temporary, 'Latin-1', {'a.w': b'@l e9 eacute\n@ A.\n@c\nint caf\xe9;\n'}, ['a', '-l'], b'', 0)
     check(b'\nint caf\xe9;\n' in read(folder, 'a.c'), 'Latin-1', read(folder, 'a.c'))
@@ -329,10 +381,13 @@ def test_surprises(temporary):
 
 
 def test_abbreviation(temporary):
-    """The web of docs/programs.md, its faults, and the change file that mends it."""
+    """The web of docs/programs.md, its faults at each place of its two abbreviations, and the change
+    file that mends it."""
     section = read(top, 'docs', 'programs.md').split(b'\n## An abbreviation', 1)[1].split(b'\n## ', 1)[0]
-    web, errors, change = blocks_of(section)
-    same(change.count(b'\n'), 7, 'docs/programs.md, lines of the change file')
+    web, change = blocks_of(section)
+    same(change.count(b'\n'), 6, 'docs/programs.md, lines of the change file')
+    errors = b''.join(b'a.w:%d: error: no full name for <%s...>\n' % one for one in (
+        (3, b'Types'), (4, b'Print the'), (5, b'Types'), (7, b'Print the')))
     surprise(temporary, 'abbreviation', {'a.w': web}, ['a'], errors, 1)
     surprise(temporary, 'a mention by a change', {'a.w': web, 'full.ch': change}, ['a', 'full'], b'', 0)
 
@@ -382,7 +437,8 @@ def test_pages(_):
 
 def main():
     with tempfile.TemporaryDirectory() as temporary:
-        return run_all((test_rule, test_missing, test_project, test_examples, test_try, test_try_web, test_no_kit,
+        return run_all((test_rule, test_missing, test_project, test_examples, test_try, test_try_web, test_try_outside,
+                        test_try_unreadable, test_no_kit,
                         test_prefix, test_surprises, test_abbreviation, test_remedies, test_pages), temporary)
 
 

@@ -6,10 +6,11 @@ usage: c_tokens.py TOP        TOP is the folder of the repository
 It gives the crate's worked texts the tokens that they have there. gcc's `cc -E -fdebug-cpp` writes
 before each token where it is in the file, so that what is between two such notes is one token.
 Generated texts, each between two markers, have the same tokens for both. Left out are
-texts to which C11 gives no meaning (a quote or a comment that is not closed), directives, trigraphs,
+texts to which C23 gives no meaning (a quote or a comment that is not closed), directives, trigraphs,
 and a backslash with white space and a line end after it, where gcc joins the lines. Of the characters
 past 127 only a letter is tried: gcc reads others, as a multiplication sign, as tokens of their own.
-gcc is asked for C11: in its own dialect it also reads `::` and raw strings as one token.
+gcc is asked for C23: in its own dialect it also reads raw strings as one token. It ends a number
+before an apostrophe that `$` or a byte past 127 follows; such a number is left out, too.
 
 The last line is 'N passed, M failed'.
 """
@@ -27,15 +28,16 @@ LEAST = 100             # so often each kind of token is in the texts
 WORKED = 80             # at least as many texts are worked
 
 PUNCTUATORS = set(
-    b'[ ] ( ) { } . -> ++ -- & * + - ~ ! / % << >> < > <= >= == != ^ | && || ? : ; ... = *= /= %= += '
-    b'-= <<= >>= &= ^= |= , # ## <: :> <% %> %: %:%:'.split())
+    b'[ ] ( ) { } . -> ++ -- & * + - ~ ! / % << >> < > <= >= == != ^ | && || ? : :: ; ... = *= /= %= '
+    b'+= -= <<= >>= &= ^= |= , # ## <: :> <% %> %: %:%:'.split())
 
 # One element as a whole. A universal character name that a word or a number has is one letter.
+WORD_BYTE = rb'[0-9A-Za-z_$\x80-\xff]'
 LETTER = rb'(?:[A-Za-z_$\x80-\xff]|\\u[0-9a-fA-F]{4}|\\U[0-9a-fA-F]{8})'
 KINDS = {
     'identifier': re.compile(LETTER + rb'(?:[0-9]|' + LETTER + rb')*'),
-    'number': re.compile(rb'\.?[0-9](?:[eEpP][+-]|[0-9.]|' + LETTER + rb')*'),
-    'character constant': re.compile(rb"[LuU]?'(?:\\[^\n]|[^'\\\n])+'"),
+    'number': re.compile(rb"\.?[0-9](?:'" + WORD_BYTE + rb'|[eEpP][+-]|[0-9.]|' + LETTER + rb')*'),
+    'character constant': re.compile(rb"(?:u8|[uUL])?'(?:\\[^\n]|[^'\\\n])+'"),
     'string literal': re.compile(rb'(?:u8|[uUL])?"(?:\\[^\n]|[^"\\\n])*"'),
     'punctuator': re.compile(b'|'.join(map(re.escape, sorted(PUNCTUATORS, key=len, reverse=True)))),
     'other character': re.compile(rb'[^ \t\n\v\f]'),
@@ -109,7 +111,7 @@ def read_by_compiler(texts):
     marked = b''.join(b'text_%d_\n%s\n' % (number, text) for number, text in enumerate(texts))
     with tempfile.TemporaryDirectory() as folder:
         lay(folder, {'texts.c': marked})
-        output, errors, status = run(['cc', '-std=c11', '-undef', '-w', '-E', '-P', '-fdebug-cpp',
+        output, errors, status = run(['cc', '-std=c2x', '-undef', '-w', '-E', '-P', '-fdebug-cpp',
                                     'texts.c'], folder)
     check(status == 0 and not errors, 'cc -E', errors.decode(errors='replace')[:1000])
     found = {}
@@ -135,20 +137,24 @@ PIECES = (
     + [b'a', b'e', b'E', b'p', b'x', b'_', b'$', b'L', b'u', b'U', b'u8', b'0x', b'while']
     + [b'\xc3\xa9', b'\\u00e9', b'\\U000000e9']
     + [b'0', b'1', b'8', b'1e', b'0xe', b'1.', b'.5', b'1p', b'1E+', b'2P-', b'1\\u00e9']
+    + [b"1'0", b"0xF'F", b".5'0", b"'", b"'0'", b"'e+'"]
     + [b"'a'", b"'\\''", b'"s"', b'""', b'"a\\"b"', b'"/*"', b"'//'", b'"\\\\"', b'L"x"', b"u'y'"]
     + [b' ', b' ', b'\n', b'\t', b'\\\n', b'\\\n', b'\\']
     + [b'/**/', b'/*"*/', b'/* a */', b'//', b'// b\n', b'/*/*/', b'/', b'*/'])
 
+ENDED_BY_GCC = re.compile(rb"\.?[0-9].*'[$\x80-\xff]")
 TRIGRAPH = re.compile(rb"\?\?[=/'()!<>-]")
 JOINED_BY_GCC = re.compile(rb'\\[ \t\v\f]+\n')
 
 
 def is_defined(text):
-    """Whether C11 and gcc read the tokens of this text by the same grammar."""
+    """Whether C23 and gcc read the tokens of this text by the same grammar."""
     found = elements(spliced(text))
     first = True                # no token is before this element on its line
     for each in found:
         if first and each in (b'#', b'%:') or each in (b'"', b"'") or is_open(each):
+            return False
+        if ENDED_BY_GCC.match(each):
             return False
         first = each == b'\n' or first and not kind(each)
     return not (TRIGRAPH.search(text) or JOINED_BY_GCC.search(text + b'\n') or text.endswith(b'\\'))

@@ -37,42 +37,19 @@ import pairs
 import programs
 import short_webs
 from checks import check, finish, lay, same
-from faults import fault_line, status_of
 from files import ROLES, table_of
 from hostile import chained
 from running import run
-from scripts import Script, answer
-from sessions import Session
-from tangling import Tangling, tangling_of
+from scripts import answer
+from tangling import tangling_of
 
 LONGEST_LINE = 200          # the most characters that are shown of a line
-
 
 
 def tangled(arguments, folder):
     """The status, standard error and the output files that the reference gives."""
     names = programs.read_words(arguments)
-    if names is None:
-        return 2, programs.USAGE, {}
-    try:
-        tangling = Tangling(*programs.load(names, programs.Folder(folder)))
-    except programs.LoadFault as fault:
-        return 3, fault.line(b'ctangle'), {}
-    faults = b''.join(map(fault_line, tangling.faults))
-    created = {}
-    for name, text in tangling.files:
-        if not is_file_name(name):
-            return 3, faults + b'ctangle: cannot write %s\n' % name, created
-        created[name] = text
-    return status_of(tangling.faults), faults, created
-
-
-def is_file_name(name):
-    """Whether a file can be created with this name."""
-    try:
-        return name.decode() != ''
-    except UnicodeDecodeError:
-        return False
+    return (2, programs.USAGE, {}) if names is None else programs.tangled(names, programs.Folder(folder))
 
 
 def make_folder(folder, files):
@@ -80,6 +57,12 @@ def make_folder(folder, files):
     shutil.rmtree(folder, ignore_errors=True)
     os.makedirs(folder)
     lay(os.fsencode(folder), {name: bytes_of(lines) for name, lines in files})
+
+
+def make_folders_of(names, folder):
+    """Makes the folders in which these files of a web are, since the programs make none."""
+    for name in names:
+        os.makedirs(os.path.join(os.fsencode(folder), os.path.dirname(name)), exist_ok=True)
 
 
 def is_laid(folder, name, *projects):
@@ -129,8 +112,8 @@ class Comparison:
     def compare_run(self, name, arguments, folder):
         status, faults, files = tangled(arguments, folder)
         before = files_of(folder)
-        for file in files:                      # a name of a web may be in a folder, which is not made
-            os.makedirs(os.path.join(os.fsencode(folder), os.path.dirname(file)), exist_ok=True)
+        make_folders_of(files, folder)
+        files = {os.path.normpath(file): text for file, text in files.items()}
         done = run([self.program] + arguments, folder)
         same((done.status, done.output, done.errors, files_of(folder)),
              (status, b'', faults, {**before, **files}), name)
@@ -167,14 +150,14 @@ class Comparison:
             project, text = generator.script(seed)
             make_folder(folder, project.files)
             arguments = ['a', '--out', os.fsdecode(project.out)] + (['--change', 'a'] if project.change else [])
-            loaded = programs.load(programs.read_retangle(arguments), programs.Folder(folder))
+            names = programs.read_retangle(arguments)
             try:
-                answers = Script(Session(*loaded, watch), text)
+                status, errors, written = programs.answered(names, programs.Folder(folder), text, watch)
             except TooLarge:
                 print('generated script %d is too large' % seed)
                 continue
             same(run([self.program] + arguments, folder, text),
-                 (answers.written, b'', answers.status), 'generated script %d' % seed)
+                 (written, errors, status), 'generated script %d' % seed)
 
     def edited(self, folder, webs):
         """A session that is edited from a whole web into one of its cuts, and back, edit by edit or

@@ -11,6 +11,9 @@ usage: compiler.py CTANGLE TOP        TOP is the folder of the repository
   one space wherever the web keeps two items apart. The compiler's lists of these lines and of what
   ctangle makes have the same macros, of the same C tokens; or it reads the same tokens of both. The
   lines are made from what the web is made of, and not from any output.
+- Generated webs with groups, each with the macros of its conditions defined and undefined. The
+  compiler says which words it reads, and at which line of which file each one is: at its own one,
+  unless the word is in a stretch.
 
 The last line is 'N passed, M failed'.
 """
@@ -23,6 +26,7 @@ from collections import Counter
 
 ctangle, top = (os.path.abspath(path) for path in sys.argv[1:3])
 import random_directives
+import random_groups
 from c_tokens import tokens
 from checks import check, lay, read, run_all, same
 from random_macros import KINDS, Web
@@ -31,9 +35,13 @@ from running import run
 STORED = os.path.join(top, 'tests', 'compiler')
 WEBS = 400
 DIRECTIVES = 300        # webs with lines for the preprocessor
+GROUPS = 300            # webs with groups, of which some are left out
 TOGETHER = 50           # how many webs one run of the compiler reads
 LEAST = 20              # so often each pair of kinds, and each other place, is in the generated webs
 
+C23 = '-std=gnu2x'      # with what gcc adds to it, as raw strings
+MACROS = ([], ['A'], ['B'], ['A', 'B'])         # those of the conditions that are defined
+WHERE = re.compile(rb'\{P:([^;]*);F:[^;]*;L:([0-9]+);[^}]*\}([^{\s]+)')
 DEFINED = re.compile(rb'#define ([\w$]+)(\([^)]*\))?(?: (.*))?')
 
 
@@ -57,9 +65,18 @@ def listed(name, folder, file):
 
 def preprocessed(name, folder, file):
     """The tokens that the preprocessor makes of a file, which it has to read without a warning."""
-    text, errors, status = run(['cc', '-E', '-P', '-I.', file], folder)
+    text, errors, status = run(['cc', C23, '-E', '-P', '-I.', file], folder)
     check(status == 0 and not errors, name, errors.decode(errors='replace')[:1000])
     return tokens(text)
+
+
+def words_read(name, folder, macros):
+    """The words that the compiler reads of a.c where these macros are defined, each with its file and line."""
+    defined = ['-D' + macro for macro in macros]
+    text, errors, status = run(['cc', C23, '-E', '-P', '-fdebug-cpp', *defined, 'a.c'], folder)
+    check(status == 0 and not errors, name, errors.decode(errors='replace')[:1000])
+    found = [(word, (file, int(line))) for file, line, word in WHERE.findall(text)]
+    return [(word, place) for word, place in found if random_groups.WORD.fullmatch(word)]
 
 
 # ---------------------------------------------------------------------- stored webs
@@ -74,7 +91,7 @@ def test_stored_lists():
 
 def test_stored_tokens():
     for name in ('slashes-at-the-ends-of-pieces', 'constants-that-touch', 'backslashes-in-macros',
-                 'heads-with-comments-and-codes', 'directives-over-several-lines'):
+                 'heads-with-comments-and-codes', 'directives-over-several-lines', 'separators-and-raw-strings'):
         with tempfile.TemporaryDirectory() as folder:
             lay(folder, {'a.w': read(STORED, name, 'in', 'a.w')})
             tangle(name, folder)
@@ -166,9 +183,34 @@ def test_generated_directives():
         check(places[place] >= LEAST, 'generated directives', 'only %d times: %s' % (places[place], place))
 
 
+def test_generated_groups():
+    places, chance = Counter(), random.Random(83)
+    for number in range(GROUPS):
+        name, web = 'generated groups %d' % number, random_groups.Web(chance)
+        with tempfile.TemporaryDirectory() as folder:
+            lay(folder, web.files)
+            tangle(name, folder, 'a')
+            for macros in MACROS:
+                check_words('%s with %s' % (name, macros), web, words_read(name, folder, macros), macros, places)
+        places.update(web.places)
+    print('%(words)d words at lines of their own, %(wrong)d at others' % places)
+    forms = ['if', 'ifdef', 'ifndef', 'elif', 'elifdef', 'elifndef', 'else', 'endif']
+    others = ['a change', 'an inclusion', 'a group over several pieces', 'counted', 'joined']
+    for place in ['#' + form for form in forms] + others:
+        check(places[place] >= LEAST, 'generated groups', 'only %d times: %s' % (places[place], place))
+
+
+def check_words(name, web, found, macros, places):
+    same([word for word, _ in found], web.words_read(macros), name + ', the words')
+    asked = [(word, place) for word, place in found if word not in web.in_stretches]
+    wrong = [(word, place, web.place_of[word]) for word, place in asked if place != web.place_of[word]]
+    places.update(words=len(asked) - len(wrong), wrong=len(wrong))
+    same(wrong, [], name + ', words at wrong lines: each, where it is said to be, where it is')
+
+
 def main():
     return run_all((test_stored_lists, test_stored_tokens, test_program, test_program_of_slashes, test_generated,
-                    test_generated_directives))
+                    test_generated_directives, test_generated_groups))
 
 
 if __name__ == '__main__':

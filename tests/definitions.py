@@ -30,7 +30,7 @@ PAGES = {
     'docs/output.md': [
         'tangle_scan/ItemBytes', 'tangle_scan/MacroBytes', 'tangle_expansion/Numbers',
         'tangle_expansion/PieceBytes', 'tangle_expansion/Outputs', 'tangle_expansion/Location',
-        'tangle_graph/Outputs', 'tangle_session/Writes'],
+        'tangle_graph/Outputs', 'tangle_graph/PlainForms', 'tangle_session/Writes'],
     'docs/faults.md': [
         'tangle_faults', 'tangle_names/Faults', 'tangle_graph/Faults', 'tangle_session/Laws'],
     'docs/edits.md': ['tangle_expansion/Affected', 'tangle_affected', 'tangle_session/Moves'],

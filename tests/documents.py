@@ -56,7 +56,7 @@ STIFF = re.compile('|'.join(phrase.replace(' ', r'\s+') for phrase in (
     'always does so', 'its result cannot refuse', 'where reader, writer or folder report', 'refuse such a body')))
 
 # The folders whose pages' links are followed, and those to which a path in code leads.
-LINKED = ('', 'docs', 'docs/generated', 'bench', 'tests/reference')
+LINKED = ('', 'docs', 'docs/generated', 'bench', 'tests', 'tests/reference')
 FOLDERS = ('crates', 'docs', 'examples', 'tests', 'bench')
 
 # The crates in which nodes are expanded and expansions written.
@@ -407,10 +407,10 @@ def check_quotes(top, page):
 
 def check_edits(crate, here, excused):
     edits = [*here.edits.values(), *here.further_edits.values()]
-    if not edits:
+    edited = set().union(*(edited_functions(here, text) for text in edits))
+    if not edited:
         return
     functions = functions_of(here)
-    edited = set().union(*(edited_functions(here, text) for text in edits))
     surface = surface_of(here, functions)
     private = {one[3]: one for one in functions if one not in surface}
     for one in surface:
@@ -421,7 +421,7 @@ def check_edits(crate, here, excused):
 
 def turns_of(edit):
     """What an edit replaces, in turn: the file if it is named anew, the old text and the new one."""
-    return re.findall(r'^(?:file: src/(\S+)\n)?old: ?(.*)\nnew: ?(.*)', edit, re.M)
+    return re.findall(r'^(?:file: (\S+)\n)?old: ?(.*)\nnew: ?(.*)', edit, re.M)
 
 
 def has_clause(here, cell):
@@ -459,8 +459,10 @@ def check_twins(crate, here):
 
 def check_edits_apply(crate, here):
     """Each text that an edit replaces is once in its file, when its turn comes."""
+    files = {**{'src/' + file: text for file, text in here.code.items()},
+             **{'specs/' + file: text for file, text in here.specs.items()}}
     for name, edit in [*here.edits.items(), *here.further_edits.items(), *here.twins.items()]:
-        texts, file = dict(here.code), None
+        texts, file = dict(files), None
         turns = turns_of(edit)
         check(turns, '%s/must-fail/%s' % (crate, name), 'nothing is replaced')
         for named, old, new in turns:
@@ -542,8 +544,9 @@ def is_law(text):
 
 
 def edited_functions(here, edit):
-    """The functions that an edit changes; its replacements are made one after the other."""
-    file = re.search(r'^file: src/(\S+)', edit, re.M).group(1)
+    """The functions that an edit changes; its replacements are made one after the other. An edit of a definition changes
+    none."""
+    file = (re.search(r'^file: src/(\S+)', edit, re.M) or [None, None])[1]
     text, found = here.code.get(file, ''), set()
     for old, new in re.findall(r'^old: ?(.*)\nnew: ?(.*)', edit, re.M):
         at = text.find(old)

@@ -3,7 +3,6 @@
 
 test_example() {
     find_retangle example || return
-    run_python example build.py "$temporary/ctangle" "$retangle" "$top"
     cp -R "$top/examples" "$temporary/example"
     rm -rf "$temporary/example/out"
     if ! make -C "$temporary/example" run CTANGLE="$temporary/ctangle" \

@@ -92,11 +92,25 @@ run_case() { # NAME CASE [RUNNER]
     if ended_so "$2"; then pass; else report "$1"; fi
 }
 
-# Whether retangle is there, as $retangle; else the test of this name fails.
+# Whether a program is there, at its path in $ctangle, $retangle or $layers; else the test of this name fails.
+find_ctangle() { # NAME
+    ctangle=${CTANGLE:-$top/bin/ctangle}
+    is_built "$1" "$ctangle" make
+}
+
 find_retangle() { # NAME
     retangle=${RETANGLE:-$top/bin/retangle}
-    [ -x "$retangle" ] && return
-    fail "$1" "$retangle is not there: run make first"
+    is_built "$1" "$retangle" make
+}
+
+find_layers() { # NAME
+    layers=${LAYERS:-$top/bin/tangle_layers}
+    is_built "$1" "$layers" 'make layers'
+}
+
+is_built() { # NAME PROGRAM COMMAND
+    [ -x "$2" ] && return
+    fail "$1" "$2 is not there: run $3 first"
     return 1
 }
 
@@ -113,11 +127,6 @@ run_python() { # NAME FILE ARGUMENT..
     shift 2
     python3 -B "$top/tests/$_file" "$@" >"$temporary/log" 2>&1
     count_last_line "$_name" "$temporary/log"
-}
-
-# The same over both programs and the repository.
-run_python_over_both() { # NAME FILE
-    ! find_retangle "$1" || run_python "$1" "$2" "$temporary/ctangle" "$retangle" "$top"
 }
 
 # Takes over the counts of a log whose last line has them, and shows the rest of it.

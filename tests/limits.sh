@@ -1,16 +1,10 @@
-# Webs at a limit and one past it. They are made here, since they are long.
+# Webs at a limit and one past it (tests/limit_cases.py); those whose time or memory counts are made here.
 
 test_limits() {
-    test_line_length
-    test_line_count
-    test_file_size
-    test_file_names
-    test_file_count
+    test_longest_files
     test_lines_taken
     test_many
     test_long_name
-    test_depth
-    test_weight
     test_rare_tokens
     test_short_runs
     test_graphs
@@ -19,62 +13,6 @@ test_limits() {
 
 repeated() { # COUNT TEXT
     awk -v count="$1" -v text="$2" 'BEGIN { for (n = 0; n < count; n++) printf "%s", text }'
-}
-
-only_limbo() {
-    must_end 0 'warning: no program text'
-    : >"$case/expected/a.c"
-}
-
-test_line_length() {
-    begin_case a
-    repeated 65536 x >"$case/in/a.w"
-    must_end 3 'ctangle: a.w: LineTooLong'
-    run_case 'line of 65,536 bytes' "$case"
-
-    begin_case a
-    { repeated 65535 x; repeated 9 ' '; } >"$case/in/a.w"
-    only_limbo
-    run_case 'line of 65,535 bytes before its trailing spaces' "$case"
-
-    begin_case a a
-    printf '@i b.w\n' >"$case/in/a.w"
-    repeated 65536 x >"$case/in/b.w"
-    : >"$case/in/a.ch"
-    must_end 3 'ctangle: b.w: LineTooLong'
-    run_case 'line of 65,536 bytes in an included file' "$case"
-
-    cp "$case/in/b.w" "$case/in/a.ch"
-    must_end 3 'ctangle: a.ch: LineTooLong'
-    run_case 'line of 65,536 bytes in the change file' "$case"
-}
-
-test_line_count() {
-    begin_case a
-    repeated 1000000 '
-' >"$case/in/a.w"
-    only_limbo
-    run_case 'file of 1,000,000 lines' "$case"
-
-    begin_case a
-    repeated 1000001 '
-' >"$case/in/a.w"
-    must_end 3 'ctangle: a.w: TooManyLines'
-    run_case 'file of 1,000,001 lines' "$case"
-
-    cp "$case/in/a.w" "$temporary/lines"
-    repeated 65536 x >>"$case/in/a.w"
-    must_end 3 'ctangle: a.w: LineTooLong'
-    run_case 'file of 1,000,002 lines, the last of 65,536 bytes' "$case"
-
-    mv "$temporary/lines" "$case/in/b.w"
-    printf '@i b.w\n' >"$case/in/a.w"
-    must_end 3 'ctangle: b.w: TooManyLines'
-    run_case 'included file of 1,000,001 lines' "$case"
-}
-
-sparse_file() { # FILE SIZE
-    dd if=/dev/null of="$1" bs=1 seek="$2" 2>/dev/null
 }
 
 # A file of 67,108,864 bytes, of lines of 65,535 bytes each; its last bytes are these.
@@ -87,20 +25,6 @@ longest_file() { # FILE END
     for _number in $(seq 16); do cat "$temporary/lines"; done >"$1"
     truncate -s "-$(printf "$2" | wc -c)" "$1"
     printf "$2" >>"$1"
-}
-
-test_file_size() {
-    begin_case a
-    sparse_file "$case/in/a.w" 67108864
-    must_end 3 'ctangle: a.w: LineTooLong'
-    run_case 'file of 67,108,864 bytes in one line' "$case"
-
-    begin_case a
-    sparse_file "$case/in/a.w" 67108865
-    must_end 3 'ctangle: cannot read a.w'
-    run_case 'file of 67,108,865 bytes' "$case"
-
-    test_longest_files
 }
 
 # The web, an included file and the change file at the limit and one byte past it.
@@ -136,56 +60,6 @@ test_longest_files() {
     run_case 'change file of 67,108,865 bytes' "$case"
 }
 
-test_file_names() {
-    name=$(repeated 254 n)
-    begin_case "$name"
-    must_end 3 "ctangle: $name.w: BadName"
-    run_case 'web with a name of 256 bytes' "$case"
-
-    # the change file's name is looked at before the main file's, and both before any file is read
-    begin_case a "$name" "$name"
-    must_end 3 "ctangle: $name.ch: BadName"
-    run_case 'change file with a name of 257 bytes' "$case"
-
-    begin_case a - "$name"
-    must_end 3 "ctangle: $name.c: BadName"
-    run_case 'main file with a name of 256 bytes' "$case"
-
-    # such a file is not asked for
-    begin_case a
-    printf '@i %snn\n' "$name" >"$case/in/a.w"
-    must_end 1 "a.w:1: error: included file not found: ${name}nn" 'warning: no program text'
-    : >"$case/expected/a.c"
-    run_case 'inclusion with a name of 256 bytes' "$case"
-}
-
-included_files() { # COUNT
-    for number in $(seq 1 "$1"); do
-        echo "@i f$number.w"
-        : >"$case/in/f$number.w"
-    done >"$case/in/a.w"
-}
-
-test_file_count() {
-    begin_case a
-    included_files 255
-    only_limbo
-    run_case '256 files' "$case"
-
-    begin_case a
-    included_files 256
-    must_end 3 'ctangle: f256.w: TooManyFiles'
-    run_case '257 files' "$case"
-
-    repeated 65536 x >"$case/in/f256.w"
-    run_case '257 files, the last with a line of 65,536 bytes' "$case"
-
-    rm "$case/in/f256.w"
-    must_end 1 'a.w:256: error: included file not found: f256.w' 'warning: no program text'
-    : >"$case/expected/a.c"
-    run_case '257 files, of which the last one is not there' "$case"
-}
-
 measured() {
     "$temporary/measure" "$temporary/used" "$@"
 }
@@ -212,13 +86,6 @@ must_have_held() { # NAME KILOBYTES
 
 test_lines_taken() {
     begin_case a
-    printf '@i b.w\n@i b.w\n' >"$case/in/a.w"
-    repeated 999999 '
-' >"$case/in/b.w"
-    only_limbo
-    run_case '2,000,000 lines taken' "$case"
-
-    begin_case a
     printf '@i b.w\n@i b.w\n@i b.w\n' >"$case/in/a.w"
     repeated 1000000 '
 ' >"$case/in/b.w"
@@ -238,67 +105,6 @@ test_long_name() {
         printf '\n#line 3 "a.w"\n\n/*:1*/\n'
     } >"$case/expected/a.c"
     run_case 'name of 60,000 bytes' "$case"
-}
-
-# A name in each section but the first, two lines each.
-chain_of_names() { # COUNT
-    python3 -B "$top/tests/chain.py" "$1" >"$case/in/a.w"
-}
-
-test_depth() {
-    begin_case a
-    chain_of_names 999
-    awk 'BEGIN {
-        for (n = 1; n < 1000; n++) printf "/*%d:*/\n#line %d \"a.w\"\n\n ", n, 2 * n
-        printf "/*1000:*/\n#line 2000 \"a.w\"\n\n1\n/*:1000*/"
-        for (n = 999; n > 0; n--) printf "\n#line %d \"a.w\"\n\n/*:%d*/", 2 * n + 1, n
-        printf "\n"
-    }' >"$case/expected/a.c"
-    run_case 'chain of 999 names below the program' "$case"
-
-    begin_case a
-    chain_of_names 1000
-    must_end 1 'error: too large: the unnamed program'
-    run_case 'chain of 1,000 names below the program' "$case"
-}
-
-# A file with 255 uses of a name of weight 65,790, and a word of BYTES bytes, weighs 5 + 255 * (2 + 65,790) + BYTES.
-# Each use is a space, the C of the name and a line mark.
-heavy_file() { # BYTES
-    {
-        printf '@ P.\n@(s.h@>=\n'
-        repeated 255 '@<a@>'
-        repeated "$1" x
-        printf '\n@ @<a@>=\n'
-        repeated 60000 y
-        printf '\n'
-        repeated 5784 z
-        printf '\n'
-    } >"$case/in/a.w"
-    : >"$case/expected/a.c"
-}
-
-test_weight() {
-    begin_case a
-    heavy_file 251
-    must_end 0 'warning: no program text'
-    {
-        printf '/*1:*/\n#line 2 "a.w"\n\n'
-        {
-            printf ' /*2:*/\n#line 4 "a.w"\n\n'
-            sed -n 5,6p "$case/in/a.w"
-            printf '/*:2*/\n#line 3 "a.w"\n'
-        } >"$temporary/used"
-        for number in $(seq 255); do cat "$temporary/used"; done
-        repeated 251 x
-        printf '\n/*:1*/\n'
-    } >"$case/expected/s.h"
-    run_case 'file of weight 16,777,216' "$case"
-
-    begin_case a
-    heavy_file 252
-    must_end 1 'a.w:2: error: too large: <s.h>' 'warning: no program text'
-    run_case 'file of weight 16,777,217' "$case"
 }
 
 many_sections() { # COUNT

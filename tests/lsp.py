@@ -21,7 +21,7 @@ ctangle, retangle, top = (os.path.abspath(path) for path in sys.argv[1:4])
 sys.path[:0] = [os.path.join(top, below) for below in ('lsp', 'tests', 'tests/reference')]
 import generator
 from checks import check, folder_with, read, run_all, same, write
-from lsp_client import PATIENCE, Client, framed, message, range_of
+from lsp_client import PATIENCE, Client, framed, message, processor_seconds, range_of
 from running import run
 
 os.environ['RETANGLE'] = retangle
@@ -257,9 +257,10 @@ def bytes_of(text):
 def tangled(files, *arguments):
     """What ctangle reports of these files, as Client.faults gives it, and the outputs."""
     with folder_with(files) as folder:
+        os.makedirs(os.path.join(folder, 'd'), exist_ok=True)   # that of some outputs
         lines = run([ctangle, *arguments], folder).errors.decode(errors='replace').split('\n')[:-1]
         return sorted(lines), {name: read(folder, name) for name in os.listdir(folder)
-                        if os.path.isfile(os.path.join(folder, name))}
+                               if os.path.isfile(os.path.join(folder, name))}
 
 
 def units(text):
@@ -628,13 +629,6 @@ def test_many_faults():
         check(seconds < SECONDS, 'lsp, %d of %r' % (MANY, line), '%.1f seconds' % seconds)
         client.has(tangled({'a.w': web.encode()}, 'a')[0], '%d of %r' % (MANY, line))
         client.end()
-
-
-def processor_seconds(pid):
-    """What a process has used of a processor, which does not depend on what others use."""
-    with open('/proc/%d/stat' % pid) as file:
-        user, system = file.read().rpartition(')')[2].split()[11:13]
-    return (int(user) + int(system)) / os.sysconf('SC_CLK_TCK')
 
 
 def test_ends():

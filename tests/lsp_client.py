@@ -38,12 +38,15 @@ class Client:
     def __init__(self, files, program=None, capabilities=None, **parts):
         self.folder = folder_with(files)
         arguments = [] if program is None else ['--retangle', program]
-        self.process = subprocess.Popen(SERVER + arguments, cwd='/', stdin=subprocess.PIPE,
-                                        stdout=subprocess.PIPE, env=parts.get('environment'))
+        self.process = subprocess.Popen([*parts.get('runner', []), *SERVER, *arguments], cwd='/',
+                                        stdin=subprocess.PIPE, stdout=subprocess.PIPE,
+                                        stderr=parts.get('errors'), env=parts.get('environment'))
+        os.set_blocking(self.process.stdin.fileno(), False)
         self.read, self.number, self.version, self.last = b'', 0, 0, None
         self.diagnostics, self.shown, self.logged, self.asked, self.errors = {}, [], [], [], []
         if parts.get('initialize', True):
-            params = {'rootUri': self.uri(''), 'capabilities': capabilities or {}}
+            params = {'rootUri': self.uri(''), 'capabilities': capabilities or {},
+                      'initializationOptions': parts.get('options')}
             self.capabilities = self.ask('initialize', params)['result']['capabilities']
             self.notify('initialized', {})
 
@@ -59,8 +62,24 @@ class Client:
     # ------------------------------------------------------------------ messages
 
     def send(self, text):
-        self.process.stdin.write(text)
-        self.process.stdin.flush()
+        """Sends bytes, and reads what comes meanwhile: the server may write before it reads."""
+        rest, sources = memoryview(text), [self.process.stdout]
+        while rest:
+            readable, writable, _ = select.select(sources, [self.process.stdin], [], PATIENCE)
+            if not readable and not writable:
+                raise TimeoutError('nothing is taken')
+            if writable:
+                rest = rest[os.write(self.process.stdin.fileno(), rest):]
+            elif not self.fill():
+                sources = []
+
+    def fill(self):
+        """Whether the server has written more, which is waited for."""
+        if not select.select([self.process.stdout], [], [], PATIENCE)[0]:
+            raise TimeoutError('no answer')
+        some = os.read(self.process.stdout.fileno(), 1 << 16)
+        self.read += some
+        return bool(some)
 
     def notify(self, method, params):
         self.send(message(method=method, params=params))
@@ -88,13 +107,9 @@ class Client:
                 body = self.read[head.end():head.end() + int(head[1])]
                 self.read = self.read[head.end() + int(head[1]):]
                 break
-            if not select.select([self.process.stdout], [], [], PATIENCE)[0]:
-                raise TimeoutError('no answer')
-            some = os.read(self.process.stdout.fileno(), 1 << 16)
-            if not some:
+            if not self.fill():
                 return None
-            self.read += some
-        received = json.loads(body)
+        received = json.loads(body, parse_constant=refuse)
         self.keep(received, received.get('params'))
         return received
 
@@ -169,9 +184,44 @@ class Client:
         self.folder.cleanup()
 
 
+def refuse(constant):
+    raise ValueError('the server sent %s, which is no JSON' % constant)
+
+
 def range_of(start, end):
     start, end = ({'line': line, 'character': count} for line, count in (start, end))
     return {'start': start, 'end': end}
+
+
+def at(line, character):
+    return {'line': line - 1, 'character': character}
+
+
+def item(client, name, **parts):
+    return dict(parts, textDocument={'uri': client.uri(name)})
+
+
+def applied(client, edits, texts):
+    """The texts after the edits of a client's answer."""
+    made = dict(texts)
+    changes = edits.get('changes')
+    if changes is None:
+        changes = {one['textDocument']['uri']: one['edits'] for one in edits['documentChanges']}
+    for uri, these in changes.items():
+        lines = made[client.name(uri)].split('\n')
+        for edit in sorted(these, key=lambda one: (one['range']['start']['line'],
+                                                   one['range']['start']['character']))[::-1]:
+            start, end = edit['range']['start'], edit['range']['end']
+            front = cut(lines[start['line']], start['character'], True)
+            back = cut(lines[end['line']], end['character'], False)
+            lines[start['line']:end['line'] + 1] = (front + edit['newText'] + back).split('\n')
+        made[client.name(uri)] = '\n'.join(lines)
+    return made
+
+
+def cut(line, units, is_front):
+    raw = line.encode('utf-16-le', 'surrogatepass')
+    return (raw[:2 * units] if is_front else raw[2 * units:]).decode('utf-16-le', 'surrogatepass')
 
 
 # ---------------------------------------------------------------------- what it takes
@@ -220,6 +270,18 @@ def times(web, changes):
     memory = [memory_of(pid) for pid in [client.process.pid, *children_of(client.process.pid)]]
     client.end()
     return found, memory
+
+
+def processor_seconds(pid):
+    """What a process has used of a processor, which does not depend on what others use."""
+    with open('/proc/%d/stat' % pid) as file:
+        user, system = file.read().rpartition(')')[2].split()[11:13]
+    return (int(user) + int(system)) / os.sysconf('SC_CLK_TCK')
+
+
+def used_by_both(client):
+    """The seconds that the server and its retangle have used of a processor."""
+    return sum(map(processor_seconds, [client.process.pid, *children_of(client.process.pid)]))
 
 
 def memory_of(pid):

@@ -1,13 +1,15 @@
 """The language server in editors, with the lines of docs/editors.md: an author's day.
 
-usage: lsp_editors.py CTANGLE RETANGLE TOP [neovim] [emacs]      TOP is the folder of the repository
+usage: lsp_editors.py CTANGLE RETANGLE TOP [words] [neovim] [emacs]
+
+TOP is the folder of the repository.
 
 In a web of 35,000 lines with an included file 300 edits are typed and undone, a name is completed,
 hovered over, followed and renamed, the C of a line is shown, the branch is switched under the
 editor, another program writes a file, and retangle and the server are killed; in Neovim the web is
 also removed, written again, and saved under another name. After each step the faults that the
-editor has are those of ctangle. Neovim and Emacs are tried where they are installed; else their
-part is skipped, by its name.
+editor has are those of ctangle. An Emacs in batch completes names after their first word. Neovim
+and Emacs are tried where they are installed; else their part is skipped, by its name.
 
 RETANGLE_LSP in the environment names another server, as one that is installed. The last line is
 'N passed, M failed'.
@@ -212,6 +214,39 @@ def test_emacs():
         folder.cleanup()
 
 
+WORDS = '''
+(setq eglot-sync-connect 60)
+(find-file "a.w")
+(apply 'eglot (append (eglot--guess-contact)))
+(defun completed (typed)
+  "What completion makes of the last line, when this was typed in it."
+  (goto-char (point-max))
+  (insert "\\n" typed)
+  (eglot--signal-textDocument/didChange)
+  (completion-at-point)
+  (buffer-substring (line-beginning-position) (point-max)))
+(princ (mapconcat 'completed '("@<Gre" "x = @<Gre" "@<Greet t" "@(gre" "@<greeting.h") "\\n"))
+(eglot-shutdown-all)
+'''
+COMPLETED = [b'@<Greet the user@>', b'x = @<Greet the user@>', b'@<Greet the user@>', b'@(greeting.h@>',
+             b'@<greeting.h@>']
+
+
+def test_emacs_words():
+    """A name is completed after its first word, and after the next one."""
+    if not shutil.which('emacs') or run(['emacs', '-q', '--batch', '--eval', "(require 'eglot)"],
+                                        '/').status != 0:
+        return skip('Emacs, its words', 'emacs or eglot')
+    files = {'a.w': b'@ P.\n@c\n@ @<Greet the user@>=\n1;\n@ @(greeting.h@>=\n@<Other@>\n@ @c\n'}
+    lines = '(package-activate-all)\n' + lines_of_page('Emacs', 'elisp') + WORDS
+    with folder_with({**files, 'words.el': lines.encode()}) as folder:
+        os.symlink(server, os.path.join(folder, 'retangle-lsp'))
+        done = run(['emacs', '-q', '--batch', '-l', 'words.el'], folder, HOME=folder,
+                   RETANGLE=retangle, PATH=folder + os.pathsep + os.environ['PATH'])
+        same(done.output.split(b'\n'), COMPLETED, 'Emacs, a word is completed')
+        check(done.status == 0, 'Emacs, its words', done.errors[-1000:])
+
+
 def spend_day(emacs, folder):
     # a daemon has no command after which eglot would start the server
     emacs.ask('(progn (find-file "%s/a.w") (run-hooks (quote post-command-hook)) t)' % folder)
@@ -283,5 +318,5 @@ def children(pid):
 
 
 if __name__ == '__main__':
-    parts = {'neovim': test_neovim, 'emacs': test_emacs}
+    parts = {'words': test_emacs_words, 'neovim': test_neovim, 'emacs': test_emacs}
     sys.exit(run_all([parts[name] for name in sys.argv[4:] or parts]))

@@ -22,7 +22,7 @@ ctangle, retangle, layers, top = (os.path.abspath(path) for path in sys.argv[1:5
 sys.path[:0] = [os.path.join(top, below) for below in ('lsp', 'tests', 'tests/reference')]
 import generator
 from checks import check, folder_with, read, run_all, same
-from lsp_client import Client, range_of
+from lsp_client import Client, applied, at, item, range_of
 from retangle_lsp.faults import Folding
 from retangle_lsp.files import lines_of, text_of
 from retangle_lsp.names import Names
@@ -66,14 +66,6 @@ CHANGE = '''\
 '''
 FILES = {'a.w': A.encode(), 'b.w': B.encode()}
 CHANGED = {**FILES, 'a.ch': CHANGE.encode(), '.retangle': b'a a\n'}
-
-
-def at(line, character):
-    return {'line': line - 1, 'character': character}
-
-
-def item(client, name, **parts):
-    return dict(parts, textDocument={'uri': client.uri(name)})
 
 
 def test_places():
@@ -196,29 +188,6 @@ def test_completion():
 
 # ---------------------------------------------------------------------- renaming and actions
 
-def applied(client, edits, texts):
-    """The texts after the edits of a client's answer."""
-    made = dict(texts)
-    changes = edits.get('changes')
-    if changes is None:
-        changes = {one['textDocument']['uri']: one['edits'] for one in edits['documentChanges']}
-    for uri, these in changes.items():
-        lines = made[client.name(uri)].split('\n')
-        for edit in sorted(these, key=lambda one: (one['range']['start']['line'],
-                                                   one['range']['start']['character']))[::-1]:
-            start, end = edit['range']['start'], edit['range']['end']
-            front = cut(lines[start['line']], start['character'], True)
-            back = cut(lines[end['line']], end['character'], False)
-            lines[start['line']:end['line'] + 1] = (front + edit['newText'] + back).split('\n')
-        made[client.name(uri)] = '\n'.join(lines)
-    return made
-
-
-def cut(line, units, is_front):
-    raw = line.encode('utf-16-le', 'surrogatepass')
-    return (raw[:2 * units] if is_front else raw[2 * units:]).decode('utf-16-le', 'surrogatepass')
-
-
 def test_rename():
     """All places of a name, in files that are not open, and in webs that are not."""
     texts = {'a.w': A, 'b.w': B.replace('\n', '\r\n')}
@@ -249,14 +218,6 @@ def test_rename():
     same(client.result('textDocument/prepareRename', item(client, 'a.w', position=at(1, 0))), None,
          'no name to be renamed')
     client.end()
-    for files in (CHANGED, {**CHANGED, '.retangle': b''}):
-        client = Client(files)
-        client.open('a.w', A)
-        answer = client.ask('textDocument/rename', item(
-            client, 'a.w', position=at(5, 8), newName='Sum'))
-        check('change file a.ch, at line 4' in answer.get('error', {}).get('message', ''),
-              'a name in a change file', answer)
-        client.end()
 
 
 def actions(client, line, character):
@@ -303,16 +264,16 @@ def test_marks():
             ('@ @c\n@i none.h\n1\n', (2, 3, 9, 'included file not found: none.h')),
             ('@ @c\n@i "no h"\n1\n', (2, 4, 8, 'included file not found: no h')),
             ('@ @c\n@i\n1\n', (2, 0, 2, 'inclusion without a file name')),
-            ('@ @c\nint é; "é\n', (2, 7, 9, 'quoted text did not end')),
-            ('@ @c\nx /* y\nz\n', (2, 2, 6, 'comment did not end')),
-            ('@ @c\nx @=y\nz\n', (2, 2, 5, 'verbatim text did not end')),
+            ('@ @c\nint é; "é\n', (2, 7, 9, 'quoted text did not end; it began on line 2')),
+            ('@ @c\nx /* y\nz\n', (2, 2, 6, 'comment did not end; it began on line 2')),
+            ('@ @c\nx @=y\nz\n', (2, 2, 5, 'verbatim text did not end; it began on line 2')),
             ("@ @c\nx @'yy' z\n", (2, 2, 7, 'bad ASCII constant')),
-            ('@ @c\nx @^y\nz\n', (2, 2, 5, 'control text did not end')),
+            ('@ @c\nx @^y\nz\n', (2, 2, 5, 'control text did not end; it began on line 2')),
             ('@ @c\nx @d y\n', (2, 2, 4, 'definition code in C text')),
             ('@ A.\n@d x @h y\n@c\n1\n', (2, 5, 7, '@h in a macro')),
             ('@ A.\n  @d 1\n@c\n1\n', (2, 2, 4, 'macro must start with an identifier')),
             ('@ @c\n"a@b"\n', (2, 0, 5, 'single @ in quoted text')),
-            ('@ @c\nx @<Name\n@ B.\n', (2, 2, 8, 'section name did not end')),
+            ('@ @c\nx @<Name\n@ B.\n', (2, 2, 8, 'section name did not end; it began on line 2')),
             ('@ @c\n1\n@ @<Name@>=\n', (3, 2, 10, 'never used: <Name>')),
             ('@ @c\n@<A@>\n@ @<A@>=\n@<A@>\n', (2, 0, 5, 'contains itself: <A>'))):
         client = Client({'a.w': web.encode()})
@@ -336,7 +297,7 @@ def test_folding():
              [(10, 'never used: <Globul variables>; is it <Global variables>?', 5)]),
             # not finished
             ('@ @c\n' + USES + 'x=@<Glo\ny; @<Global...@>\n' + GLOBAL,
-             [(6, 'section name did not end', 1)]),
+             [(6, 'section name did not end; it began on line 6', 1)]),
             # used once and not defined
             ('@ @c\n@<One@>\n@<One@>\n@<O...@>\n', [(2, 'undefined: <One>', 2)]),
             # an abbreviation of nothing, three times
@@ -463,6 +424,8 @@ def test_scanner():
         arguments = ['a', 'a.ch' if project.change else '-', os.fsdecode(project.out)]
         with folder_with(files) as folder:
             listing = listed(arguments, folder)
+        if listing.sections is None:            # it includes a folder, and cannot be read
+            continue
         texts = {os.fsencode(name): text_of(lines_of(text)) for name, text in files.items()}
         before = names = Names(texts.get, b'a.w', b'a.ch' if project.change else None, before)
         source, count, occurrences = found_in(names)

@@ -8,6 +8,8 @@ test_machine() {
     test_standard_error
     test_permissions
     test_second_output
+    test_overwritten
+    test_waited_for
     test_full_disk
 }
 
@@ -89,6 +91,42 @@ test_second_output() {
     printf '@ @<C@>=\n' >>"$case/in/a.w"
     must_end 3 'a.w:12: warning: never used: <C>' 'ctangle: cannot write h.h'
     run_case 'second output is a folder, and there is a fault' "$case"
+}
+
+# A web that is an output's name, a Makefile, and a link, which is followed.
+test_overwritten() {
+    begin_case a
+    printf '@ A.\n@(a.w@>=\n1\n@ @(Makefile@>=\n2\n@ @(link@>=\n3\n' >"$case/in/a.w"
+    echo 'all:' >"$case/in/Makefile"
+    echo 'int x;' >"$case/in/led-to"
+    ln -s led-to "$case/in/link"
+    must_end 0 'warning: no program text'
+    output='/*%d:*/\n#line %d "a.w"\n\n%d\n/*:%d*/\n'
+    run_program "$case" plainly
+    for one in 1:2:a.w 2:4:Makefile 3:6:led-to; do
+        number=${one%%:*} rest=${one#*:}
+        printf "$output" "$number" "${rest%%:*}" "$number" "$number" >"$temporary/expected/${rest#*:}"
+    done
+    : >"$temporary/expected/a.c"
+    if ended_so "$case" && [ -h "$temporary/run/link" ]; then pass; else report 'overwritten'; fi
+}
+
+# Another program writes into a FIFO that is included, after a second.
+while_a_fifo_is_written() {
+    mkfifo fifo
+    (sleep 1; echo 'int x;' >fifo) &
+    "$@"
+    _status=$?
+    wait
+    rm fifo
+    return $_status
+}
+
+test_waited_for() {
+    begin_case a
+    printf '@ A.\n@c\n@i fifo\n' >"$case/in/a.w"
+    printf '/*1:*/\n#line 2 "a.w"\n\n#line 1 "fifo"\nint x;\n/*:1*/\n' >"$case/expected/a.c"
+    run_case 'a FIFO as an included file' "$case" while_a_fifo_is_written
 }
 
 # The output is a link to a device that is always full, so no byte can be written.

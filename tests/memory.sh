@@ -12,14 +12,6 @@ test_memory() {
         refuse_each_allocation refusing "${name#*/}" "$top/tests/cases/$name"
     done
     refuse_each_allocation refusing_from 'one web, without memory from an allocation on' "$one_web"
-    test_conversation
-}
-
-test_conversation() {
-    find_retangle 'refused allocations of a conversation' || return
-    run_python 'refused allocations of a conversation' refused.py "$retangle" \
-        "$temporary/refuse.so" "$top"
-    run_python 'counted allocations' counted.py "$retangle" "$temporary/refuse.so"
 }
 
 refusing() {

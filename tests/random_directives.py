@@ -31,12 +31,11 @@ class Web:
 
     def __init__(self, chance):
         self.chance, self.places, self.made = chance, Counter(), []
-        self._add_use()
         self._add_lines(chance.randint(3, 6), 0)
         heads = chance.choice([b'@c\n', b'@c\n@<Lines@>\n@ @<Lines@>=\n'])
         self.before = b'@ Directives.\n' + heads
         made = b''.join(line.web for line in self.made)
-        self.source = ChangedLines(chance, self.before + made + b'@ @<Here@>=\nhere\n')
+        self.source = ChangedLines(chance, self.before + made)
         self.places['a change'] += bool(self.source.changes)
 
     def files(self):
@@ -89,28 +88,23 @@ class Web:
         self._add_lines(chance.randint(0, 2), depth + 1)
         if chance.random() < .3:
             self._directive(b'elif', *chance.choice(CONDITIONS).split(b' '))
-            self._add_use()
             self._add_lines(1, depth + 1)
         if chance.random() < .5:
             self._directive(b'else')
-            self._add_use()
             self._add_lines(1, depth + 1)
         self._directive(b'endif')
-        self._add_use()
-
-    def _add_use(self):
-        """A line mark is after a use. The compiler has not read those in a group that it has left out."""
-        self.made.append(Line(b'@<Here@>\n', b'here', False))
 
     def _directive(self, *words):
-        """A directive of these words, which something keeps apart."""
-        web = self.chance.choice(FRONTS) + b'#' + (self._gap(words[0]) if self.chance.random() < .3 else b'')
+        """A directive of these words, which something keeps apart. A backslash after # would hide a turn."""
+        is_turn = words[0] in (b'elif', b'else', b'endif')
+        web = self.chance.choice(FRONTS) + b'#'
+        web += self._gap(words[0], ON_A_LINE if is_turn else CONTINUED) if self.chance.random() < .3 else b''
         web += words[0] + b''.join(self._gap(words[0]) + word for word in words[1:])
         self.made.append(Line(web + self.chance.choice(BACKS) + b'\n', b'#' + b' '.join(words), False))
 
-    def _gap(self, word):
+    def _gap(self, word, continued=CONTINUED):
         drawn = self.chance.random()
         if drawn < .5:
             self.places['a line end in #' + word.decode()] += 1
             return self.chance.choice(INNER_ENDS)
-        return self.chance.choice(CONTINUED if drawn < .65 else ON_A_LINE)
+        return self.chance.choice(continued if drawn < .65 else ON_A_LINE)

@@ -5,10 +5,8 @@
 #
 # usage: tests/run.sh [PART..]
 #
-# The parts are documents, users, editor, lsp, example, cases, compiler, conversations, machine,
-# streams, limits, sizes, memory, comparison, cuts, scripts and layers; without one all are run.
-# Several run side by side, as many at a time as there are processors; what each says is shown when
-# all have ended.
+# tests/README.md says what each part asks and needs; without one all are run. Several run side by side,
+# as many at a time as there are processors; what each says is shown when all have ended.
 #
 # CTANGLE=PATH, RETANGLE=PATH and LAYERS=PATH take other programs.
 # The last line is 'N passed, M failed'.
@@ -17,13 +15,6 @@ LC_ALL=C
 export LC_ALL
 
 top=$(cd "$(dirname "$0")/.." && pwd)
-program=${CTANGLE:-$top/bin/ctangle}
-if [ ! -x "$program" ]; then
-    echo "$program is not there: run make first"
-    echo '0 passed, 1 failed'
-    exit 1
-fi
-
 temporary=$(mktemp -d)
 trap 'rm -rf "$temporary"' EXIT
 chmod 755 "$temporary"
@@ -31,7 +22,7 @@ chmod 755 "$temporary"
 . "$top/tests/lib.sh"
 
 # The longest parts come first.
-[ $# -gt 0 ] || set -- scripts comparison layers limits sizes cuts memory \
+[ $# -gt 0 ] || set -- scripts comparison definitions layers limits sizes cuts memory \
     conversations compiler streams cases machine lsp editor users example documents
 if [ $# -gt 1 ]; then
     printf '%s\n' "$@" | xargs -P "$(nproc)" -I PART sh -c '"$0" "$1" >"$2/$1" 2>&1' "$0" PART "$temporary"
@@ -43,30 +34,22 @@ if [ $# -gt 1 ]; then
     exit
 fi
 
-cp "$program" "$temporary/ctangle"
-chmod 755 "$temporary/ctangle"
+for file in parts example cases machine limits memory cuts; do
+    . "$top/tests/$file.sh"
+done
 
-. "$top/tests/documents.sh"
-. "$top/tests/users.sh"
-. "$top/tests/editor.sh"
-. "$top/tests/lsp.sh"
-. "$top/tests/example.sh"
-. "$top/tests/cases.sh"
-. "$top/tests/compiler.sh"
-. "$top/tests/conversations.sh"
-. "$top/tests/machine.sh"
-. "$top/tests/streams.sh"
-. "$top/tests/limits.sh"
-. "$top/tests/sizes.sh"
-. "$top/tests/memory.sh"
-. "$top/tests/comparison.sh"
-. "$top/tests/layers.sh"
-
+is_known=
+! run_part_in_python "$1" || is_known=yes
 if type "test_$1" >/dev/null 2>&1; then
-    "test_$1"
-else
-    fail "$1" 'there is no such part'
+    is_known=yes
+    if find_ctangle "$1"; then
+        # a copy that another user can run, too
+        cp "$ctangle" "$temporary/ctangle"
+        chmod 755 "$temporary/ctangle"
+        "test_$1"
+    fi
 fi
+[ "$is_known" ] || fail "$1" 'there is no such part'
 
 echo "$passed passed, $failed failed"
 [ "$failed" -eq 0 ]

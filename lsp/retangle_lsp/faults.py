@@ -1,8 +1,10 @@
 """The faults of a web as few diagnostics: all faults of a name are one, and so is what follows from
 a name that is misspelt or not finished."""
 import bisect
+import collections
 import functools
 
+from . import unended
 from .kinds import kind_of
 from .marks import Marker
 from .names import alike, between
@@ -13,6 +15,8 @@ from .scanning import MENTION, USE, is_abbreviation, plain_name
 ALIKE = .6              # names that are so alike may be one name that is misspelt
 MUCH_ALIKE = .8         # and if one of them may have other text in it
 MOST_RELATED = 50       # places that a diagnostic leads to
+MOST_IN_ALL = 2000      # places that all diagnostics lead to, where each leads to a few
+LEAST_RELATED = 3
 MOST_NAMES = 5          # names that a message lists
 MOST_SUSPECTS = 20      # names that are causes of other faults; each is compared with all of these
 MOST_SOUGHT = 50        # faults for which the nearest names are sought, which takes its time
@@ -23,7 +27,7 @@ class Group:
 
     def __init__(self, name):
         self.name = name                # the section name that they are about, or None
-        self.members = []               # fault, kind, and the places between which it is marked
+        self.members = []               # fault, kind, and where it is marked, or None
         self.kinds = set()              # the names of their kinds
         self.count = 0                  # how often the name is written
         self.rank = None                # see Folding.rank
@@ -31,14 +35,17 @@ class Group:
         self.text = ''                  # the message
         self.is_typed = False           # whether its name is being typed now
         self.more = []                  # places without a fault where the name is written, too
+        self.most = MOST_RELATED        # places that this leads to
+        self.cause = None               # the text that does not end, of which this is a fault
 
-    def add(self, members):
-        self.members += members
-        self.kinds.update(kind.name for _, kind, _ in members)
+    def add(self, fault, kind, places):
+        self.members.append((fault, kind, places))
+        self.kinds.add(kind.name)
 
     def take(self, group):
         """Takes over the faults of another group."""
-        self.add(group.members)
+        self.members += group.members
+        self.kinds |= group.kinds
         group.members, group.kinds = [], set()
 
     @property
@@ -65,17 +72,20 @@ class Group:
 
     def lines(self):
         """The lines of retangle that are shown by this."""
-        return [shown(fault_line(fault)) for fault, _, _ in self.members]
+        return [shown_line(fault) for fault, _, _ in self.members]
 
     def related(self):
         """The places that this leads to, each with a text."""
-        found = {}
-        for fault, _, places in self.members[1:]:
-            if places != self.places:
-                found.setdefault((places, fault.text), shown(fault.text))
-        first = shown(self.members[0][0].text)
-        return ([(places, text) for (places, _), text in found.items()]
-                + [(places, first) for places in self.more if places != self.places])[:MOST_RELATED]
+        first = self.members[0][0].text
+        found = [(places, fault.text) for fault, _, places in self.members[1:]]
+        found += [(places, first) for places in self.more]
+        found = dict.fromkeys(one for one in found if one[0] not in (None, self.places))
+        return [(places, shown(text)) for places, text in list(found)[:self.most]]
+
+
+@functools.lru_cache(1 << 16)
+def shown_line(fault):
+    return shown(fault_line(fault))
 
 
 class Folding:
@@ -90,14 +100,20 @@ class Folding:
         self.unended = {}               # what is known of names without an end
 
     def fold(self, faults):
-        marker = Marker(self.names, self.line_of)
-        for fault in faults:
-            kind = kind_of(fault.text)
-            places = marker.mark(fault, kind, self.web)
-            self.group_of(kind, places).add([(fault, kind, places)])
+        marker, counts = Marker(self.names, self.line_of), collections.Counter()
+        kinds = [kind_of(fault.text) for fault in faults]
+        most = max(LEAST_RELATED, min(MOST_RELATED, MOST_IN_ALL // max(1, len(set(kinds)))))
+        for fault, kind in zip(faults, kinds):
+            counts[kind] += 1
+            is_marked = kind.subject is None or counts[kind] <= most + 1
+            places = marker.mark(fault, kind, self.web) if is_marked else None
+            self.group_of(kind, places).add(fault, kind, places)
+        unended.fold(self.groups, self.by_name, self.names, marker)
         self.groups = [group for group in self.groups if group.members]
         if self.by_name:
             self.fold_consequences()
+        for group in self.groups:
+            group.most = most
         name = self.typed and self.typed.occurrence.text
         for group in sorted(self.groups, key=lambda one: one.name != name)[:MOST_SOUGHT]:
             self.propose(group)
@@ -247,12 +263,12 @@ class Folding:
             group.proposals = list(dict.fromkeys(
                 kind.subject for _, kind, _ in group.members if kind.name == 'undefined'))
         if code == 'undefined':
-            uses = self.names.written(name, {USE})[:MOST_RELATED]
+            uses = self.names.written(name, {USE})[:group.most + 1]
             group.more = [self.names.places(one) for one in uses]
 
     def message(self, group):
         """The message of retangle for the first fault, and what helps."""
-        text, names = shown(group.members[0][0].text), group.proposals
+        text, names = shown(group.members[0][0].text) + unended.where(group), group.proposals
         listed = ', '.join('<%s>' % shown(one) for one in names[:MOST_NAMES])
         if len(names) > MOST_NAMES:
             listed += ' and %d more' % (len(names) - MOST_NAMES)

@@ -6,6 +6,8 @@ import re
 import stat
 
 FILE_BYTES = 67108864           # the limit of retangle
+AT_ONCE = 1 << 20               # bytes that are read at a time
+NO_TEXT = 'it is no file with a text'
 
 
 class Unreadable(Exception):
@@ -126,9 +128,10 @@ def read_text(name, path, known=None):
         if stat.S_ISDIR(status.st_mode):
             raise Unreadable(name, 'it is a folder')
         if not stat.S_ISREG(status.st_mode):
-            raise Unreadable(name, 'it is no file with a text')
-        with open(path, 'rb') as file:
-            text = file.read(FILE_BYTES + 1)
+            raise Unreadable(name, NO_TEXT)
+        text = bytes_of(path)
+    except BlockingIOError:
+        raise Unreadable(name, NO_TEXT) from None
     except (FileNotFoundError, NotADirectoryError):
         raise Unreadable(name, 'there is no such file', True) from None
     except PermissionError:
@@ -140,12 +143,30 @@ def read_text(name, path, known=None):
     return text_of(lines_of(text), stamp)
 
 
+def bytes_of(path):
+    """The bytes of a file, and at most one more than a file may have. BlockingIOError where they
+    would be waited for, as some in /proc."""
+    descriptor, found = os.open(path, os.O_RDONLY | os.O_NONBLOCK | os.O_CLOEXEC), []
+    try:
+        while sum(map(len, found)) <= FILE_BYTES:
+            some = os.read(descriptor, AT_ONCE)
+            if not some:
+                break
+            found.append(some)
+    finally:
+        os.close(descriptor)
+    return b''.join(found)
+
+
 def path_in(folder, name):
     """Where a file of this name is. Two names of it have one path."""
     if not name or b'\0' in name or b'\n' in name:
         shown = name.replace(b'\n', b' ') or b'the empty name'
         raise Unreadable(shown, 'no file has this name')
-    return os.path.realpath(os.path.join(folder, name))
+    named = os.path.join(folder, name)
+    path = os.path.realpath(named)
+    # /dev/stdin and the like are links to what has no path
+    return path if os.path.lexists(path) or not os.path.exists(named) else os.path.normpath(named)
 
 
 def with_extension(name, extension):

@@ -1,5 +1,6 @@
 """What a fault of retangle is about (docs/faults.md), by its message."""
 import collections
+import functools
 import re
 
 Kind = collections.namedtuple('Kind', 'name subject')
@@ -14,6 +15,7 @@ ABOUT_NAMES = (
     ('contains-itself', rb'contains itself: <(.*)>'),
     ('too-large', rb'too large: <(.*)>'),
     ('file-clash', rb"file name is the main file's: <(.*)>"),
+    ('file-twice', rb'file has another name: <(.*)>'),
 )
 OTHERS = {
     b'@y or @z out of place': 'stray-mark',
@@ -31,6 +33,7 @@ OTHERS = {
     b'@h in a macro': 'misplaced-h',
     b'macro must start with an identifier': 'macro-name',
     b'control text did not end': 'control-text',
+    b'raw string': 'raw-string',
     b'single @ in quoted text': 'string-at',
     b'quoted text did not end': 'string-end',
     b'verbatim text did not end': 'verbatim-end',
@@ -47,6 +50,7 @@ MISMATCH = b'old lines that do not match: '
 NAMED = [(name, re.compile(pattern, re.S)) for name, pattern in ABOUT_NAMES]
 
 
+@functools.lru_cache(1 << 14)
 def kind_of(message):
     """The kind of a fault with this message; 'other' for one that is not known here."""
     if message in OTHERS:

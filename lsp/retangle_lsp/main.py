@@ -5,8 +5,10 @@ import os
 import shutil
 import sys
 
+from .pipes import end_all
 from .protocol import Messages
 from .server import Server
+from .signals import signals
 
 VERSION = '1.0'
 # What a change makes is soon dropped, and is in no cycle: the collector would look at a whole web
@@ -26,6 +28,15 @@ def find_retangle(program):
     return found[0] if found else None
 
 
+def open_streams():
+    """What is opened later must not get the number of a standard stream that is closed."""
+    for number in range(3):
+        try:
+            os.fstat(number)
+        except OSError:
+            os.open(os.devnull, os.O_RDWR)
+
+
 def main(program):
     parser = argparse.ArgumentParser(
         prog=os.path.basename(program),
@@ -37,13 +48,17 @@ def main(program):
     parser.add_argument('--version', action='version', version='%(prog)s ' + VERSION)
     arguments = parser.parse_args()
     gc.set_threshold(OBJECTS)
+    open_streams()
+    signals.take()
     named = arguments.retangle or os.environ.get('RETANGLE')
-    server = Server(Messages(sys.stdin.fileno(), sys.stdout.buffer),
+    server = Server(Messages(0, open(1, 'wb', closefd=False)),
                     lambda: named or find_retangle(program), VERSION)
     try:
         return server.serve()
     except BrokenPipeError:             # the client has ended
-        os.dup2(os.open(os.devnull, os.O_WRONLY), sys.stdout.fileno())
+        os.dup2(os.open(os.devnull, os.O_WRONLY), 1)
         return 1
     finally:
+        signals.ignore()
         server.end()
+        end_all()

@@ -1,12 +1,14 @@
 """Where a fault is marked: on its name or its code, and only else on the text of its line."""
+import bisect
 import collections
 import re
 
 from .files import INCLUSION
-from .names import Place
+from .names import Found, Place
 from .scanning import USE, Scan
 
 CLOSED = re.compile(rb'"(?:[^"\\]|\\.)*"|\'(?:[^\'\\]|\\.)*\'|/\*.*\*/|@[=^.:tTqQ].*@>', re.S)
+RAW_PREFIX = re.compile(rb'(?:^|[^A-Za-z0-9_$\x80-\xff])(?:L|u8?|U)?R$')
 CONTROL = re.compile(rb'@[\^.:tTqQ]')
 CODES_IN_TEXT = re.compile(rb'^@=|@@|@>$')
 
@@ -32,6 +34,7 @@ TOKENS = {
     'macro-name': (lambda token: token.lower() == b'@d', False),
     'control-text': (lambda token: CONTROL.match(token) and not CLOSED.fullmatch(token), True),
     'string-at': (lambda token: is_text(token) and b'@' in CODES_IN_TEXT.sub(b'', token), False),
+    'raw-string': (lambda token: token.startswith(b'"'), False),
     'string-end': (lambda token: is_quoted(token) and not CLOSED.fullmatch(token), True),
     'verbatim-end': (lambda token: token.startswith(b'@=') and not CLOSED.fullmatch(token), True),
     'ascii-bad': (lambda token: token.startswith(b"@'"), False),
@@ -55,7 +58,7 @@ class Marker:
         self.names, self.line_of = names, line_of
         self.marked = set()
         self.ahead = {}                 # what faults in a row may be on, in its order
-        self.found = set()              # the abbreviations that are in this
+        self.spans = {}                 # where a piece of C is, by the places that it has
         self.tables, self.tokens = {}, {}
 
     def mark(self, fault, kind, web):
@@ -79,7 +82,9 @@ class Marker:
             found = self.unmarked(kind.name, file, row)
             if found:
                 self.marked.add(found)
-                return self.token_places(*found[1:])
+                places = self.token_places(*found[1:])
+                self.spans[places] = found[1:]
+                return places
         return self.between(file, row, len(line) - len(line.lstrip()), len(line))
 
     @staticmethod
@@ -127,11 +132,21 @@ class Marker:
             roles = {USE} if kind.name == 'undefined' else None
             return next((one for one in self.names.written(kind.subject, roles)
                          if (file, row) in self.rows_of(one)), None)
-        if kind.subject not in self.found:
-            self.found.add(kind.subject)
-            rows = by_row((one, self.rows_of(one)) for one in self.names.found_as(kind.subject))
-            self.ahead.update(((kind.subject, *row), these) for row, these in rows.items())
-        return self.unmarked(kind.subject, file, row)
+        return next((one for one in self.written_at(kind.subject, file, row)
+                     if one not in self.marked), None)
+
+    def written_at(self, text, file, row):
+        """The occurrences of exactly this text that begin or end in a row, in their order."""
+        for number, first in self.names.at([file], row):
+            these = self.names.ordered[number].by_text.get(text, [])
+            rows = self.names.chunks[number].rows
+            start, end = rows[first], rows[first + 1]
+            at = bisect.bisect_left(these, (start,))
+            if at and start <= min(these[at - 1].end, rows[-1] - 1) < end:
+                yield Found(number, these[at - 1])
+            while at < len(these) and these[at].start < end:
+                yield Found(number, these[at])
+                at += 1
 
     def rows_of(self, found):
         """The rows in which an occurrence begins and ends."""
@@ -151,14 +166,19 @@ class Marker:
 
     # ------------------------------------------------------------------ codes
 
+    def tokens_in(self, number):
+        """Where all pieces of C are in a chunk."""
+        if number not in self.tokens:
+            self.tokens[number] = []
+            Scan(self.names.chunks[number].text, number == 0, self.tokens[number])
+        return self.tokens[number]
+
     def tokens_of(self, kind, number):
         """The pieces of C of a kind in a chunk, and where they stop, or begin."""
         text, (is_kind, at_end) = self.names.chunks[number].text, TOKENS[kind]
-        if number not in self.tokens:
-            self.tokens[number] = []
-            Scan(text, number == 0, self.tokens[number])
-        for start, end in self.tokens[number]:
-            if is_kind(text[start:end]):
+        for start, end in self.tokens_in(number):
+            is_raw = RAW_PREFIX.search(text[max(start - 4, 0):start])
+            if is_kind(text[start:end]) and (is_raw or kind != 'raw-string'):
                 rows = {self.names.place(number, end if at_end else start)[:2]}
                 yield (kind, number, start, end), rows | (
                     {AT_END} if at_end and end == len(text) else set())

@@ -8,7 +8,7 @@ import operator
 import re
 
 from .files import common_back, common_front
-from .scanning import DEFINITION, NAME, USE, Scan, is_abbreviation, is_unended, plain_name
+from .scanning import NAME, USE, Scan, is_abbreviation, is_unended, plain_name
 from .source import chunks_of
 
 Place = collections.namedtuple('Place', 'file row column')

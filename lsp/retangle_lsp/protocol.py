@@ -1,14 +1,18 @@
 """Messages of the language server protocol, over two streams of bytes, and their parameters."""
+import contextlib
 import json
+import math
 import os
 import re
 import select
+import threading
+import traceback
 
 LONGEST_MESSAGE = 1 << 28       # bytes
 AT_ONCE = 1 << 20               # bytes that are read at a time
 
 PARSE_ERROR, INVALID_REQUEST, NO_METHOD, INVALID_PARAMS = -32700, -32600, -32601, -32602
-INTERNAL, NOT_INITIALIZED, REQUEST_FAILED = -32603, -32002, -32803
+INTERNAL, NOT_INITIALIZED, REQUEST_FAILED, CANCELLED = -32603, -32002, -32803, -32800
 ERROR, WARNING, INFORMATION = 1, 2, 3           # of a diagnostic and of a message alike
 
 
@@ -44,6 +48,9 @@ WHOLE_HEADER = re.compile(rb'(?:[^\r\n]+\r?\n)*?Content-Length[ \t]*:[ \t]*(\d{1
                           rb'(?:[^\r\n]+\r?\n)*?\r?\n', re.I)
 
 
+CANCEL = '$/cancelRequest'
+
+
 class Input:
     """What a descriptor gives. Whether there is more can be asked without waiting for it."""
 
@@ -56,9 +63,10 @@ class Input:
             raise EOFError
         self.buffer += some
 
-    def has_more(self, seconds):
-        """Whether something can be read within these seconds; None is for ever."""
-        return bool(select.select([self.descriptor], [], [], seconds)[0])
+    def has_more(self, seconds, others=()):
+        """Whether something can be read within these seconds; None is for ever. It is not waited
+        for any longer if there is something at another descriptor."""
+        return self.descriptor in select.select([self.descriptor, *others], [], [], seconds)[0]
 
     def line(self):
         at = 0
@@ -85,10 +93,12 @@ class Messages:
 
     def __init__(self, descriptor, sink):
         self.input, self.sink = Input(descriptor), sink
+        self.writing = threading.Lock()         # progress is shown by a thread of its own
 
-    def wait(self, seconds):
-        """Whether there is something to read within these seconds."""
-        return bool(self.input.buffer) or self.input.has_more(seconds)
+    def wait(self, seconds, others):
+        """Whether there is something to read within these seconds, or until something is at another
+        descriptor."""
+        return bool(self.input.buffer) or self.input.has_more(seconds, others)
 
     def is_ready(self):
         """Whether a whole message is there, so that what it asks can be done with what was asked
@@ -98,14 +108,37 @@ class Messages:
                 self.input.fill()
         except EOFError:
             return True
-        head = WHOLE_HEADER.match(self.input.buffer)
-        return bool(head) and len(self.input.buffer) - head.end() >= int(head[1])
+        return next(self.bodies(), None) is not None
+
+    def bodies(self):
+        """The bodies of the whole messages that are there and are not read yet."""
+        at = 0
+        while True:
+            head = WHOLE_HEADER.match(self.input.buffer, at)
+            if not head or len(self.input.buffer) - head.end() < int(head[1]):
+                return
+            at = head.end() + int(head[1])
+            yield head.end(), at
+
+    def is_cancelled(self, number):
+        """Whether a message that is there cancels the request of this number."""
+        self.is_ready()
+        for start, end in self.bodies():
+            if self.input.buffer.find(CANCEL.encode(), start, end) >= 0:
+                try:
+                    message = json.loads(decoded(self.input.buffer[start:end]))
+                except (ValueError, RecursionError):
+                    continue
+                if part_or_none(message, 'method') == CANCEL and (
+                        part_or_none(message, 'params', 'id') == number):
+                    return True
+        return False
 
     def read(self):
         """The next message. EOFError at the end of the input."""
         body = self.input.bytes(self.length())
         try:
-            return json.loads(decoded(body), parse_constant=self.refuse)
+            return json.loads(decoded(body), parse_constant=self.refuse, parse_float=finite)
         except (ValueError, RecursionError) as error:
             raise Problem(PARSE_ERROR, 'no JSON: %s' % error) from None
 
@@ -134,8 +167,9 @@ class Messages:
 
     def write(self, **message):
         body = json.dumps(dict(message, jsonrpc='2.0'), separators=(',', ':')).encode()
-        self.sink.write(b'Content-Length: %d\r\n\r\n%s' % (len(body), body))
-        self.sink.flush()
+        with self.writing:
+            self.sink.write(b'Content-Length: %d\r\n\r\n%s' % (len(body), body))
+            self.sink.flush()
 
     def show(self, kind, text, method='window/showMessage'):
         """Has the client show a line to its user, or by another method write it into its log."""
@@ -144,10 +178,24 @@ class Messages:
     def log(self, text):
         self.show(ERROR, text, 'window/logMessage')
 
+    def log_fault(self, what, error):
+        """Logs a fault of this program, also on standard error if that can be written."""
+        with contextlib.suppress(OSError):
+            os.write(2, encoded(traceback.format_exc()))
+        self.log('%s: %r' % (what, error))
+
     def fail(self, number, problem):
         """Answers a request by an error."""
         error = {'code': problem.code, 'message': shown(encoded(problem.text))}
         self.write(id=number, error=error)
+
+
+def finite(text):
+    """The number that JSON has here. One that is too large for a float has no JSON."""
+    number = float(text)
+    if math.isinf(number):
+        raise ValueError('%s is no number' % text)
+    return number
 
 
 def is_number(number):
@@ -178,6 +226,12 @@ def part_or_none(value, *keys):
 def place_in(params, *keys):
     """The line and the character of a position."""
     return tuple(part(params, *keys, key, kind=int) for key in ('line', 'character'))
+
+
+def version_in(params):
+    """The version of a document, or None."""
+    version = part_or_none(params, 'textDocument', 'version')
+    return version if isinstance(version, int) and not isinstance(version, bool) else None
 
 
 def change_in(change):

@@ -3,14 +3,16 @@ import collections
 import os
 import re
 
-from .documents import column_of
+from .changefiles import lines_of_change_file
+from .documents import column_of, position
 from .protocol import decoded, shown
 from .scanning import DEFINITION, MENTION, USE, plain_name, written_name
+from .source import changes_of
 
 MOST_C = 40             # lines of C that are shown of a section
 MOST_SYMBOLS = 1000     # of a workspace
 MOST_ITEMS = 200        # of a completion
-MODULE, NAMESPACE, REFERENCE = 2, 3, 18         # kinds of symbols, and of items to complete
+MODULE, NAMESPACE, REFERENCE, CHANGE = 2, 3, 18, 24     # kinds of symbols, and of items
 READ, WRITE = 2, 3                              # kinds of highlights
 
 OPEN_NAME = re.compile(rb'@[<(](?=((?:[^@]|@@)*)$)')
@@ -155,20 +157,32 @@ def sections_of(web, path):
 
 
 def document_symbols(workspace, path, uri, is_hierarchical):
-    made = []
+    made = [*changes_shown(workspace, path)]
     for web in workspace.webs_of(path)[:1]:
         for title, is_starred, first, last in sections_of(web, path):
             whole, line = (web.range(first._replace(column=0) if first != one else first,
                                      one._replace(column=len(web.line(one.file, one.row))))
                            for one in (last, first))
             whole['start'] = line['start']
-            symbol = {'name': title, 'kind': MODULE if is_starred else NAMESPACE}
-            if is_hierarchical:
-                symbol.update(range=whole, selectionRange=line)
-            else:
-                symbol.update(location={'uri': uri, 'range': whole})
-            made.append(symbol)
-    return made
+            made.append({'name': title, 'kind': MODULE if is_starred else NAMESPACE,
+                         'range': whole, 'selectionRange': line})
+    if is_hierarchical:
+        return made
+    return [{'name': one['name'], 'kind': one['kind'],
+             'location': {'uri': uri, 'range': one['range']}} for one in made]
+
+
+def changes_shown(workspace, path):
+    """The changes of a change file, each by its first old line."""
+    lines = lines_of_change_file(workspace, path) or []
+    for change in changes_of(lines):
+        last = min(change.end, len(lines) - 1)
+        whole, first = (
+            {'start': position(lines[start], start + 1, 0),
+             'end': position(lines[end], end + 1, len(lines[end]))}
+            for start, end in ((change.start, last), (change.row, change.row)))
+        yield {'name': shown(change.old[0].strip())[:80], 'kind': CHANGE,
+               'range': whole, 'selectionRange': first}
 
 
 def workspace_symbols(workspace, query):
@@ -189,8 +203,9 @@ def workspace_symbols(workspace, query):
 
 
 def folding_ranges(workspace, path):
-    """The lines of each section that has more than one."""
-    made = []
+    """The lines of each section, and of each change, that has more than one."""
+    made = [{'startLine': change.start, 'endLine': change.end}
+            for change in changes_of(lines_of_change_file(workspace, path) or [])]
     for web in workspace.webs_of(path)[:1]:
         made += [{'startLine': first.row, 'endLine': last.row}
                  for _, _, first, last in sections_of(web, path) if last.row > first.row]

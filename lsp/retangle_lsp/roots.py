@@ -2,11 +2,13 @@
 
 The root of a file is the nearest folder upwards with a `.retangle`, a Makefile or a repository,
 else its own folder. Each .w of the root that no other web includes is a web. A line of `.retangle`
-names a web, its change file and its main output, as the words of retangle do.
+names a web, its change file and its main output, as the words of retangle do. Names of files are
+names in the root, or else in the folder of the web, where more of the included files are there.
 """
 import collections
 import os
 
+from .changefiles import EXTENSION, Pairs
 from .files import Unreadable, path_in, read_text, with_extension
 
 SETTINGS = b'.retangle'
@@ -61,7 +63,9 @@ class Root:
     def __init__(self, folder, buffers):
         self.folder, self.buffers = folder, buffers
         self.readings = {}              # path: text
+        self.pairs = Pairs(folder, self.text)
         self.wrong = []                 # what is wrong in the settings, each a line and a text
+        self.roots = {folder: self}     # this one, and the folders of webs that are used instead
 
     def text(self, name):
         """The text of a file as it is open, else as it is on the disk; None where there is none."""
@@ -99,6 +103,31 @@ class Root:
                 found.append(roles._replace(change=None) if missing else roles)
         return found
 
+    def root(self, folder):
+        if folder not in self.roots:
+            self.roots[folder] = Root(folder, self.buffers)
+        return self.roots[folder]
+
+    def key(self, roles):
+        """The folder that is used for a web, and its roles there: its own folder, where more of
+        the files that it includes are there than in the root."""
+        folder = os.path.normpath(os.path.dirname(os.path.join(self.folder, roles.web)))
+        if folder == os.path.normpath(self.folder):
+            return self.folder, roles
+        web, change = (name and os.path.relpath(os.path.join(self.folder, name), folder)
+                       for name in roles[:2])
+        there = Roles(web, change, roles.out)
+        found, missing = self.counts(roles)
+        if not missing or found >= self.root(folder).counts(there)[0]:
+            return self.folder, roles
+        return folder, there
+
+    def counts(self, roles):
+        """How many files of a web are there, and how many are missing."""
+        paths = self.members(roles)
+        found = sum(path in self.buffers or path in self.readings for path in paths)
+        return found, len(paths) - found
+
     def members(self, roles):
         """The paths of the files of a web: those of its roles, and all that they may include."""
         found, names = {}, [roles.web] + [roles.change] * (roles.change is not None)
@@ -113,26 +142,38 @@ class Root:
             names += [included for _, included in text.inclusions] if text else []
         return set(found.values())
 
+    def of_one_name(self, others):
+        """The .w files of the root that are none of these others, each by one name: a link to
+        another is the same web."""
+        paths = {path_in(self.folder, name): None for name in others}
+        names = webs_below(self.folder)
+        for name in sorted(names, key=lambda one: os.path.islink(os.path.join(self.folder, one))):
+            paths.setdefault(path_in(self.folder, name), name)
+        found = set(paths.values())
+        return [name for name in names if name in found]
+
     def webs(self, opened):
-        """The webs of the root, each with the paths of its files. `opened` has the paths of open
-        files: the change files among them, which no line of the settings names, are those of the
-        webs that have their names."""
+        """The webs of the root, each as its folder and its roles there, with the paths of its
+        files. `opened` has the paths of its open files: the change files among them, which no line
+        of the settings names, are those of the webs that have their names or their old lines."""
         named = self.settings()
-        have_lines = {roles.web for roles in named}
-        own = [Roles(name, None, None) for name in webs_below(self.folder)
-               if name not in have_lines]
-        members = {roles: self.members(roles) for roles in named + own}
-        included = [(roles, path) for roles, paths in members.items() for path in paths]
-        for roles in own:
-            path = path_in(self.folder, roles.web)
-            if any(path == other and one != roles and path_in(self.folder, one.web) != path
-                   for one, other in included):
-                members.pop(roles)
+        have_lines = [roles.web for roles in named]
+        own = [self.key(Roles(name, None, None)) for name in self.of_one_name(have_lines)]
+        members = {(folder, roles): self.root(folder).members(roles)
+                   for folder, roles in [(self.folder, roles) for roles in named] + own}
+        included = [(path_in(folder, roles.web), path)
+                    for (folder, roles), paths in members.items() for path in paths]
+        for folder, roles in own:
+            path = path_in(folder, roles.web)
+            if any(path == other and path != web for web, other in included):
+                members.pop((folder, roles))
         changes = {path_in(self.folder, roles.change) for roles in named if roles.change}
+        names = [os.path.join(folder, roles.web) for folder, roles in members]
         for path in opened:
-            web = path[:-3] + b'.w'
-            if path.endswith(b'.ch') and path not in changes and os.path.isfile(web):
-                roles = Roles(os.path.relpath(web, self.folder), os.path.relpath(path, self.folder),
-                              None)
-                members[roles] = self.members(roles)
+            is_named = not path.endswith(EXTENSION) or path in changes
+            web = None if is_named else self.pairs.web_of(path, names)
+            if web:
+                folder, roles = self.key(Roles(os.path.relpath(web, self.folder),
+                                               os.path.relpath(path, self.folder), None))
+                members[folder, roles] = self.root(folder).members(roles)
         return members

@@ -1,14 +1,17 @@
 """One run of retangle, and how it may end or refuse."""
 import collections
-import contextlib
+import functools
 import os
 import re
 import subprocess
-import tempfile
+
+from .gathering import gather
+from .pipes import PATIENCE, Pipes, Silent
+from .signals import signals
 
 SCRIPT_BYTES = 67108864                 # the limit of retangle
 LIST_BYTES = SCRIPT_BYTES - 1000000     # a list of this length has room in a script that begins
-AT_ONCE = 1000          # requests that are sent before their answers are read: those fit in a pipe
+AT_ONCE = 5000          # requests that are sent before their answers are read: those fit in a pipe
 
 
 class Refused(Exception):
@@ -54,6 +57,23 @@ class Ended(Exception):
         return 'retangle ended %s%s' % (how, self.reason and ' (%s)' % self.reason)
 
 
+class Unanswered(Ended):
+    """retangle was ended, since it gave no answer and made no progress."""
+
+    def __str__(self):
+        return 'retangle was ended: it did not answer within %d seconds' % PATIENCE
+
+
+class NotStarted(Ended):
+    """retangle was not started on a web, since it cannot read it."""
+
+    def __init__(self, reason):
+        Ended.__init__(self, 3, reason)
+
+    def __str__(self):
+        return self.reason
+
+
 Fault = collections.namedtuple('Fault', 'file line severity text')
 Fault.__doc__ = """A fault. file and line are None where it belongs to no line; severity is 'error'
 or 'warning'; file and text are bytes."""
@@ -62,6 +82,7 @@ or 'warning'; file and text are bytes."""
 FAULT = re.compile(rb'(?:(.*?):(\d+): )?(error|warning): (.*)')
 
 
+@functools.lru_cache(1 << 16)
 def fault_of(line):
     file, number, severity, text = FAULT.fullmatch(line).groups()
     return Fault(file, number and int(number), severity.decode(), text)
@@ -78,10 +99,14 @@ class Run:
 
     def __init__(self, arguments, folder):
         self.sent, self.is_over = 0, False
-        self.errors = tempfile.TemporaryFile()
         try:
-            self.process = subprocess.Popen(arguments, cwd=folder, stdin=subprocess.PIPE,
-                                            stdout=subprocess.PIPE, stderr=self.errors)
+            # in memory: there may be no room for a file
+            self.errors = open(os.memfd_create('errors'), 'r+b')
+            with signals.held():
+                self.process = subprocess.Popen(
+                    arguments, cwd=folder, stdin=subprocess.PIPE, stdout=subprocess.PIPE,
+                    stderr=self.errors, start_new_session=True)
+                self.pipes = Pipes(self.process)
         except (OSError, ValueError) as error:
             reason = getattr(error, 'strerror', error)
             raise Ended(127, 'it cannot be run: %s' % reason) from None
@@ -94,24 +119,31 @@ class Run:
     def send(self, text):
         self.sent += len(text)
         try:
-            self.process.stdin.write(text)
-            self.process.stdin.flush()
+            self.pipes.send(text)
         except BrokenPipeError:
             raise self.ended() from None
+        except Silent:
+            raise self.unanswered() from None
 
     def line(self):
         """The next line of an answer."""
-        line = self.process.stdout.readline()
+        line = self.received(self.pipes.line)
         if not line.endswith(b'\n'):
             raise self.ended()
         return line[:-1]
 
     def bytes(self, length):
         """The next `length` bytes of an answer."""
-        found = self.process.stdout.read(length)
+        found = self.received(self.pipes.bytes, length)
         if len(found) < length:
             raise self.ended()
         return found
+
+    def received(self, read, *arguments):
+        try:
+            return read(*arguments)
+        except Silent:
+            raise self.unanswered() from None
 
     def ask(self, request):
         """The first line of the answer to a request."""
@@ -125,11 +157,19 @@ class Run:
         for at in range(0, len(requests), AT_ONCE):
             block = requests[at:at + AT_ONCE]
             self.send(b''.join(request + b'\n' for request in block))
-            answers += [self.line() for _ in block]
+            answers += self.lines(len(block))
         return answers
 
+    def lines(self, count):
+        """The next lines, which may be many."""
+        found = []
+        for at in range(0, count, AT_ONCE):
+            gather(self.process)
+            found += [self.line() for _ in range(min(AT_ONCE, count - at))]
+        return found
+
     def fault_lines(self):
-        return [self.line() for _ in range(int(self.ask(b'faults').split(b' ')[1]))]
+        return self.lines(int(self.ask(b'faults').split(b' ')[1]))
 
     def output(self, name):
         answer = self.ask(b'show ' + name)
@@ -138,10 +178,19 @@ class Run:
     def close(self):
         """Ends the run. The exit status."""
         self.is_over = True
-        with contextlib.suppress(BrokenPipeError):
-            self.process.stdin.close()
-        self.process.stdout.close()
-        return self.process.wait()
+        self.pipes.close()
+        return self.process.returncode
+
+    def kill(self):
+        """Ends the run without waiting for it."""
+        self.is_over = True
+        self.pipes.kill()
+        self.pipes.close()
+
+    def unanswered(self):
+        """The exception of a run that is ended, since it does not answer."""
+        self.kill()
+        return Unanswered(self.process.returncode, '')
 
     def ended(self):
         """The exception that says how the run ended."""

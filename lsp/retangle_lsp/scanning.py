@@ -24,6 +24,9 @@ BLANK = rb'''[ \t\r\v\f]
     | /\*(?:[^*@\n]|\*(?!/)|@[^* \t\r\v\f\n])*\*/
     | @[\^.:tTqQ](?:[^@\n]|@@)*@>
     | @[^@<(^.:tTqQ=&hH'dDfFsScCpP* \t\r\v\f\n]'''
+# A number with separators, which begin no quoted text; W is a byte of a word.
+SEPARATED = rb"[0-9]W*(?:'W+)+".replace(b'W', rb'[A-Za-z0-9_$\x80-\xff]')
+AT_FRONT = re.compile(rb'(?:' + SEPARATED + rb')?')
 BLANK_OVER_LINES = BLANK.replace(rb'[^*@\n]', rb'[^*@]').replace(rb'[^@\n]', rb'[^@]')
 HEAD = re.compile(rb'(?:' + BLANK + rb')*(?:\+(?:' + BLANK + rb')*)?==?', re.S | re.X)
 # The same with the codes that would end a macro.
@@ -32,12 +35,13 @@ BEGINNING = re.compile(rb'(?:@[dfscp]|' + BLANK + rb')*', re.S | re.X | re.I)
 
 def pattern_of_c(blank):
     """All that is no single byte in C, where this is white space between #, include and a header.
-    Each alternative begins with a byte of its own, so that the search passes over all others fast."""
+    Each alternative begins with a byte of its own, so that the search passes over others fast."""
     return re.compile(rb'''
     /(?:\*(?:[^*@]+|\*(?!/)|@[^* \t\r\v\f\n])*(?:\*/)?         # comments
       | /(?:[^@\n]+|@[^* \t\r\v\f\n])*)
     | "(?:[^"\\\n]+|\\[^@]|\\)*"?                             # quoted texts
     | '(?:[^'\\\n]+|\\[^@]|\\)*'?
+    | (?<![A-Za-z0-9_$\x80-\xff])''' + SEPARATED + rb'''
     | \#(?:''' + blank + rb''')*include(?:''' + blank + rb''')*<[^>\n]*
     | @(?:'(?:(?:@@|\\[0-7]{1,3}|\\["'?\\abtnvfr]|[^\\'@\n])'|[^'\n]*'?)
         | =(?:[^@\n]+|@@|@(?![@>]))*(?:@>)?                   # verbatim texts
@@ -124,7 +128,7 @@ class Scan:
         """Scans a C part or a macro: where it ends."""
         first, last, pattern = at, (at, at), MACRO_TEXT if is_macro else C_TEXT
         while True:
-            found = pattern.search(self.text, at)
+            found = pattern.search(self.text, AT_FRONT.match(self.text, at).end())
             if found is None:
                 return len(self.text)
             code, start, at = found[1], found.start(), found.end()

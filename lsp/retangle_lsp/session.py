@@ -5,7 +5,8 @@ from . import runs
 from .edits import edits
 from .files import Unreadable, path_in, read_text, text_of, with_extension
 from .origins import file_names, marked, origins
-from .runs import Ended, Full, Refused, Run, fault_of
+from .runs import Ended, Full, NotStarted, Refused, Run, Unanswered, fault_of
+from .standin import StandIn
 
 STARTS = 100            # so often retangle is started while its files change
 
@@ -34,6 +35,7 @@ class Retangle:
         # path: text, of the files that the editor has not saved; several webs may share them
         self.buffers = {} if buffers is None else buffers
         self.readings = {}      # path: text, of the files on the disk
+        self.unreadable = {}    # name: why, of the files that are there and cannot be read
         self.held = {}          # name: text, of the files as retangle has them
         self.refused = {}       # name: text, of the files that retangle did not take so
         self.reasons = {}       # name: why it did not
@@ -45,10 +47,12 @@ class Retangle:
     def start(self):
         """Starts retangle, and gives it what the editor has not saved."""
         self.forget()
-        self.run, texts = self.start_on(self.texts_on_disk())
-        self.held = {}
-        for name, text in texts.items():
-            self.held[name] = self.text_at_start(name, text)
+        texts = self.texts_on_disk()
+        if self.unreadable:
+            self.run, self.held = self.start_beside()
+        else:
+            self.run, texts = self.start_on(texts)
+            self.held = {name: self.text_at_start(name, text) for name, text in texts.items()}
         try:
             self.bring()
         except Refused as refused:
@@ -62,6 +66,8 @@ class Retangle:
             run, ended = Run(self.arguments, self.folder), None
             try:
                 run.fault_lines()
+            except Unanswered:
+                raise
             except Ended as error:
                 ended = error
             after = self.texts_on_disk()
@@ -72,6 +78,17 @@ class Retangle:
             run.close()
             before = after
         raise Ended(3, 'its files change all the time')
+
+    def start_beside(self):
+        """A run on files without lines, where retangle would end at an included file, or wait for
+        it: it gets the texts of the others by edits. And what it has then."""
+        for name in self.roles:
+            if name in self.unreadable:
+                raise NotStarted('%s: %s' % (os.fsdecode(name), self.unreadable[name]))
+        with StandIn(self.roles) as folder:
+            run = Run(self.arguments, folder)
+            run.fault_lines()
+        return run, {name: text_of([]) for name in self.roles}
 
     def texts_on_disk(self):
         self.readings = {}
@@ -125,7 +142,9 @@ class Retangle:
             path = self.path(name)
             if path not in buffers:
                 self.readings[path] = read_text(name, path, self.readings.get(path))
-        except Unreadable:
+        except Unreadable as unreadable:
+            if path is not None and not unreadable.is_missing:
+                self.unreadable[name] = unreadable.reason
             if name in self.roles:
                 return self.readings.get(path)
             self.readings.pop(path, None)
@@ -135,6 +154,7 @@ class Retangle:
     def texts(self, buffers):
         """The files of the web by name: those of the arguments, and what lines of them include."""
         found, names = {}, list(self.roles)
+        self.unreadable = {}
         while names:
             name = names.pop(0)
             if name not in found:
@@ -268,6 +288,10 @@ class Retangle:
     def close(self):
         """Ends the conversation. The exit status of retangle."""
         return self.run.close()
+
+    def kill(self):
+        """Ends it without waiting for retangle."""
+        self.run.kill()
 
     # ------------------------------------------------------------------ from C to web and back
 

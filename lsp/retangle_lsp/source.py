@@ -12,8 +12,9 @@ from .files import SECTION, text_between
 
 LINES_TAKEN, FILES_OPEN = 2000000, 10   # limits of reading, docs/programs.md
 
-Change = collections.namedtuple('Change', 'old new')
-Change.__doc__ = """The old lines, and the new ones as pairs of rows of the change file."""
+Change = collections.namedtuple('Change', 'old new start row end')
+Change.__doc__ = """The old lines, and the new ones as pairs of rows of the change file; the rows of
+the @x, of the first old line and of what ends the change."""
 
 Part = collections.namedtuple('Part', 'file lines start end')
 Part.__doc__ = """The lines of a file from one row up to another, which is not in it any more."""
@@ -55,12 +56,13 @@ class Chunk:
 def changes_of(lines):
     """The changes of a change file, in their order."""
     made, old, new = [], None, None     # None outside of a change, and outside of its new part
+    start = first = 0
     for row, line in enumerate(lines + [b'@z']):
         code = line[:2].lower()
         if code in (b'@x', b'@z'):
             if old and new is not None:
-                made.append(Change(old, new))
-            old, new = [] if code == b'@x' else None, None
+                made.append(Change(old, new, start, first, row))
+            old, new, start = [] if code == b'@x' else None, None, row
         elif code == b'@y':
             if old is not None and new is None:
                 new = []
@@ -70,6 +72,7 @@ def changes_of(lines):
             else:
                 new.append((row, row + 1))
         elif old is not None and (old or line.strip()):
+            first = first if old else row
             old.append(line)
     return made
 

@@ -1,15 +1,19 @@
 """A web of which a file is open: retangle over it, its names, and its faults."""
 import functools
+import os
 
 from .documents import position
 from .faults import Folding
 from .files import Unreadable, path_in
+from .kinds import MISSING_FILE
+from .merging import MORE
 from .names import Names
-from .protocol import ERROR, shown
-from .runs import Ended, Refused
+from .protocol import ERROR, WARNING, shown
+from .runs import Ended, Refused, Unanswered, fault_line
 from .session import Retangle
 
 SOURCE = 'retangle'
+MOST_FAULTS = 500       # that are shown at their places; thousands would take a second at each key
 
 
 class Web:
@@ -21,10 +25,13 @@ class Web:
         self.members = set()            # the paths of its files
         self.faults = []
         self.trouble = None             # why retangle did not answer last
+        self.unanswered = None          # what its files were when it gave no answer
         self.known = self.known_of = None
-        self.groups = []
+        self.groups, self.rest = [], []     # the faults that are shown, and those only counted
         self.typed_at = None            # where the name that is being typed begins
-        self.usual = self.before = set()        # the faults before it was typed, and the last ones
+        self.usual = set()              # the faults before it was typed
+        self.before = None              # those that were found last, if that was done
+        self.remarks = None             # what a compiler has said of the C
 
     # ------------------------------------------------------------------ retangle
 
@@ -40,7 +47,22 @@ class Web:
                                      buffers=self.root.buffers)
             self.trouble = None
         except Ended as ended:
-            self.stumble(str(ended))
+            self.stumble_at(ended)
+
+    def stumble_at(self, ended):
+        """Where retangle gave no answer, it is not started again before a file was written."""
+        self.stumble(str(ended))
+        if isinstance(ended, Unanswered):
+            self.unanswered = self.stamps()
+
+    def stamps(self):
+        """What tells whether a file of the web was written."""
+        return {path: stamp_of(path) for path in self.members}
+
+    def fail(self, error):
+        """A fault of the server itself, which must not make the web look faultless."""
+        self.faults, self.groups, self.rest = [], [], []
+        self.trouble = 'retangle-lsp failed: %r' % error
 
     def stumble(self, why):
         """Says why retangle does not answer, unless that was said."""
@@ -50,6 +72,8 @@ class Web:
 
     def asked(self, question):
         """The answer of retangle, or None where there is none; then the user is shown why."""
+        if self.is_silent():
+            return None
         try:
             answer = question()
             self.trouble = None
@@ -57,22 +81,21 @@ class Web:
         except (Refused, Unreadable):
             pass                        # a fault of its file, or one that was never saved
         except Ended as ended:
-            self.stumble(str(ended))
+            self.stumble_at(ended)
         finally:
             for notice in self.retangle.notices:
-                self.say(notice, again=True)
+                self.say('%s: %s' % (shown(self.roles.web), notice), again=True)
             self.retangle.notices = []
         return None
 
     def refresh(self):
         """Brings retangle to the files as they are now, and takes the faults that it finds."""
-        if self.retangle is None:
+        self.faults = []
+        if self.retangle is None and not self.is_silent():
             self.start()
-        if self.retangle is None:
-            self.faults = []
-            return
-        self.asked(self.retangle.refresh)
-        self.faults = self.asked(self.retangle.faults) or []
+        if self.retangle is not None:
+            self.asked(self.retangle.refresh)
+            self.faults = self.asked(self.retangle.faults) or []
 
     def refusals(self):
         """The files whose texts were not taken and are still the same, each with the reason."""
@@ -83,11 +106,18 @@ class Web:
     def is_over(self):
         """Whether retangle has ended, so that it has to be started again."""
         run = self.retangle and self.retangle.run
-        return bool(run) and (run.is_over or run.process.poll() is not None)
+        return bool(run) and (run.is_over or run.process.poll() is not None) and (
+            not self.is_silent())
+
+    def is_silent(self):
+        """Whether retangle gave no answer on the files as they are."""
+        if self.unanswered is not None and self.unanswered != self.stamps():
+            self.unanswered = None
+        return self.unanswered is not None
 
     def end(self):
         if self.retangle:
-            self.retangle.close()
+            self.retangle.kill()
         self.retangle = None
 
     # ------------------------------------------------------------------ files and names
@@ -130,23 +160,44 @@ class Web:
         found = self.typed_name(*typed) if typed and self.faults else None
         begins = found and (typed[0], self.names().places(found)[0])
         if begins is None or begins != self.typed_at:
-            self.usual = self.before if begins else now
+            self.usual = now if begins is None or self.before is None else self.before
         self.typed_at, self.before = begins, now
+        self.groups, self.rest = [], []
         if not self.faults:
-            self.groups = []
             return
+        faults = self.first_faults(*(typed or (None, None))[:2])
         folding = Folding(self.names(), self.roles_there(), self.line, found)
-        self.groups = folding.fold(self.faults)
+        self.groups = folding.fold(faults)
         for group in self.groups:
-            group.text = folding.message(group)
+            group.text = folding.message(group) + self.why_missing(group)
         if found:
-            self.groups = [group for group in self.groups
-                           if group.name == found.occurrence.text or self.is_usual(group)]
+            self.rest = [fault for fault in self.rest if self.is_usual(fault)]
+            self.groups = [group for group in self.groups if group.name == found.occurrence.text
+                           or any(self.is_usual(fault) for fault, _, _ in group.members)]
             for group in self.groups:
                 group.is_typed = group.name == found.occurrence.text
 
-    def is_usual(self, group):
-        return any((fault.severity, fault.text) in self.usual for fault, _, _ in group.members)
+    def first_faults(self, path, row):
+        """The faults that are shown at their places: the first ones, and those where one types. The
+        others are the rest."""
+        if len(self.faults) <= MOST_FAULTS:
+            return self.faults
+        files = self.files_at(path) if path else []
+        here = [fault for fault in self.faults[MOST_FAULTS:]
+                if fault.file in files and fault.line == row + 1][:MOST_FAULTS]
+        shown_here = set(map(id, here))
+        self.rest = [fault for fault in self.faults[MOST_FAULTS:] if id(fault) not in shown_here]
+        return self.faults[:MOST_FAULTS] + here
+
+    def why_missing(self, group):
+        """What is said of an included file that is there, but cannot be read."""
+        text = group.members[0][0].text
+        is_about = group.code == 'include-missing' and self.retangle is not None
+        why = is_about and self.retangle.unreadable.get(text[len(MISSING_FILE):])
+        return ' (%s)' % why if why else ''
+
+    def is_usual(self, fault):
+        return (fault.severity, fault.text) in self.usual
 
     def typed_name(self, path, row, column):
         """The name in which or after which something was typed."""
@@ -168,6 +219,14 @@ class Web:
                 'range': self.range((name, 0, 0), (name, 0, len(self.line(name, 0)))),
                 'severity': ERROR, 'source': SOURCE, 'code': 'not-taken', 'message': why,
                 'data': {'faults': ['%s:1: error: %s' % (shown(name), why)]}})
+        if self.rest:
+            file = self.rest[0].file or self.roles.web
+            found.setdefault(of_file(file), []).append(self.diagnostic_of_rest(file))
+        if self.trouble is not None:
+            found.setdefault(of_file(self.roles.web), []).insert(0, unchecked(
+                self.line(self.roles.web, 0), self.trouble))
+        for uri, these in self.remarks.diagnostics(of_file).items() if self.remarks else ():
+            found.setdefault(uri, []).extend(these)
         return found
 
     def diagnostic(self, group, of_file):
@@ -180,6 +239,15 @@ class Web:
                 for places, text in related]
         return made
 
+    def diagnostic_of_rest(self, file):
+        """One diagnostic of all faults that are not shown at their places, at the first of them."""
+        row = (self.rest[0].line or 1) - 1
+        has_error = any(fault.severity == 'error' for fault in self.rest)
+        return {'range': self.range((file, row, 0), (file, row, len(self.line(file, row)))),
+                'severity': ERROR if has_error else WARNING, 'source': SOURCE, 'code': MORE,
+                'message': '%d more faults; they are shown when there are fewer' % len(self.rest),
+                'data': {'faults': [shown(fault_line(fault)) for fault in self.rest]}}
+
     def range(self, start, end):
         """The range between two places of a file."""
         return {'start': self.position(*start), 'end': self.position(*end)}
@@ -189,6 +257,22 @@ class Web:
 
     def location(self, places, of_file):
         return {'uri': of_file(places[0].file), 'range': self.range(*places)}
+
+
+def unchecked(line, why):
+    """The diagnostic of a web that could not be checked, on its first line."""
+    return {'range': {'start': position(line, 1, 0), 'end': position(line, 1, len(line))},
+            'severity': ERROR, 'source': SOURCE, 'code': 'not-checked',
+            'message': 'this web is not checked: ' + why, 'data': {'faults': []}}
+
+
+def stamp_of(path):
+    """What tells whether a file was written."""
+    try:
+        status = os.stat(path)
+    except OSError:
+        return None
+    return status.st_dev, status.st_ino, status.st_mtime_ns, status.st_size
 
 
 def is_same(one, other):

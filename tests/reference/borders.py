@@ -16,6 +16,7 @@ import sys
 
 from files import ROLES, lines_of, table_of
 from graph import affected
+from parts import WORD
 from tangling import tangling_of
 
 EDITS = 10
@@ -23,7 +24,7 @@ TRIES = 25                  # for an edit
 
 RUN = re.compile(rb'(?:[^ \t\r\v\f"\'/@]| (?=[^ \t\r\v\f"\'/@])|/(?![*/]))+')
 
-WORD = re.compile(rb'[A-Za-z0-9_$\x80-\xff]+|[-+*=;,.]')
+ITEM = re.compile(WORD.pattern + rb'|[-+*=;,.]')
 
 # The ways of a gap, the plain one first. INNER_END is a blank in a directive.
 NOTHING = [b'', b'@&', b' @&', b'@& ', b'\t@&@&', b'@&/* j */', b'@;@&', b'@& @& ']
@@ -35,7 +36,7 @@ LINE_END = [b'\n', b'\t\n', b'\n ', b'\n   ', b' @;\n\t', b' // c d\n', b'//\n',
 FRONT = [b' ', b'', b'\t', b'  ', b' /* c */', b'@;', b'@&', b' @& ', b'/* c */ ']
 BACK = [b'', b'\t', b' /* c */', b' // c d', b'@;', b'@,@^i@>']
 
-WORDS = [b'a', b'b', b'x1', b'int', b'long_name', b'$d', b'caf\xe9', b'\x80\xff', b'10', b'97', b'0x1f', b'include', b'define']
+WORDS = [b'a', b'b', b'x1', b'int', b'long_name', b'$d', b'caf\xe9', b'\x80\xff', b'10', b'97', b'0x1f', b"1'0", b'include', b'define']
 SIGNS = [bytes([sign]) for sign in b'+-*/=<>(){}[];,.!#&|^?:%~\\\x00\x7f'] + [b'/'] * 3 + [b'@@']
 QUOTED = [b'"s"', b'"a b"', b"'c'", b"' '", b'"a@@b"', b'""', b'"/*"', b'"s\\\nt"']
 RARE = [b"@'a'", b"@'@@'", b'@=v@>', b'@=a  b@>', b'@=@>', b'@=a\\@>', b'@=u@@v@>', b'@h']
@@ -210,7 +211,7 @@ def almost_same(chance, lines):
     """The lines with a join or blank more, or less, or an item that is another one of the same bytes."""
     at = chance.randrange(len(lines))
     line, drawn = lines[at], chance.random()
-    words = list(WORD.finditer(line))
+    words = list(ITEM.finditer(line))
     if drawn < .3 and words:
         start, end = chance.choice(words).span()
         text = line[start:end]

@@ -25,6 +25,7 @@ WORDINGS = {
     'MisplacedH': b'@h in a macro',
     'MacroName': b'macro must start with an identifier',
     'ControlText': b'control text did not end',
+    'RawString': b'raw string',
     'StringAt': b'single @ in quoted text',
     'StringEnd': b'quoted text did not end',
     'VerbatimEnd': b'verbatim text did not end',
@@ -40,6 +41,7 @@ WORDINGS = {
     'SelfContaining': b'contains itself: <%s>',
     'TooLarge': b'too large: <%s>',
     'FileClash': b"file name is the main file's: <%s>",
+    'FileTwice': b'file has another name: <%s>',
     'NoProgram': b'no program text',
 }
 

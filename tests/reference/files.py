@@ -31,6 +31,12 @@ def is_file_name(name):
     return 0 < len(name) <= limits.NAME_BYTES and b'\n' not in name
 
 
+def plain_form(name):
+    """A file's name without what makes no difference to it: empty parts between slashes, and single dots."""
+    parts = [part for part in name.split(b'/') if part not in (b'', b'.')]
+    return (b'/' if name.startswith(b'/') else b'') + b'/'.join(parts)
+
+
 def add(files, name, text):
     """The table with one file more."""
     if not is_file_name(name):

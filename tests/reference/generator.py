@@ -6,9 +6,12 @@ usage: generator.py SEED
 import random
 import sys
 
+from conditions import group_lines
 from directives import directive_lines
 from files import Roles, add
 from line_ends import continued_lines, continuing, macro_over_lines, with_other_front
+from literals import NUMBERS, raw_text
+from rare_places import add_places
 from reading import Reading
 from tangling import Tangling
 
@@ -17,9 +20,13 @@ from tangling import Tangling
 # have many of them.
 MOST_LINES = 50000
 MOST_BYTES = 1 << 24
+RARE = 50                   # one web of so many has places that text at random seldom makes
 
 NAMES = [b'v', b'A', b'B', b'C', b'Initialize', b'Init table', b'In', b'In it', b'u', b'a b',
          b'h.h', b'a.c', b'x@@y', b'q"r', b'z\\w', b'n  m']
+# Names of few files, the main file among them. No two plain forms are one file, so that each file is compared.
+FILE_NAMES = [b'h.h', b'./h.h', b'.//h.h', b'././h.h', b'd/h.h', b'd//h.h', b'd/./h.h', b'a.c', b'./a.c', b'.//a.c', b'.h.h',
+              b'..h.h', b'd/k.h', b'd/../k.h']
 ABBREVIATIONS = [b'Ini...', b'I...', b'...', b'A...', b'Zz...', b'In...', b'....', b'a...', b'In it...']
 WORDS = [b'int', b'x', b'y2', b'_z', b'$d', b'caf\xe9', b'return', b'N', b'F', b'10', b'0x1f', b'include', b'a', b'define']
 SIGNS = [b'=', b';', b'+', b'-', b'(', b')', b'{', b'}', b'#', b'<', b'>', b'.', b',', b'*', b'/', b'\\', b'"', b"'",
@@ -39,12 +46,13 @@ COMMENTS = [b'/* c */', b'/*', b'*/', b'// c', b'//', b'/* @@ */', b'/* @< x @> 
 INCLUDES = [b'#include <p.h>', b'#include <p@@q>', b'# include <p', b'#include<p@q>', b'include <x>', b' # include\t<a\\b>',
             b'#include "p"', b'#include x <y>', b'/*c*/ #include <z>', b'#@& include <w>', b'#includes <w>']
 
-# What C text is made of, each with the chance that it or one before it is drawn: one of a list, the text itself, or a name.
-WILD = [(.30, WORDS), (.45, SIGNS), (.62, SPACES), (.72, None), (.77, QUOTED), (.82, CONSTANTS), (.87, CONTROL_TEXTS),
-        (.91, COMMENTS), (.94, INCLUDES), (.955, b'@&'), (.965, b'@h'), (1, CODES)]
+# What C text is made of, each with the chance that it or one before it is drawn: one of a list, the text itself, what a
+# function makes, or a name.
+WILD = [(.28, WORDS), (.30, NUMBERS), (.45, SIGNS), (.62, SPACES), (.72, None), (.76, QUOTED), (.77, raw_text),
+        (.82, CONSTANTS), (.87, CONTROL_TEXTS), (.91, COMMENTS), (.94, INCLUDES), (.955, b'@&'), (.965, b'@h'), (1, CODES)]
 
 # The same of dense C text, where most words are beside a join, an ASCII constant or a code.
-DENSE = [(.30, WORDS), (.40, SIGNS), (.56, SPACES), (.70, [b'@&', b' @&', b'@& ']), (.84, CONSTANTS), (.87, b'@h'),
+DENSE = [(.26, WORDS), (.30, NUMBERS), (.40, SIGNS), (.56, SPACES), (.70, [b'@&', b' @&', b'@& ']), (.84, CONSTANTS), (.87, b'@h'),
          (.90, QUOTED), (.93, CONTROL_TEXTS), (.98, [b'@,', b'@/', b'@;', b'@^i@>', b'/* c */']), (1, None)]
 
 # What may be white space of a head, or almost.
@@ -57,7 +65,8 @@ ENDS = [b'/', b'x /', b'/ ', b'//', b'@=/@>', b'@=a@@/@>', b'/@&', b'/@,', b'"/'
 LIMBO = [b'limbo', b'% top', b'@q x@>', b'@@', b'', b'@s a b', b'@<no@>', b'@i', b'@l d @L', b'@d N 1 @F x int', b' @i b.w',
          b'@(x@>=@c', b'@Q@D @> @^']
 DOCUMENTATION = [b'', b'A.', b'Text @<In it@> more', b'Doc @, @@ @^i@>', b'P.']
-MACROS = [b'N 10', b'F(x) x', b'M', b'3', b'N@&x', b'N"s"', b'N  ', b'N-1', b"N@'a'", b'', b'G(a)\\', b'N@^i@>5']
+MACROS = [b"N 10'000 // it's", b"N-1'0", b'N R"(a  b)"', b'R"(a"', b'N a\n#endif', b'N 10',
+          b'F(x) x', b'M', b'3', b'N@&x', b'N"s"', b'N  ', b'N-1', b"N@'a'", b'', b'G(a)\\', b'N@^i@>5']
 
 
 def used_name(chance):
@@ -79,6 +88,8 @@ def wild_text(chance, most, kinds=WILD):
         parts = next(parts for bound, parts in kinds if drawn < bound)
         if parts is None:
             made += used_name(chance) + (equals_sign(chance) if chance.random() < .1 else b'')
+        elif callable(parts):
+            made += parts(chance)
         else:
             made += chance.choice(parts) if isinstance(parts, list) else parts
     return made
@@ -109,13 +120,17 @@ def equals_sign(chance):
     return sign
 
 
+def defined_name(chance):
+    if chance.random() < .15:
+        return b'@(' + chance.choice(FILE_NAMES + NAMES)
+    return b'@<' + chance.choice(NAMES if chance.random() < .85 else ABBREVIATIONS)
+
+
 def head(chance, is_wild):
     if chance.random() < .5:
         code = chance.choice([b'@c', b'@c', b'@p', b'@C'])
     else:
-        name = chance.choice(NAMES if chance.random() < .85 else ABBREVIATIONS)
-        opener = b'@(' if chance.random() < .15 else b'@<'
-        code = opener + name + b'@>' + equals_sign(chance)
+        code = defined_name(chance) + b'@>' + equals_sign(chance)
     return code + (wild_text(chance, 4) if is_wild and chance.random() < .3 else b'')
 
 
@@ -145,7 +160,15 @@ def section(chance, is_wild, kinds=WILD):
             lines += continued_lines(chance)
         if chance.random() < .05:
             lines += directive_lines(chance)
+        if chance.random() < .06:
+            lines += group_lines(chance)
     return lines
+
+
+def file_sections(chance):
+    """Sections of files, some of them one file under several names."""
+    return [line for name in chance.choices(FILE_NAMES, k=chance.randint(2, 5))
+            for line in (b'@ @(' + name + b'@>=', chance.choice([b'x', b'@<A@>', b'']))]
 
 
 def clean(line):
@@ -170,8 +193,10 @@ def web_lines(chance, included):
             lines[-1] += chance.choice(ENDS) + made.pop(0)
         lines += made
         if included and chance.random() < .3:
-            lines.append(inclusion(chance, included))
-    return list(map(clean, lines))
+            lines.insert(chance.randint(len(lines) - len(made), len(lines)), inclusion(chance, included))
+    if chance.random() < .1:
+        lines += file_sections(chance)
+    return list(map(clean, b'\n'.join(lines).split(b'\n')))
 
 
 def one_change(chance, lines, start):
@@ -253,10 +278,13 @@ class Project:
             self.change = b'a.ch'
             changed = web if chance.random() < .7 or not included else web + self.files[1][1]
             self.files.append((self.change, change_lines(chance, changed)))
-        self.out = b'a.c' if chance.random() < .9 else b'h.h'
+        self.out = b'a.c' if chance.random() < .9 else chance.choice(FILE_NAMES)
         names = [name for name, _ in self.files] + [b'zz', b'b.w', b'none.w', b'']
         self.edits = [front_edit(chance, web) if chance.random() < .1 else one_edit(chance, names)
                       for _ in range(edits)]
+        places = random.Random(seed * 13 + 3)
+        if places.random() < 1 / RARE:
+            add_places(places, self)
 
     def loaded(self):
         """The files as a table, and the roles."""
@@ -322,7 +350,7 @@ def script(seed, edits=12):
     project, chance = Project(seed, edits), random.Random(seed * 7 + 1)
     lists = random.Random(seed * 11 + 5)
     at = lists.randrange(edits)
-    lines, names = [], [name for name, _ in project.files] + [b'h.h', b'a.c', b'x@y']
+    lines, names = [], [name for name, _ in project.files] + [b'h.h', b'a.c', b'x@y', project.out]
     for number, edit in enumerate(project.edits):
         if number == at:
             lines += list_lines(lists)
@@ -338,7 +366,7 @@ def script(seed, edits=12):
         if chance.random() < .08:
             lines.append(chance.choice(NO_COMMANDS))
     lines += [b'commit'] if chance.random() < .3 else []
-    lines += [b'work', b'faults', b'show a.c', b'show h.h']
+    lines += [b'work', b'faults'] + [b'show ' + name for name in FILE_NAMES]
     lines += [b'quit'] if chance.random() < .5 else []
     lines += [b'insert 1 a.w'] if chance.random() < .2 else []
     return project, b'\n'.join(lines) + (b'\n' if chance.random() < .8 else b'')

@@ -1,6 +1,7 @@
-"""Lines of C, and which of them are directives (docs/scanning.md)."""
+"""Lines of C, and which of them are directives and turns (docs/scanning.md)."""
 
 GAP = ('White', 'LineEnd', 'Join')              # what is between items
+TURNS = (b'else', b'elif', b'elifdef', b'elifndef', b'endif')
 
 
 def in_directive(tokens):
@@ -8,6 +9,12 @@ def in_directive(tokens):
     start = next(at for at in range(len(tokens), -1, -1) if begins_line(tokens, at))
     first = next((token for token in tokens[start:] if token.kind not in GAP), None)
     return first is not None and first.kind == 'Sign' and first.value == b'#'
+
+
+def is_turn(items):
+    """Whether a line of C of these items turns or ends a group of the preprocessor."""
+    front = [(item.kind, item.value) for item in items[:2]]
+    return front in [[('Sign', b'#'), ('Word', word)] for word in TURNS]
 
 
 def begins_line(tokens, at):

@@ -3,13 +3,14 @@ import re
 from collections import namedtuple
 
 import limits
-from lines_of_c import in_directive
+from lines_of_c import GAP, in_directive
 
 # kind: White, LineEnd, Join or the name of an item; mark: the place of the line mark after a use or @h
 Token = namedtuple('Token', 'kind value at mark')
 Token.__new__.__defaults__ = (None,)
 
-WORD = re.compile(rb'[A-Za-z0-9_$\x80-\xff]+')
+# A number goes on over an apostrophe between two word bytes.
+WORD = re.compile(rb"(?x: [0-9] W* (?: ' W+ )* | W+ )".replace(b'W', rb'[A-Za-z0-9_$\x80-\xff]'))
 WHITE = re.compile(rb'[ \t\r\v\f]+')
 # White space that ends on its line and without a fault: bytes, comments, control texts, other codes.
 WHITE_ON_LINE = rb'''(?x: [ \t\r\v\f]
@@ -19,6 +20,9 @@ WHITE_ON_LINE = rb'''(?x: [ \t\r\v\f]
 SINGLE_EQUALS = re.compile(WHITE_ON_LINE + rb'\+?' + WHITE_ON_LINE + rb'=(?!=)')
 IN_COMMENT = {b'/*': re.compile(rb'@|\*/'), b'//': re.compile(rb'@|\n')}
 OCTAL = re.compile(rb'\\([0-7]{1,3})')
+RAW_PREFIXES = (b'R', b'LR', b'uR', b'UR', b'u8R')
+# The delimiter of a raw string, and what C++ ends with it.
+WHOLE_RAW = re.compile(rb'"([^ \t\r\v\f\n()\\]{0,16})\([^\n]*\)\1"')
 ESCAPES = dict(zip(b'abtnvfr"\'?\\', (7, 8, 9, 10, 11, 12, 13, 34, 39, 63, 92)))
 
 
@@ -187,8 +191,17 @@ class Part:
         self.at = found
         return True
 
+    def _is_raw(self):
+        """Whether a quote here would begin a raw string of C++. The name of a macro makes none."""
+        before = self.tokens[-1:]
+        if not before or before[0].kind != 'Word' or before[0].value not in RAW_PREFIXES:
+            return False
+        is_name = self.is_macro and all(token.kind in GAP for token in self.tokens[:-1])
+        return before[0].at + len(before[0].value) == self.at and not is_name
+
     def _quoted(self, close):
         text, start, found = self.text, self.at, self.at + 1
+        first, is_raw = start, close == 34 and self._is_raw()
         while found < len(text) and text[found] != 10 and text[found] != close:
             two = text[found:found + 2]
             if two == b'@@' or (two == b'\\\n' and close != 62):
@@ -206,6 +219,8 @@ class Part:
             found += 1
         else:
             self.web.fault('StringEnd', found)
+        if is_raw and not WHOLE_RAW.fullmatch(text, first, found):
+            self.web.fault('RawString', first)
         self.at = start
         if start < found:
             self._add('Quoted', text[start:found], found)

@@ -31,9 +31,19 @@ def completed(web, change, out):
     return web, change, with_extension(out, b'.c')
 
 
+def is_utf8(name):
+    try:
+        name.decode()
+    except UnicodeDecodeError:
+        return False
+    return True
+
+
 def read_words(arguments):
     """The names of web, change file or None, and main file that the arguments of ctangle give, or None."""
-    arguments = map(os.fsencode, arguments)
+    arguments = list(map(os.fsencode, arguments))
+    if not all(map(is_utf8, arguments)):
+        return None
     names = [argument for argument in arguments if len(argument) < 2 or argument[:1] not in (b'-', b'+')]
     if not 1 <= len(names) <= 3:
         return None
@@ -120,38 +130,46 @@ def load(names, folder):
             files = loaded(files, name, folder, False)
 
 
-def run_retangle(names, folder, script):
-    try:
-        files, roles = load(names, folder)
-    except LoadFault as fault:
-        sys.stderr.buffer.write(fault.line(b'retangle'))
-        return 3
-    done = Script(Session(files, roles), script)
-    sys.stdout.buffer.write(done.written)
-    return done.status
-
-
-def run_ctangle(names, folder):
+def tangled(names, folder):
+    """What a run of ctangle gives: the status, what is on standard error, and the output files by name."""
     try:
         tangling = Tangling(*load(names, folder))
     except LoadFault as fault:
-        sys.stderr.buffer.write(fault.line(b'ctangle'))
-        return 3
-    sys.stderr.buffer.write(b''.join(map(fault_line, tangling.faults)))
+        return 3, fault.line(b'ctangle'), {}
+    faults, created = b''.join(map(fault_line, tangling.faults)), {}
     for name, text in tangling.files:
-        sys.stdout.buffer.write(b'= %s %d\n' % (name, len(text)) + text)
-    return tangling.status
+        if not (name and is_utf8(name)):
+            return 3, faults + b'ctangle: cannot write %s\n' % name, created
+        created[name] = text
+    return tangling.status, faults, created
+
+
+def answered(names, folder, script, *watch):
+    """What a run of retangle gives: the status, what is on standard error, and the answers."""
+    try:
+        files, roles = load(names, folder)
+    except LoadFault as fault:
+        return 3, fault.line(b'retangle'), b''
+    done = Script(Session(files, roles, *watch), script)
+    return done.status, b'', done.written
+
+
+def run(program, arguments, folder):
+    """The status, what is on standard error, and what is shown on standard output."""
+    names = (read_retangle if program == 'retangle' else read_words)(arguments)
+    if names is None:
+        return 2, USAGE, b''
+    if program == 'retangle':
+        return answered(names, folder, sys.stdin.buffer.read())
+    status, errors, files = tangled(names, folder)
+    return status, errors, b''.join(b'= %s %d\n' % (name, len(text)) + text for name, text in files.items())
 
 
 def main():
-    program, path, arguments = sys.argv[1], sys.argv[2], sys.argv[3:]
-    names = (read_retangle if program == 'retangle' else read_words)(arguments)
-    if names is None:
-        sys.stderr.buffer.write(USAGE)
-        return 2
-    if program == 'retangle':
-        return run_retangle(names, Folder(path), sys.stdin.buffer.read())
-    return run_ctangle(names, Folder(path))
+    status, errors, shown = run(sys.argv[1], sys.argv[3:], Folder(sys.argv[2]))
+    sys.stderr.buffer.write(errors)
+    sys.stdout.buffer.write(shown)
+    return status
 
 
 if __name__ == '__main__':

@@ -1,7 +1,7 @@
 """The five rules of spacing: from the tokens of a part or macro to its items (docs/scanning.md)."""
 from collections import namedtuple
 
-from lines_of_c import GAP, continues
+from lines_of_c import GAP, continues, is_turn
 from parts import Token
 
 # at: the position in the web's text at which its own text begins
@@ -29,7 +29,10 @@ def may_touch(one, other):
 
 
 def would_merge(one, other):
-    """Whether an ASCII constant, which is written as a number, and an item that touches it would be read as one."""
+    """Whether an ASCII constant, which is written as a number, and an item that touches it would be read as one. A
+    number goes on over an apostrophe."""
+    if one.kind == 'Code' and other.kind == 'Quoted' and other.value[:1] == b"'":
+        return True
     pairs = [(one, other), (other, one)]
     return any(constant.kind == 'Code' and (token.kind in ('Word', 'Code', 'Verbatim') or
                                             token.kind == 'Sign' and token.value in b'.\\')
@@ -136,18 +139,28 @@ def with_marks(tokens):
 
 
 def counted(tokens, web, opening):
-    """Each line end as such, or as a line mark where the next line is not the one that a compiler counts. In a line
-    that continues there is no mark, since the compiler would read it as a part of that line."""
-    (file, line), items = opening, []
+    """Each line end as such, or as a line mark where the next line is not the one that a compiler counts, and after a
+    turn, since the compiler obeys no mark in a group that it leaves out. In a line that continues there is no mark,
+    since the compiler would read it as a part of that line."""
+    (file, line), items, line_start = opening, [], 0
     for token in tokens:
         kind, value = token.kind, token.value
         if kind == 'LineEnd' and not (items and continues(items[-1])):
-            next_row = web.row(token.at) + 1
-            if next_row < len(web.source) and web.source[next_row].place != (file, line + 1):
-                kind, value = 'LineMark', web.source[next_row].place
+            of_line = [item for item in items[line_start:] if item.kind != 'Blank']
+            place = following(web, token.at)
+            if place is not None and (place != (file, line + 1) or is_turn(of_line)):
+                kind, value = 'LineMark', place
+            line_start = len(items) + 1
         if kind == 'LineMark':
             file, line = value
+            line_start = len(items) + 1
         elif kind in ('LineEnd', 'QuoteBreak'):
             line += 1
         items.append(Item(kind, value, token.at))
     return items
+
+
+def following(web, at):
+    """The place of the next source line, or None."""
+    row = web.row(at) + 1
+    return web.source[row].place if row < len(web.source) else None

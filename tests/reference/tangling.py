@@ -3,6 +3,7 @@ from collections import namedtuple
 from functools import cached_property, lru_cache
 
 from faults import Fault, status_of
+from files import plain_form
 from graph import PROGRAM, Graph
 from names import Names
 from output import Writer
@@ -22,6 +23,7 @@ class Tangling:
         self.names = Names(self.web.occurrences)
         self.graph = Graph(self.web, self.names)
         self.has_program = bool(self.graph.pieces[PROGRAM])
+        self.clashes, self.twice = self._taken_files()
         self.faults_of = {'reading': reading.faults, 'scanning': self.web.faults,
                           'names': self.names.faults,
                           'graph': self._faults_of_nodes() + self._no_program()}
@@ -30,6 +32,20 @@ class Tangling:
 
     def _no_program(self):
         return [] if self.has_program else [Fault('NoProgram', None)]
+
+    def _taken_files(self):
+        """The files that are the main file under another name or the same one, and those that are an earlier file."""
+        clashes, twice, taken = [], [], set()
+        for name in self.names.full_names:
+            if name not in self.names.first_file or not self.graph.pieces[name]:
+                continue
+            form = plain_form(name)
+            if form == plain_form(self.out):
+                clashes.append(name)
+            elif form in taken:
+                twice.append(name)
+            taken.add(form)
+        return clashes, twice
 
     def _faults_of_nodes(self):
         occurrences, names, graph = self.web.occurrences, self.names, self.graph
@@ -40,6 +56,7 @@ class Tangling:
         with_piece = [name for name in names.full_names if graph.pieces[name]]
         first = {name: occurrences[number].place for name, number in names.first.items()}
         first[PROGRAM] = None
+        first_file = {name: occurrences[number].place for name, number in names.first_file.items()}
         return ([Fault('Undefined', first_use[name], name) for name in names.full_names
                  if not graph.pieces[name] and name in first_use]
                 + [Fault('Unused', first[name], name) for name in with_piece
@@ -47,8 +64,8 @@ class Tangling:
                 + [Fault('SelfContaining', first[name], name) for name in names.full_names
                    if name in graph.self_containing]
                 + [Fault('TooLarge', first[node], node or b'') for node in graph.nodes if self._is_too_large(node)]
-                + [Fault('FileClash', occurrences[names.first_file[name]].place, name) for name in with_piece
-                   if name in names.first_file and name == self.out])
+                + [Fault('FileClash', first_file[name], name) for name in self.clashes]
+                + [Fault('FileTwice', first_file[name], name) for name in self.twice])
 
     def _is_too_large(self, node):
         graph = self.graph
@@ -60,7 +77,7 @@ class Tangling:
         if not self.has_program or PROGRAM in graph.expandable:
             yield Output(self.out, PROGRAM, not self.web.has_all_macros, self.has_program)
         for name in sorted(self.names.first_file, key=self.names.first_file.get):
-            if name in graph.expandable and name != self.out:
+            if name in graph.expandable and name not in self.clashes + self.twice:
                 yield Output(name, name, False, True)
 
     def writer(self):

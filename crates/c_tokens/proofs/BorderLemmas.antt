@@ -7,10 +7,10 @@ use Rattle.std.specs.List.{list_any, list_all, concat, flat_map}
 use Rattle.std.proofs.lemmas.Bool.{and_parts, and_from, or_cases, or_left, or_right, or_parts, both_ways}
 use Rattle.std.proofs.lemmas.Bool.{not-true, false_from_ne_true, eqb-true}
 use Rattle.std.proofs.lemmas.List.Elements.{filter-append}
-use Rattle.c_tokens.specs.Bytes.{space, slash, backslash}
+use Rattle.c_tokens.specs.Bytes.{space, apostrophe, slash, backslash}
 use Rattle.c_tokens.specs.Bytes.{is_word_byte, is_quote, is_sign, is_exponent, is_white}
 use Rattle.c_tokens.specs.Grammar.{begins_hexadecimal, begins_universal_name, has_universal_names, is_identifier_byte}
-use Rattle.c_tokens.specs.Grammar.{begins_number, is_number_byte, signs_follow_exponents, is_number, is_quoted, ends_quoted}
+use Rattle.c_tokens.specs.Grammar.{begins_number, is_number_byte, signs_follow_exponents, begins_with_sign, apostrophes_separate, is_number, is_quoted, ends_quoted}
 use Rattle.c_tokens.specs.Grammar.{has_prefix, is_punctuator, is_token, is_comment, is_element}
 use Rattle.c_tokens.specs.Grammar.{is_white_character, is_other_character}
 use Rattle.c_tokens.specs.Reading.{spliced, longest, elements_from, tokens}
@@ -18,9 +18,9 @@ use Rattle.c_tokens.specs.Touching.{is_separator, is_operator, is_plain}
 use Rattle.c_tokens.specs.Borders.{is_unfinished, is_whole, last_element, last_byte, is_plain_byte, are_never_in_one}
 use Rattle.c_tokens.specs.Borders.{is_at_operator, number_goes_on, is_border_of_bytes, is_border, have_border, keep_lines, are_apart, has_bytes, are_all_apart}
 use Rattle.c_tokens.proofs.ReadingLemmas.{NoLonger, elements-front, elements-append}
-use Rattle.c_tokens.proofs.GrammarLemmas.{identifier-bytes, number-bytes, punctuator-is}
+use Rattle.c_tokens.proofs.GrammarLemmas.{identifier-bytes, number-parts, number-from, number-bytes, number-first, punctuator-is}
 use Rattle.c_tokens.proofs.GrammarLemmas.{begins_prefix, IsLiteral, literal-word, ends-once}
-use Rattle.c_tokens.proofs.LongerLemmas.{element-cases, all-last, separator-not, punctuator-bytes}
+use Rattle.c_tokens.proofs.LongerLemmas.{element-cases, all-last, separator-not, operator-not, punctuator-bytes}
 use Rattle.c_tokens.proofs.LongerLemmas.{comment-open, two-white, two-other, quote-not}
 use Rattle.c_tokens.proofs.TouchingLemmas.{single-element, comment-element, token-element, one-element, plain-element}
 use Rattle.c_tokens.proofs.TouchingLemmas.{spliced-both}
@@ -114,14 +114,43 @@ begins-front : (x : ℕ) (a : List ℕ) (c : ℕ) (q : List ℕ) → is_at_opera
     begins_number (x ∷ a ++ c ∷ q) ≡ true → begins_number (x ∷ a) ≡ true
 begins-front x a c q at h = search rules
 
+no-sign-front : (a q : List ℕ) → not (begins_with_sign (a ++ q)) ≡ true → not (begins_with_sign a) ≡ true
+no-sign-front [] q h = refl
+no-sign-front (b ∷ a) q h = h
+
+weaker : (p w s t : Bool) → (s ≡ true → t ≡ true) → (p || w && s) ≡ true → (p || w && t) ≡ true
+weaker true w s t f h = refl
+weaker false true s t f h = f h
+weaker false false s t f h = h
+
+-- no apostrophe at the end of the first text separates, since what follows is an operator
+apostrophe-last : (x c : ℕ) (next : Bool) → is_at_operator x c ≡ true → (not (x == apostrophe) || is_word_byte c && next) ≡ true →
+    not (x == apostrophe) ≡ true
+apostrophe-last x c next at h =
+    elim (or_cases (not (x == apostrophe)) (is_word_byte c && next) h) [
+      | inl other ↦ other
+      | inr word ↦ grind (arith, nat_tests, operator-not is_word_byte refl c, (and_parts (is_word_byte c) next word).0)
+    ]
+
+apostrophes-front : (x : ℕ) (a : List ℕ) (c : ℕ) (q : List ℕ) → is_at_operator (last_byte x a) c ≡ true →
+    apostrophes_separate (x ∷ a ++ c ∷ q) ≡ true → apostrophes_separate (x ∷ a) ≡ true
+apostrophes-front x [] c q at h =
+    apostrophe-last x c (not (begins_with_sign q)) at
+    (and_parts (not (x == apostrophe) || is_word_byte c && not (begins_with_sign q)) (apostrophes_separate (c ∷ q)) h).0
+apostrophes-front x (y ∷ a) c q at h =
+    let next = not (begins_with_sign (a ++ c ∷ q)) in
+    let parts = and_parts (not (x == apostrophe) || is_word_byte y && next) (apostrophes_separate (y ∷ a ++ c ∷ q)) h in
+    and_from (not (x == apostrophe) || is_word_byte y && not (begins_with_sign a)) (apostrophes_separate (y ∷ a))
+    (weaker (not (x == apostrophe)) (is_word_byte y) next (not (begins_with_sign a)) (no-sign-front a (c ∷ q)) parts.0)
+    (apostrophes-front y a c q at parts.1)
+
 number-front : (x : ℕ) (a : List ℕ) (c : ℕ) (q : List ℕ) → is_at_operator (last_byte x a) c ≡ true →
     is_number (x ∷ a ++ c ∷ q) ≡ true → is_number (x ∷ a) ≡ true
 number-front x a c q at h =
-    let all = x ∷ a ++ c ∷ q in
-    let outer = and_parts (begins_number all && list_all is_number_byte all && signs_follow_exponents all) (has_universal_names all) h in
-    let inner = and_parts (begins_number all && list_all is_number_byte all) (signs_follow_exponents all) outer.0 in
-    let first = and_parts (begins_number all) (list_all is_number_byte all) inner.0 in
-    search (rules, and_from, begins-front, all-front, signs-front, names-front, operator-fails)
+    let n = number-parts (x ∷ a ++ c ∷ q) h in
+    number-from (x ∷ a) (begins-front x a c q at n.0) (all-front is_number_byte (x ∷ a) (c ∷ q) n.1)
+    (signs-front (x ∷ a) (c ∷ q) n.2) (apostrophes-front x a c q at n.3)
+    (names-front x a c q (operator-fails is_identifier_byte refl (last_byte x a) c at) n.4)
 
 -- how a number goes on over an operator
 
@@ -139,10 +168,10 @@ number-goes-on : (x : ℕ) (a : List ℕ) (c : ℕ) (q : List ℕ) → is_at_ope
 number-goes-on x a c q at h =
     let all = x ∷ a ++ c ∷ q in
     let d = last_byte x a in
-    let bytes = number-bytes all h in
-    let of_c : is_number_byte c ≡ true = all-last is_number_byte (x ∷ a) c q bytes in
-    let of_d = all-last-byte is_number_byte x a (all-front is_number_byte (x ∷ a) (c ∷ q) bytes) in
-    let signs = (and_parts (begins_number all && list_all is_number_byte all) (signs_follow_exponents all) (and_parts (begins_number all && list_all is_number_byte all && signs_follow_exponents all) (has_universal_names all) h).0).1 in
+    let parts = number-parts all h in
+    let of_c : is_number_byte c ≡ true = all-last is_number_byte (x ∷ a) c q parts.1 in
+    let of_d = all-last-byte is_number_byte x a (all-front is_number_byte (x ∷ a) (c ∷ q) parts.1) in
+    let signs = parts.2 in
     elim (or_cases (is_operator d && is_plain_byte c) (is_plain_byte d && is_operator c) at) [
       | inl first ↦
           search (rules, and_parts, or_right, operator-sign)
@@ -234,16 +263,21 @@ opened-first : (prefix : List ℕ) (Q : ℕ) (z : List ℕ) → list_all is_word
 opened-first [] Q z word quote comment = grind (arith, nat_tests)
 opened-first (p ∷ ps) Q z word quote comment = grind (arith, nat_tests)
 
+opened-number : (prefix : List ℕ) (Q : ℕ) (z : List ℕ) → begins_prefix prefix ≡ true → is_quote Q ≡ true →
+    is_number (prefix ++ Q ∷ z) ≡ true → ⊥
+opened-number [] Q z begins quote number = grind (arith, nat_tests, number-first Q z)
+opened-number (p ∷ ps) Q z begins quote number = grind (arith, nat_tests, number-first p (ps ++ Q ∷ z))
+
 -- a prefix, a quote and bytes that do not end with the closing quote
-opened-longer : (prefix : List ℕ) (Q : ℕ) (z : List ℕ) → list_all is_word_byte prefix ≡ true → is_quote Q ≡ true →
-    ends_quoted Q z ≡ false → is_white_character (prefix ++ Q ∷ z) ≡ false → is_other_character (prefix ++ Q ∷ z) ≡ false →
+opened-longer : (prefix : List ℕ) (Q : ℕ) (z : List ℕ) → list_all is_word_byte prefix ≡ true →
+    begins_prefix prefix ≡ true → is_quote Q ≡ true → ends_quoted Q z ≡ false → is_white_character (prefix ++ Q ∷ z) ≡ false → is_other_character (prefix ++ Q ∷ z) ≡ false →
     is_element (prefix ++ Q ∷ z) ≡ false
-opened-longer prefix Q z word quote ends white other =
+opened-longer prefix Q z word begins quote ends white other =
     false_from_ne_true (is_element (prefix ++ Q ∷ z)) λ is. element-cases (prefix ++ Q ∷ z) white other is
     (opened-first prefix Q z word quote)
     (λ identifier. both_ways (is_identifier_byte Q) (quote-not is_identifier_byte refl refl Q quote)
     (all-last is_identifier_byte prefix Q z (identifier-bytes (prefix ++ Q ∷ z) identifier)))
-    (search (rules, all-last, number-bytes))
+    (opened-number prefix Q z begins quote)
     (λ literal. both_ways (ends_quoted Q z) ends (literal-word prefix Q z word (quote-byte Q quote) literal).1)
     (λ punctuator. search (rules, all-last, punctuator-bytes, or_right))
 
@@ -262,7 +296,7 @@ quote-unfinished : (Q : ℕ) (rest : List ℕ) (c : ℕ) (q : List ℕ) → is_q
     list_any is_unfinished (elements_from 0 (Q ∷ rest)) ≡ true
 quote-unfinished Q rest c q quote ends =
     ap (list_any is_unfinished) (elements-front Q [] rest (single-element Q)
-    (λ e z w same. opened-longer [] Q (e ∷ z) refl quote (unended Q rest c q quote ends (e ∷ z) w same) refl refl))
+    (λ e z w same. opened-longer [] Q (e ∷ z) refl refl quote (unended Q rest c q quote ends (e ∷ z) w same) refl refl))
     ∙ or_left (is_unfinished (Q ∷ [])) (list_any is_unfinished (elements_from 0 rest))
     (or_right (is_comment (Q ∷ space ∷ [])) (is_quote Q) quote)
 
@@ -277,7 +311,7 @@ opened-unfinished (p ∷ ps) Q rest c q word begins quote ends =
   where
     none : NoLonger is_element (p ∷ ps) (Q ∷ rest)
     none e z w same = subst (λ k. is_element (p ∷ ps ++ k ∷ z) ≡ false) (ap (λ l. get_or l 0 0) same)
-        (opened-longer (p ∷ ps) Q z word quote (unended Q rest c q quote ends z w (ap (drop 1) same))
+        (opened-longer (p ∷ ps) Q z word begins quote (unended Q rest c q quote ends z w (ap (drop 1) same))
         (two-white p ps Q z) (two-other p ps Q z))
 
 -- no element goes on over a border

@@ -11,6 +11,7 @@ use Rattle.std.proofs.lemmas.Bool.{eqb-true}
 use Rattle.std.proofs.lemmas.Slice.Eq.{bytes_eq-Decides}
 use Rattle.c_tokens.specs.Bytes.{line_feed, backslash, full_stop, double_quote, apostrophe, is_digit, is_word_byte, is_quote}
 use Rattle.c_tokens.specs.Grammar.{is_identifier_byte, is_identifier, begins_number, is_number_byte, is_number}
+use Rattle.c_tokens.specs.Grammar.{signs_follow_exponents, apostrophes_separate, has_universal_names}
 use Rattle.c_tokens.specs.Grammar.{ends_quoted, is_quoted, is_character}
 use Rattle.c_tokens.specs.Grammar.{is_string, has_prefix, is_character_constant, is_string_literal, punctuators}
 use Rattle.c_tokens.specs.Grammar.{is_punctuator}
@@ -29,6 +30,15 @@ listed test (c ∷ bs) all b any = grind (arith, nat_tests, listed test bs)
 
 pub identifier-bytes : (t : List ℕ) → is_identifier t ≡ true → list_all is_identifier_byte t ≡ true
 identifier-bytes t h = search rules
+
+pub number-parts : (t : List ℕ) → is_number t ≡ true →
+    (begins_number t ≡ true) × (list_all is_number_byte t ≡ true) × (signs_follow_exponents t ≡ true)
+    × (apostrophes_separate t ≡ true) × (has_universal_names t ≡ true)
+number-parts t h = search rules
+
+pub number-from : (t : List ℕ) → begins_number t ≡ true → list_all is_number_byte t ≡ true → signs_follow_exponents t ≡ true →
+    apostrophes_separate t ≡ true → has_universal_names t ≡ true → is_number t ≡ true
+number-from t begins bytes signs separate names = search rules
 
 pub number-start : (t : List ℕ) → is_number t ≡ true → (begins_number t && list_all is_number_byte t) ≡ true
 number-start t h = search rules
@@ -96,7 +106,7 @@ literal quote test is quoted (p ∷ ps) all t any =
 
 pub literal-from_character : (t : List ℕ) → is_character_constant t ≡ true → IsLiteral t
 literal-from_character t h =
-    literal apostrophe is_character refl character-quoted ([] ∷ codes "L" ∷ codes "u" ∷ codes "U" ∷ []) refl t h
+    literal apostrophe is_character refl character-quoted ([] ∷ codes "u8" ∷ codes "u" ∷ codes "U" ∷ codes "L" ∷ []) refl t h
 
 pub literal-from_string : (t : List ℕ) → is_string_literal t ≡ true → IsLiteral t
 literal-from_string t h =

@@ -45,16 +45,40 @@ numbers :
     Reads "1.e +5" "1.e + 5" ×
     Reads "1e++" "1e+ +" ×
     Reads "x1e+5" "x1e + 5" ×
-    Reads "1\\u00b2x" "1\\u00b2x" ×
-    Reads "12L'x'" "12L 'x'"
+    Reads "1\\u00b2x" "1\\u00b2x"
 unfolding is_element is_token is_punctuator
-numbers = (refl, refl, refl, refl, refl, refl, refl, refl, refl, refl, refl, refl, refl, refl, refl, refl)
+numbers = (refl, refl, refl, refl, refl, refl, refl, refl, refl, refl, refl, refl, refl, refl, refl)
+
+-- Apostrophes that separate the digits and nondigits of a number, and others.
+separators :
+    Reads "10'000" "10'000" ×
+    Reads "0xF'F" "0xF'F" ×
+    Reads "1'0'e" "1'0'e" ×
+    Reads "1'_" "1'_" ×
+    Reads ".5'0" ".5'0" ×
+    Reads "1.'5" "1.'5" ×
+    Reads "0x1.F'Fp0" "0x1.F'Fp0" ×
+    Reads "1'e+5" "1'e + 5" ×
+    Reads "1e+'5" "1e+'5" ×
+    Reads "12L'x'" "12L'x '" ×
+    Reads "4'" "4 '" ×
+    Reads "1''" "1 ' '" ×
+    Reads "1''2" "1 ' ' 2" ×
+    Reads "1'.5" "1 ' .5" ×
+    Reads "1'+'" "1 '+'" ×
+    Reads "1'\\u00e9" "1 ' \\u00e9" ×
+    Reads "1'2'3'" "1'2'3 '" ×
+    Reads "x1'2'" "x1 '2'" ×
+    Reads "1 '2'" "1 '2'" ×
+    Reads "1'\\\n0" "1'0"
+unfolding is_element is_token is_punctuator
+separators = (refl, refl, refl, refl, refl, refl, refl, refl, refl, refl, refl, refl, refl, refl, refl, refl, refl, refl, refl, refl)
 
 -- Character constants.
 characters :
     Reads "L'x'" "L'x'" ×
     Reads "u'x'U'y'" "u'x' U'y'" ×
-    Reads "u8'x'" "u8 'x'" ×
+    Reads "u8'x'" "u8'x'" ×
     Reads "LL'x'" "LL 'x'" ×
     Reads "'\\''" "'\\''" ×
     Reads "'\\\\'a" "'\\\\' a" ×
@@ -92,9 +116,10 @@ maximal_munch :
     Reads "!==" "!= =" ×
     Reads "-->" "-- >" ×
     Reads "[](){};,~" "[ ] ( ) { } ; , ~" ×
-    Reads "a?b:c" "a ? b : c"
+    Reads "a?b:c" "a ? b : c" ×
+    Reads "a:::b" "a :: : b"
 unfolding is_element is_token is_punctuator
-maximal_munch = (refl, refl, refl, refl, refl, refl, refl, refl, refl, refl, refl, refl, refl, refl, refl)
+maximal_munch = (refl, refl, refl, refl, refl, refl, refl, refl, refl, refl, refl, refl, refl, refl, refl, refl)
 
 -- Digraphs.
 digraphs :
@@ -173,18 +198,20 @@ two_operators :
     AreReadOtherwise "<" ":" (words "<:") (words "< :") ×
     AreReadOtherwise "%" ":" (words "%:") (words "% :") ×
     AreReadOtherwise "#" "#" (words "##") (words "# #") ×
+    AreReadOtherwise ":" ":" (words "::") (words ": :") ×
     AreReadOtherwise "=" "=" (words "==") (words "= =")
 unfolding is_element is_token is_punctuator
-two_operators = ((refl, refl), (refl, refl), (refl, refl), (refl, refl), (refl, refl), (refl, refl), (refl, refl), (refl, refl))
+two_operators = ((refl, refl), (refl, refl), (refl, refl), (refl, refl), (refl, refl), (refl, refl), (refl, refl), (refl, refl), (refl, refl))
 
 -- Two plain texts.
 two_plain :
     AreReadOtherwise "a" "b" (words "ab") (words "a b") ×
     AreReadOtherwise "L" "\"x\"" (words "L\"x\"") (words "L \"x\"") ×
+    AreReadOtherwise "u8" "'x'" (words "u8'x'") (words "u8 'x'") ×
     AreReadOtherwise "u8" "\"x\"" (words "u8\"x\"") (words "u8 \"x\"") ×
     AreReadOtherwise "U" "'x'" (words "U'x'") (words "U 'x'")
 unfolding is_element is_token is_punctuator
-two_plain = ((refl, refl), (refl, refl), (refl, refl), (refl, refl))
+two_plain = ((refl, refl), (refl, refl), (refl, refl), (refl, refl), (refl, refl))
 
 -- Numbers, other signs and other texts.
 other_texts :
@@ -192,6 +219,7 @@ other_texts :
     AreReadOtherwise "1" "a" (words "1a") (words "1 a") ×
     AreReadOtherwise "1" "2" (words "12") (words "1 2") ×
     AreReadOtherwise "1e" "+" (words "1e+") (words "1e +") ×
+    AreReadOtherwise "8" "'9'" (words "8'9 '") (words "8 '9'") ×
     AreReadOtherwise "0xe" "-" (words "0xe-") (words "0xe -") ×
     AreReadOtherwise "1" ".5" (words "1.5") (words "1 .5") ×
     AreReadOtherwise "." "5" (words ".5") (words ". 5") ×
@@ -200,7 +228,7 @@ other_texts :
     AreReadOtherwise "+" "+=" (words "++ =") (words "+ +=") ×
     AreReadOtherwise "a'" "b'" (words "a 'b'") (words "a ' b '")
 unfolding is_element is_token is_punctuator
-other_texts = ((refl, refl), (refl, refl), (refl, refl), (refl, refl), (refl, refl), (refl, refl), (refl, refl), (refl, refl), (refl, refl), (refl, refl), (refl, refl))
+other_texts = ((refl, refl), (refl, refl), (refl, refl), (refl, refl), (refl, refl), (refl, refl), (refl, refl), (refl, refl), (refl, refl), (refl, refl), (refl, refl), (refl, refl))
 
 -- A text that opens a comment, before a separator.
 open_comments :
@@ -214,10 +242,11 @@ no_borders :
     AreReadOtherwise "x\"a" ";\"y" (words "x \"a;\" y") (words "x \" a ; \" y") ×
     AreReadOtherwise "1.e" "+5" (words "1.e+5") (words "1.e + 5") ×
     AreReadOtherwise "1e+" "x" (words "1e+x") (words "1e+ x") ×
+    AreReadOtherwise "1e+" "'x'" (words "1e+'x '") (words "1e+ 'x'") ×
     AreReadOtherwise "a/" "/**/b" (words "a") (words "a / b") ×
     AreReadOtherwise "a\\" "\nb" (words "ab") (words "a \\ b")
 unfolding is_element is_token is_punctuator
-no_borders = ((refl, refl), (refl, refl), (refl, refl), (refl, refl), (refl, refl))
+no_borders = ((refl, refl), (refl, refl), (refl, refl), (refl, refl), (refl, refl), (refl, refl))
 
 -- a macro over two lines, as texts in a row
 row : are_all_apart

@@ -2,7 +2,8 @@
 -- both.
 use Rattle.std.specs.Prelude.{ℕ, Bool, true, false, ◌==◌, ◌&&◌, ◌||◌, not, List, [], ◌∷◌, ◌++◌}
 use Rattle.std.specs.List.{list_any}
-use Rattle.c_tokens.specs.Bytes.{line_feed, space, slash, backslash, is_word_byte, is_quote}
+use Rattle.c_tokens.specs.Bytes.{line_feed, space, apostrophe, slash, backslash}
+use Rattle.c_tokens.specs.Bytes.{is_word_byte, is_quote}
 use Rattle.c_tokens.specs.Bytes.{is_sign, is_exponent, is_white}
 use Rattle.c_tokens.specs.Grammar.{is_number, is_comment}
 use Rattle.c_tokens.specs.Reading.{spliced, elements_from, elements}
@@ -44,9 +45,12 @@ abbrev pub is_at_operator : ℕ → ℕ → Bool
 is_at_operator last next =
     is_operator last && is_plain_byte next || is_plain_byte last && is_operator next
 
--- a number goes on: with a sign after e, E, p or P, or with a byte of a word after a sign
+-- A number goes on: with a sign after e, E, p or P, or with a byte of a word or an apostrophe after
+-- a sign.
 abbrev pub number_goes_on : ℕ → ℕ → Bool
-number_goes_on last next = is_exponent last && is_sign next || is_sign last && is_word_byte next
+number_goes_on last next =
+    is_exponent last && is_sign next
+    || is_sign last && (is_word_byte next || next == apostrophe)
 
 -- A border is between two bytes that are never in one, or at an operator, unless a number before it
 -- goes on, as 1e+5 does.

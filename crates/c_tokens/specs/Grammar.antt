@@ -1,4 +1,4 @@
--- C's grammar of preprocessing tokens (C11, 6.4). Each definition is a test of a whole text, which
+-- C's grammar of preprocessing tokens (C23, 6.4). Each definition is a test of a whole text, which
 -- has no backslash with a line feed after it: the compiler has taken these out.
 --
 -- preprocessing-token: identifier, pp-number, character-constant, string-literal, punctuator, or
@@ -43,9 +43,10 @@ is_identifier (b ∷ bs) =
     not (is_digit b) && list_all is_identifier_byte (b ∷ bs) && has_universal_names (b ∷ bs)
 
 -- pp-number: a digit, or a full stop and a digit, and then digits, identifier-nondigits, full
--- stops, and signs that are directly after e, E, p or P. (A sign is also taken directly after a
--- universal character name that ends in e or E. The standard ends the number there, and gcc does
--- not.)
+-- stops, apostrophes that are directly before a digit or a nondigit, and signs that are directly
+-- after e, E, p or P, unless an apostrophe is directly before that letter. (A sign is also taken
+-- directly after a universal character name that ends in e or E. The standard ends the number
+-- there, and gcc does not.)
 
 abbrev pub begins_number : List ℕ → Bool
 begins_number [] = false
@@ -53,7 +54,19 @@ begins_number (b ∷ []) = is_digit b
 begins_number (b ∷ c ∷ bs) = is_digit b || b == full_stop && is_digit c
 
 abbrev pub is_number_byte : ℕ → Bool
-is_number_byte b = is_identifier_byte b || b == full_stop || is_sign b
+is_number_byte b = is_identifier_byte b || b == full_stop || is_sign b || b == apostrophe
+
+abbrev pub begins_with_sign : List ℕ → Bool
+begins_with_sign [] = false
+begins_with_sign (b ∷ bs) = is_sign b
+
+-- each apostrophe of the text is directly before a digit or a nondigit, after which is no sign
+abbrev pub apostrophes_separate : List ℕ → Bool
+apostrophes_separate [] = true
+apostrophes_separate (b ∷ []) = not (b == apostrophe)
+apostrophes_separate (b ∷ c ∷ bs) =
+    (not (b == apostrophe) || is_word_byte c && not (begins_with_sign bs))
+    && apostrophes_separate (c ∷ bs)
 
 abbrev pub signs_follow_exponents : List ℕ → Bool
 signs_follow_exponents [] = true
@@ -64,7 +77,7 @@ signs_follow_exponents (b ∷ c ∷ bs) =
 abbrev pub is_number : List ℕ → Bool
 is_number text =
     begins_number text && list_all is_number_byte text && signs_follow_exponents text
-    && has_universal_names text
+    && apostrophes_separate text && has_universal_names text
 
 -- A quoted text: between two quotes are characters other than the quote, the backslash and the line
 -- feed, and escape sequences. Of an escape sequence only the backslash and the byte after it are
@@ -94,12 +107,12 @@ has_prefix [] test text = test text
 has_prefix (p ∷ ps) test [] = false
 has_prefix (p ∷ ps) test (b ∷ bs) = b == p && has_prefix ps test bs
 
--- character-constant: 'c-char-sequence' alone, or after L, u or U
+-- character-constant: 'c-char-sequence' alone, or after u8, u, U or L
 abbrev pub is_character_constant : List ℕ → Bool
 is_character_constant text =
     is_character text
     || list_any (λ prefix. has_prefix prefix is_character text)
-    (codes "L" ∷ codes "u" ∷ codes "U" ∷ [])
+    (codes "u8" ∷ codes "u" ∷ codes "U" ∷ codes "L" ∷ [])
 
 -- string-literal: "s-char-sequence", which may be empty, alone, or after u8, u, U or L
 abbrev pub is_string_literal : List ℕ → Bool
@@ -115,7 +128,7 @@ punctuators =
     ∷ codes "++" ∷ codes "--" ∷ codes "&" ∷ codes "*" ∷ codes "+" ∷ codes "-" ∷ codes "~"
     ∷ codes "!" ∷ codes "/" ∷ codes "%" ∷ codes "<<" ∷ codes ">>" ∷ codes "<" ∷ codes ">"
     ∷ codes "<=" ∷ codes ">=" ∷ codes "==" ∷ codes "!=" ∷ codes "^" ∷ codes "|" ∷ codes "&&"
-    ∷ codes "||" ∷ codes "?" ∷ codes ":" ∷ codes ";" ∷ codes "..." ∷ codes "=" ∷ codes "*="
+    ∷ codes "||" ∷ codes "?" ∷ codes ":" ∷ codes "::" ∷ codes ";" ∷ codes "..." ∷ codes "=" ∷ codes "*="
     ∷ codes "/=" ∷ codes "%=" ∷ codes "+=" ∷ codes "-=" ∷ codes "<<=" ∷ codes ">>=" ∷ codes "&="
     ∷ codes "^=" ∷ codes "|=" ∷ codes "," ∷ codes "#" ∷ codes "##" ∷ codes "<:" ∷ codes ":>"
     ∷ codes "<%" ∷ codes "%>" ∷ codes "%:" ∷ codes "%:%:" ∷ []

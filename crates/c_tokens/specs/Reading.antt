@@ -1,5 +1,5 @@
 -- How a C compiler reads a text as tokens: the next token is the longest sequence of characters
--- that could constitute a preprocessing token (C11, 6.4).
+-- that could constitute a preprocessing token (C23, 6.4).
 use Rattle.std.specs.Prelude.{ℕ, ◌+◌, ◌-◌, zero, suc, Bool, ◌==◌, nat_lt, ◌&&◌}
 use Rattle.std.specs.Prelude.{if◌then◌else◌, List, [], ◌∷◌, ◌++◌, take, filter}
 use Rattle.std.specs.List.{list_any}

@@ -1,4 +1,4 @@
-//! C's preprocessing tokens: the grammar of C11 over bytes, and which texts may be written together
+//! C's preprocessing tokens: the grammar of C23 over bytes, and which texts may be written together
 //! so that a C compiler reads the tokens of the first and then those of the second.
 #![tactic(auto)]
 

@@ -10,7 +10,7 @@ use Rattle.tangle_faults.specs.declared.faults.FaultKind.TheVariants.{IncludeToo
 use Rattle.tangle_faults.specs.declared.faults.FaultKind.TheVariants.{CodeInC, MisplacedH, MacroName, ControlText}
 use Rattle.tangle_faults.specs.declared.faults.FaultKind.TheVariants.{StringAt, StringEnd, VerbatimEnd, AsciiBad}
 use Rattle.tangle_faults.specs.declared.faults.FaultKind.TheVariants.{CommentEnd, NameEnd, NameEquals, NoFullName}
-use Rattle.tangle_faults.specs.declared.faults.FaultKind.TheVariants.{PrefixName, Undefined, Unused, NoProgram}
+use Rattle.tangle_faults.specs.declared.faults.FaultKind.TheVariants.{PrefixName, Undefined, Unused, FileClash, FileTwice, NoProgram}
 use Rattle.tangle_files.specs.Lines.{FileTable, cut}
 use Rattle.tangle_faults.specs.Faults.{FaultRead, PlaceRead, fault_at, fault_about, fault_counting, fault_unplaced}
 use Rattle.tangle_lines.specs.Reading.{reads_in}
@@ -20,6 +20,7 @@ use Rattle.tangle_files.specs.declared.marks.MarkMode.TheVariants.{Bare}
 use Rattle.tangle_names.specs.Faults.{name_faults}
 use Rattle.tangle_expansion.specs.Limits.{levels, heaviest}
 use Rattle.tangle_graph.specs.Faults.{graph_faults}
+use Rattle.tangle_graph.specs.PlainForms.{plain_form}
 use Rattle.tangle_session.specs.Headline.{output_files, source_at, table_at, web_at}
 
 -- the faults and the output files
@@ -159,7 +160,14 @@ record Names : Type 0 where
           codes "/*1:*/\n#line 2 \"a.w\"\n\n /*2:*/\n#line 4 \"a.w\"\n\n1\n/*:2*/\n#line 3 \"a.w\"\n\n/*:1*/\n",
         ) ∷ [],
       )
+  pub two_names_of_one_file : tangled_web (codes "@ A.\n@(./h.h@>=\n1\n@ @(h.h@>=\n2\n@ @(/../a@>=\n@ @(.//a.c@>=\n3\n")
+      ≡ (
+        fault_about FileClash (line 7) (codes ".//a.c") ∷ fault_about FileTwice (line 4) (codes "h.h")
+            ∷ fault_unplaced NoProgram ∷ [],
+        (codes "a.c", []) ∷ (codes "./h.h", codes "/*1:*/\n#line 2 \"a.w\"\n\n1\n/*:1*/\n")
+            ∷ (codes "/../a", codes "/*3:*/\n#line 6 \"a.w\"\n\n/*:3*/\n") ∷ [],
+      )
 
 names : Names
-unfolding source_at web_at reads_in tokens_from lexeme occurrences_from levels heaviest digits
+unfolding source_at web_at reads_in tokens_from lexeme occurrences_from levels heaviest digits plain_form
 names = search rules

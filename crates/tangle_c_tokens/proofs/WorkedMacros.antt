@@ -21,10 +21,11 @@ use Rattle.tangle_c_tokens.specs.Groups.{groups, group_text}
 use Rattle.tangle_c_tokens.specs.Macros.{stay_apart, IsReadAlone}
 use Rattle.std.proofs.lemmas.Bool.Decides.{nat_tests}
 
--- the items of the examples: words, signs, a header name, and a verbatim text that is a backslash
+-- the items of the examples: words, signs, a header name, a character constant, and a verbatim text
+-- that is a backslash
 
 abbrev texts : List (List ℕ)
-texts = codes "f ( x ) 1 . e + 1e / * <x> = \\ els" ∷ []
+texts = codes "f ( x ) 1 . e + 1e / * <x> = \\ els 'x'" ∷ []
 
 abbrev span : SpanKind → ℕ → ℕ → Token
 span kind start end = token.Span kind (record { line = 0; start = start; end = end })
@@ -70,6 +71,9 @@ equals = span span_kind.Sign 27 28
 
 abbrev backslash_text : Token
 backslash_text = span span_kind.Verbatim 29 30
+
+abbrev character : Token
+character = span span_kind.Quoted 35 38
 
 abbrev line_end : Token
 line_end = token.LineEnd 0
@@ -117,6 +121,9 @@ number_before = name ∷ token.White ∷ one ∷ full_stop ∷ letter ∷ line_e
 abbrev number_in_sign : List Token
 number_in_sign = name ∷ token.White ∷ number ∷ plus ∷ line_end ∷ argument ∷ []
 
+abbrev number_in_character : List Token
+number_in_character = name ∷ token.White ∷ number ∷ plus ∷ line_end ∷ character ∷ []
+
 abbrev header_name : List Token
 header_name = name ∷ token.White ∷ header ∷ line_end ∷ equals ∷ []
 
@@ -131,16 +138,19 @@ record Examples : Type 0 where
   pub comment_written : IsWritten comment "#define f /* x\n"
   pub comment_read : AreRead comment "# define f" "# define f x"
   pub comment_refused : is_whole (group_text texts (slash ∷ asterisk ∷ [])) ≡ false
-  -- A number of several items that goes on with a sign, and one that goes on with a word after a
-  -- sign.
+  -- A number of several items that goes on with a sign, one that goes on with a word after a sign,
+  -- and one that goes on with an apostrophe after a sign.
   pub number_before_written : IsWritten number_before "#define f 1.e\\\n+1\n"
   pub number_before_read : AreRead number_before "# define f 1.e+1" "# define f 1.e + 1"
   pub number_in_sign_written : IsWritten number_in_sign "#define f 1e+\\\nx\n"
   pub number_in_sign_read : AreRead number_in_sign "# define f 1e+x" "# define f 1e+ x"
+  pub number_in_character_written : IsWritten number_in_character "#define f 1e+\\\n'x'\n"
+  pub number_in_character_read : AreRead number_in_character "# define f 1e+'x '" "# define f 1e+ 'x'"
   pub numbers_refused :
       (stay_apart texts (group_text texts (one ∷ full_stop ∷ letter ∷ [])) (Some letter)
       (Some plus) ≡ false)
       × (stay_apart texts (group_text texts (number ∷ plus ∷ [])) (Some plus) (Some argument) ≡ false)
+      × (stay_apart texts (group_text texts (number ∷ plus ∷ [])) (Some plus) (Some character) ≡ false)
   -- Another number does not go on: `1.f`, and then a plus sign.
   pub number_ended : stay_apart texts (group_text texts (one ∷ full_stop ∷ name ∷ [])) (Some name)
       (Some plus) ≡ true

@@ -1,3 +1,4 @@
+pub mod NumberWords
 pub mod WordKinds
 pub mod Lines
 pub mod LineFeeds

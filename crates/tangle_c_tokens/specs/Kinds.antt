@@ -12,7 +12,7 @@ use Rattle.tangle_lexer.specs.declared.tokens.SpanKind.TheVariants as span_kind
 use Rattle.tangle_lexer.specs.SpanBytes.{first_byte}
 use Rattle.tangle_scan.specs.ReadAsMeant.{token_bytes}
 use Rattle.c_tokens.specs.Bytes.{line_feed, double_quote, apostrophe}
-use Rattle.c_tokens.specs.Grammar.{ends_quoted}
+use Rattle.c_tokens.specs.Grammar.{is_number, ends_quoted}
 use Rattle.c_tokens.specs.Reading.{spliced}
 use Rattle.c_tokens.specs.Touching.{TextKind, is_separator, is_operator, IsOfKind}
 use Rattle.c_tokens.specs.Touching.TextKind.{Separator, Operator, Plain, Other}
@@ -38,11 +38,12 @@ module _ (texts : List (List ℕ)) where
   item_kind (token.Span span_kind.Quoted s) = Plain
   item_kind _ = Other
 
-  -- A word or a sign is of its kind. Nothing is said of verbatim texts, which the author answers
-  -- for, nor of tokens without bytes of the source.
+  -- A word or a sign is of its kind, and a word that begins with a digit is one number. Nothing is
+  -- said of verbatim texts, which the author answers for, nor of tokens without bytes of the source.
   abbrev pub HasItsKind : Token → Type 0
   HasItsKind (token.Span span_kind.Word s) =
       IsTextOfKind (item_kind (token.Span span_kind.Word s)) (span_text texts s)
+      × (is_digit (first_byte texts s) ≡ true → is_number (span_text texts s) ≡ true)
   HasItsKind (token.Span span_kind.Sign s) =
       IsTextOfKind (item_kind (token.Span span_kind.Sign s)) (span_text texts s)
   HasItsKind _ = Unit {0}
@@ -52,10 +53,10 @@ module _ (texts : List (List ℕ)) where
 
 abbrev pub is_range : Token → Bool
 is_range (token.Span span_kind.Quoted s) = true
-is_range token.QuoteBreak = true
+is_range (token.QuoteBreak line) = true
 is_range _ = false
 
--- header-name (C11, 6.4.7), after its `<`: characters other than `>` and the line feed, and then
+-- header-name (C23, 6.4.7), after its `<`: characters other than `>` and the line feed, and then
 -- `>`, which is the last byte
 abbrev pub ends_header_name : List ℕ → Bool
 ends_header_name [] = false

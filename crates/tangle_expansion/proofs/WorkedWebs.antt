@@ -141,8 +141,8 @@ macros = (refl, refl)
 abbrev class_byte : ByteClass → ℕ
 class_byte (OfItem origin false) = 48 + origin.line
 class_byte (OfItem origin true) = 97 + origin.line
-class_byte LineFeed = 10
-class_byte Other = 32
+class_byte (LineFeed border) = 10
+class_byte (Other border) = 32
 
 joined_classes : map class_byte (classes 1001 (source joined) (web joined) Program)
     ≡ 32 ∷ 32 ∷ 10 ∷ (48 + 3) ∷ (97 + 4) ∷ (97 + 4) ∷ 32 ∷ (48 + 5) ∷ (48 + 5) ∷ 10 ∷ 32 ∷ []

@@ -48,12 +48,13 @@ kept_output_bytes numbers kept output =
     output_file_bytes numbers output.has_macros output.has_piece (node_symbols kept output.node)
 
 -- The bytes are those of the node's expansion and, where marks are written in full, the counted
--- origin at each byte of a source item outside stretches is that of the byte's source line. Before
--- the first mark of a file the origin is unknown.
+-- origin at each byte of a source item that is read, outside of stretches, is that of the byte's
+-- source line, whichever groups a compiler leaves out. Before the first mark of a file, which is in
+-- no group, the origin is unknown.
 pub record IsTrueToLines (source : SourceRead) (web : WebRead)
     (node : Title) (bytes : List ℕ) : Type 0 where
   pub written : bytes
       ≡ expansion_bytes (numbers_of web (table_of web) Full)
       (flat_of (shapes web (table_of web)) node)
   pub origins : AreAtTheirOrigins (numbers_of web (table_of web) Full)
-      None (flat_of (shapes web (table_of web)) node) (classes levels source web node)
+      true None (flat_of (shapes web (table_of web)) node) (classes levels source web node)

@@ -1,6 +1,6 @@
 //! Laws of the definitions of expansions and of their bytes.
 ghost use Rattle.std.specs.Prelude.{◌*◌, List, [], slice_index_or, ◌≡◌, ◌≢◌};
-ghost use Rattle.std.specs.Prelude.{◌<◌, ◌≤◌, ℕ, min, length, map, flat_map, Contains, Option};
+ghost use Rattle.std.specs.Prelude.{◌<◌, ◌≤◌, ℕ, Bool, min, length, map, flat_map, Contains, Option};
 ghost use Rattle.tangle_lines.specs.declared.origin.Origin.{Origin};
 ghost use Rattle.tangle_lines.specs.Reading.{SourceRead};
 ghost use Rattle.tangle_scan.specs.Web.{WebRead, web_of};
@@ -26,19 +26,21 @@ ghost use Rattle.tangle_expansion.specs.PieceBytes.{piece_bytes, AreWrittenAsMea
 ghost use Rattle.tangle_expansion.specs.Location.{AreAtTheirOrigins, classes};
 
 /// If the source items of each piece are at their lines, then in a whole output the counted origin
-/// at each byte of a source item outside stretches is that of the byte's source line.
+/// at each byte of a source item that is read, outside of stretches, is that of the byte's source
+/// line, whichever groups of lines a compiler leaves out.
 pub fn bytes_are_at_their_origins()
     ensures { (source : SourceRead) (web : WebRead) (fuel : ℕ) (node : Title)
-        (origin : Option Origin)
+        (read : Bool) (origin : Option Origin)
         → PiecesAreAtTheirLines source web
-        → AreAtTheirOrigins (numbers_of web (table_of web) Full) origin
+        → AreAtTheirOrigins (numbers_of web (table_of web) Full) read origin
         (flat fuel (shapes web (table_of web)) node) (classes fuel source web node) }
 {}
 
 /// The expansion of each node, written with marks in full, is true to lines if each piece is, which
-/// `tangle_scan::scan` promises. The counted origin at each byte of a word, a sign, a quoted or
-/// verbatim text or an ASCII constant is that of the byte's source line, except in stretches. Of
-/// all other bytes nothing is said: those of macros, blanks, line ends, marks and the comments
+/// `tangle_scan::scan` promises. Whichever groups of lines a compiler leaves out, in those that it
+/// reads the counted origin at each byte of a word, a sign, a quoted or verbatim text or an ASCII
+/// constant is that of the byte's source line, except in stretches. Of all other bytes nothing is
+/// said: those of macros, blanks, line ends, marks and the comments
 /// around a piece.
 #[tactic(auto, using(crate::proofs::LineTruth::true_to_lines))]
 pub fn outputs_are_true_to_lines()

@@ -49,6 +49,7 @@ fn wording(kind: FaultKind) -> (&'static [u8], Ending)
         FaultKind::MisplacedH => (b"@h in a macro", Ending::Nothing),
         FaultKind::MacroName => (b"macro must start with an identifier", Ending::Nothing),
         FaultKind::ControlText => (b"control text did not end", Ending::Nothing),
+        FaultKind::RawString => (b"raw string", Ending::Nothing),
         FaultKind::StringAt => (b"single @ in quoted text", Ending::Nothing),
         FaultKind::StringEnd => (b"quoted text did not end", Ending::Nothing),
         FaultKind::VerbatimEnd => (b"verbatim text did not end", Ending::Nothing),
@@ -67,6 +68,7 @@ fn wording(kind: FaultKind) -> (&'static [u8], Ending)
         FaultKind::SelfContaining => (b"contains itself: ", Ending::SectionName),
         FaultKind::TooLarge => (b"too large: ", Ending::NameOrProgram),
         FaultKind::FileClash => (b"file name is the main file's: ", Ending::SectionName),
+        FaultKind::FileTwice => (b"file has another name: ", Ending::SectionName),
         FaultKind::NoProgram => (b"no program text", Ending::Nothing),
     }
 }

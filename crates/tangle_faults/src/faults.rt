@@ -46,6 +46,8 @@ pub enum FaultKind {
     MacroName,
     /// A control text that did not end.
     ControlText,
+    /// A raw string of C++ that does not end where C++ ends it.
+    RawString,
     /// A single `@` in quoted or verbatim text.
     StringAt,
     /// A quoted text that did not end.
@@ -75,8 +77,10 @@ pub enum FaultKind {
     /// A section that is too heavy or too deep. The fault has its name, or no place where it is
     /// about the unnamed program.
     TooLarge,
-    /// A file with `@(` that has the name of the main file. The fault has the name.
+    /// A file with `@(` that is the main file, by its plain form. The fault has the name.
     FileClash,
+    /// A file with `@(` that is an earlier one by another name. The fault has the name.
+    FileTwice,
     /// A web without program text. This is a warning.
     NoProgram,
 }

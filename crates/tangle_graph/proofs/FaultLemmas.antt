@@ -24,9 +24,9 @@ candidates_step g n names true none sofar =
 candidates_step g n names false none sofar =
     search (rules, range_more)
 
-pub one_after_another : {X : Type 0} (a b c d e f g : List X)
-    → (((((a ++ b) ++ c) ++ d) ++ e) ++ f) ++ g ≡ a ++ (b ++ (c ++ (d ++ (e ++ (f ++ g)))))
-one_after_another a b c d e f g = simp append_assoc
+pub one_after_another : {X : Type 0} (a b c d e f g h : List X)
+    → ((((((a ++ b) ++ c) ++ d) ++ e) ++ f) ++ g) ++ h ≡ a ++ (b ++ (c ++ (d ++ (e ++ (f ++ (g ++ h))))))
+one_after_another a b c d e f g h = simp append_assoc
 
 -- The faults of a graph are determined: two such lists are equal.
 

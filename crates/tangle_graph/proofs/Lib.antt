@@ -19,4 +19,7 @@ pub mod OutputLemmas
 mod OrderingLemmas
 pub mod FaultLemmas
 mod NameGraphLemmas
+mod PlainFormLemmas
+mod WorkedForms
+mod NamedFileLemmas
 pub mod StoredLemmas

@@ -1,7 +1,7 @@
 -- Nodes and their titles.
 use Rattle.std.proofs.Common.{rules}
-use Rattle.std.proofs.Common.{◌≡◌, ◌∙◌, ◌<◌, ◌≤◌, ℕ, zero, suc, true, List, [], length, get_or, refl, ap, sym}
-use Rattle.std.proofs.Common.{arith, Some, None, false, true≢false}
+use Rattle.std.proofs.Common.{◌≡◌, ◌∙◌, ◌<◌, ◌≤◌, ℕ, zero, suc, List, [], length, get_or, refl, ap, sym}
+use Rattle.std.proofs.Common.{arith, Some, None, true≢false}
 use Rattle.std.specs.List.{position}
 use Rattle.std.specs.List.{IsDistinct}
 use Rattle.std.specs.Str.{bytes_eq}

@@ -4,7 +4,6 @@ use Rattle.std.proofs.Common.{◌≡◌, ◌<◌, ◌||◌, ℕ, Bool, true, fal
 use Rattle.std.proofs.Common.{sym, subst, inl, inr, arith}
 use Rattle.std.specs.Prelude.{not, if◌then◌else◌, Contains, All}
 use Rattle.std.specs.List.{range_with_len}
-use Rattle.std.specs.Str.{bytes_eq}
 use Rattle.std.proofs.lemmas.Bool.{and_parts}
 use Rattle.std.proofs.lemmas.List.Elements.{All-contains}
 use Rattle.std.proofs.lemmas.List.Elements.{Contains-append_cases}
@@ -20,6 +19,7 @@ use Rattle.tangle_plans.specs.Nodes.{title_at}
 use Rattle.tangle_graph.specs.Nodes.{IsNodeOf}
 use Rattle.tangle_graph.specs.Outputs.{shape_has_piece, is_expandable, file_names, first_file_name}
 use Rattle.tangle_graph.specs.Outputs.{main_output, named_file, main_file, is_written, outputs}
+use Rattle.tangle_graph.specs.Outputs.{is_earlier_file, is_main_file}
 use Rattle.tangle_graph.proofs.ListLemmas.{all_flat}
 use Rattle.tangle_graph.proofs.NodeLemmas.{title_inside}
 use Rattle.tangle_graph.proofs.StoreLemmas.{expandable_is, no_pieces}
@@ -62,7 +62,8 @@ module _ (web : WebRead) (table : TableRead) (resolves : ResolvesInside table) w
       there = λ t. subst (IsExpandableNode (shapes web table)) (sym (title_inside table.names id h))
           ((expandable_is (shapes web table) (Named (name_at table id))).0
           (and_parts (is_expandable (shapes web table) (Named (name_at table id)))
-          (not (bytes_eq (name_at table id) out)) is).0);
+          (not (is_main_file (shapes web table) table out id
+          || is_earlier_file (shapes web table) table out id)) is).0);
       none = λ f. absurd (let no : true ≡ false = f in cc);
     }
 

@@ -12,7 +12,7 @@ use Rattle.tangle_plans.specs.declared.nodes.NodeBody.{NodeBody}
 use Rattle.tangle_expansion.specs.Limits.{weight_cap, levels, heaviest, weight_of, depth_of}
 use Rattle.tangle_expansion.proofs.SameShapes.{weight_by_uses, depth_by_uses}
 use Rattle.tangle_graph.specs.Measures.{AreUsesMeasured, greatest_by, measure_at, measure_of, no_piece_measure}
-use Rattle.tangle_graph.specs.Outputs.{is_expandable, shape_has_piece}
+use Rattle.tangle_graph.specs.Outputs.{shape_has_piece}
 use Rattle.tangle_graph.specs.declared.measures.Measure.{Measure}
 use Rattle.tangle_graph.proofs.MeasureLemmas.{depth_counted}
 use Rattle.tangle_graph.proofs.StoreLemmas.{expandable_by_limits}

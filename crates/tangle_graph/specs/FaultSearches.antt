@@ -13,14 +13,14 @@ use Rattle.tangle_graph.specs.Faults.{has_piece_of_node, fault_of, fault_occurre
 use Rattle.tangle_graph.specs.Faults.{faults_of_names}
 use Rattle.tangle_plans.specs.Nodes.{title_at}
 use Rattle.tangle_plans.specs.Shapes.{Uses}
-use Rattle.tangle_graph.specs.Outputs.{is_expandable}
+use Rattle.tangle_graph.specs.Outputs.{is_earlier_file, is_expandable, is_main_file}
 use Rattle.tangle_graph.specs.Stores.{contains_itself_at, flag_at, has_piece_at}
 use Rattle.tangle_graph.specs.Stores.{is_expandable_at}
 use Rattle.tangle_graph.specs.declared.faults.FaultSearch.{FaultSearch}
 
 module _ (search : FaultSearch) where
   -- The store says which nodes have a piece, contain themselves, reach a name that does, and are
-  -- expandable. The first uses of the names are those of the web.
+  -- expandable. Flags say which names are the main file's or an earlier file's. The first uses of the names are those of the web.
   pub record IsFaultSearch : Type 0 where
     pub has_piece : (n : Node) → n ≤ length search.table.now.names
         → has_piece_at search.store.now n ≡ has_piece_of_node search.web.now search.table.now n
@@ -34,6 +34,13 @@ module _ (search : FaultSearch) where
     pub expandable : (n : Node) → n ≤ length search.table.now.names
         → is_expandable_at search.store.now n
         ≡ is_expandable (shapes search.web.now search.table.now) (title_at search.table.now.names n)
+    pub main_files : (id : ℕ) → id < length search.table.now.names
+        → flag_at search.named_files.main.items id
+        ≡ is_main_file (shapes search.web.now search.table.now) search.table.now search.out.now id
+    pub earlier_files : (id : ℕ) → id < length search.table.now.names
+        → flag_at search.named_files.earlier.items id
+        ≡ is_earlier_file (shapes search.web.now search.table.now) search.table.now
+        search.out.now id
     pub uses_size : length search.first_uses.items ≡ length search.table.now.names
     pub first_uses : (id : ℕ) → id < length search.table.now.names
         → slice_index_or search.first_uses.items id 0

@@ -1,11 +1,10 @@
--- The faults of the graph of names: a name is undefined, never used, contains itself, is too large
--- or is that of the main file; or the program is too large or has no piece.
+-- The faults of the graph of names: a name is undefined, never used, contains itself, is too large,
+-- or is that of the main file or of an earlier file; or the program is too large or has no piece.
 use Rattle.std.specs.Prelude.{◌≡◌, ◌≤◌, ◌↔◌, ℕ, suc, Bool, true}
 use Rattle.std.specs.Prelude.{not, ◌&&◌, List, [], ◌∷◌, ◌++◌, length}
 use Rattle.std.specs.Prelude.{map, flat_map, slice_get, slice_index_or, Option, Some, None}
 use Rattle.std.specs.Prelude.{option_to_list, is_some, position, if◌then◌else◌}
 use Rattle.std.specs.List.{range_with_len}
-use Rattle.std.specs.Str.{bytes_eq}
 use Rattle.digraph.specs.Nodes.{Node, program}
 use Rattle.digraph.specs.Reach.{ContainsItself, ReachesCycle}
 use Rattle.tangle_faults.specs.declared.faults.FaultKind.{FaultKind}
@@ -20,6 +19,7 @@ use Rattle.tangle_plans.specs.Shapes.{Uses}
 use Rattle.tangle_plans.specs.WebShapes.{name_at, shapes}
 use Rattle.tangle_plans.specs.Nodes.{title_at}
 use Rattle.tangle_graph.specs.Outputs.{shape_has_piece, is_expandable, first_file_occurrence}
+use Rattle.tangle_graph.specs.Outputs.{is_earlier_file, is_main_file}
 
 -- a fault about a name, at the occurrence with this number, or none where there is no number
 module _ (web : WebRead) (table : TableRead) where
@@ -75,7 +75,11 @@ module _ (web : WebRead) (table : TableRead) (out : List ℕ)
       then first_occurrence_number web table id
       else None
   fault_occurrence kind.FileClash id =
-      if has_piece_of_node web table (suc id) && bytes_eq (name_at table id) out
+      if is_main_file (shapes web table) table out id
+      then first_file_occurrence table id
+      else None
+  fault_occurrence kind.FileTwice id =
+      if is_earlier_file (shapes web table) table out id
       then first_file_occurrence table id
       else None
   fault_occurrence _ id = None
@@ -103,7 +107,8 @@ module _ (web : WebRead) (table : TableRead) (out : List ℕ)
       faults_of_names kind.Undefined
       ++ (faults_of_names kind.Unused ++ (faults_of_names kind.SelfContaining
       ++ (faults_of_names kind.TooLarge
-      ++ (large_program ++ (faults_of_names kind.FileClash ++ no_program)))))
+      ++ (large_program ++ (faults_of_names kind.FileClash
+      ++ (faults_of_names kind.FileTwice ++ no_program))))))
 
 -- the faults of the graph of names of a web, for a main file of this name
 pub record AreGraphFaults (web : WebRead) (table : TableRead)

@@ -2,7 +2,9 @@ pub mod Nodes
 pub mod Grouping
 pub mod Bodies
 pub mod Measures
+pub mod PlainForms
 pub mod Outputs
+pub mod NamedFiles
 pub mod Stores
 pub mod Ordering
 pub mod StoreView

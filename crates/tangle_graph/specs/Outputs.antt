@@ -1,8 +1,8 @@
 -- The output files of a web: the main file, and the named ones.
 use Rattle.std.specs.Prelude.{ℕ, suc, Bool, true, false, not, ◌&&◌, ◌||◌, nat_lt, nat_le}
 use Rattle.std.specs.Prelude.{if◌then◌else◌, List, [], ◌∷◌, ◌++◌, length, map, filter, flat_map}
-use Rattle.std.specs.Prelude.{slice_index_or, Option, None}
-use Rattle.std.specs.List.{range_with_len}
+use Rattle.std.specs.Prelude.{slice_index_or, is_some, Option, None}
+use Rattle.std.specs.List.{list_any, range_with_len}
 use Rattle.std.specs.Str.{bytes_eq}
 use Rattle.tangle_scan.specs.Web.{WebRead}
 use Rattle.tangle_names.specs.NameTable.{TableRead}
@@ -14,6 +14,7 @@ use Rattle.tangle_plans.specs.ItemTags.{uses_resolved}
 use Rattle.tangle_plans.specs.WebShapes.{name_at, resolved_at, shapes}
 use Rattle.digraph.specs.Nodes.{program}
 use Rattle.tangle_graph.specs.Grouping.{has_number_in}
+use Rattle.tangle_graph.specs.PlainForms.{plain_form}
 
 -- the node with this shape has a piece
 abbrev pub shape_has_piece : Shape → Bool
@@ -49,6 +50,35 @@ named_file table id = record {
   has_piece = true;
 }
 
+-- the plain form of a name
+abbrev pub form_at : TableRead → ℕ → List ℕ
+form_at table id = plain_form (name_at table id)
+
+-- the name is that of a file: an occurrence of it begins with `@(`, and it has a piece
+abbrev pub is_file : Shapes → TableRead → ℕ → Bool
+is_file shapes table id =
+    is_some (first_file_occurrence table id)
+    && shape_has_piece (shapes (Named (name_at table id)))
+
+-- Files that have the name of another file, for a main file of the name `out`. Names are compared by
+-- their plain forms.
+module _ (shapes : Shapes) (table : TableRead) (out : List ℕ) where
+  -- the file is the main file
+  abbrev pub is_main_file : ℕ → Bool
+  is_main_file id = is_file shapes table id && bytes_eq (form_at table id) (plain_form out)
+
+  -- the file is not the main file
+  abbrev pub is_named_file : ℕ → Bool
+  is_named_file id = is_file shapes table id && not (bytes_eq (form_at table id) (plain_form out))
+
+  -- the file is that of an earlier name, and not the main file
+  abbrev pub is_earlier_file : ℕ → Bool
+  is_earlier_file id =
+      is_named_file id
+      && list_any
+      (λ earlier. is_named_file earlier && bytes_eq (form_at table id) (form_at table earlier))
+      (range_with_len 0 id)
+
 module _ (web : WebRead) (table : TableRead) (out : List ℕ) where
   abbrev pub main_output : OutputRead
   main_output = record {
@@ -66,11 +96,12 @@ module _ (web : WebRead) (table : TableRead) (out : List ℕ) where
       then main_output ∷ []
       else []
 
-  -- the name has a file of its own
+  -- the name has a file of its own, which can be written
   abbrev pub is_written : ℕ → Bool
   is_written id =
       is_expandable (shapes web table) (Named (name_at table id))
-      && not (bytes_eq (name_at table id) out)
+      && not (is_main_file (shapes web table) table out id
+      || is_earlier_file (shapes web table) table out id)
 
   -- the main file first, and then the named ones in the order of their first file occurrences
   abbrev pub outputs : List OutputRead

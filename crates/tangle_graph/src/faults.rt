@@ -1,5 +1,5 @@
-//! The faults of the graph of names: a name is undefined, never used, contains itself, is too large
-//! or is that of the main file; or the program is too large or has no piece.
+//! The faults of the graph of names: a name is undefined, never used, contains itself, is too large,
+//! or is that of the main file or of an earlier file; or the program is too large or has no piece.
 ghost use Rattle.std.specs.Prelude.{◌≡◌, ◌<◌, ◌≤◌, ◌++◌, ◌∷◌, [], false, None, All, IfOk, OnOk};
 ghost use Rattle.std.specs.Prelude.{length, if◌then◌else◌};
 ghost use Rattle.tangle_faults.specs.Faults.{fault_unplaced};
@@ -9,6 +9,7 @@ ghost use Rattle.tangle_graph.specs.FaultSearches.{HaveTheFaults, IsFaultSearch,
 ghost use Rattle.tangle_graph.specs.FaultSearches.{fault_of_name, faults_of_kind};
 ghost use Rattle.tangle_graph.specs.Stores.{flag_at};
 
+use crate::named_files::NamedFiles;
 use crate::outputs::push_where;
 use crate::store::Store;
 use digraph::Node;
@@ -18,8 +19,8 @@ use tangle_names::NameTable;
 use tangle_scan::Web;
 
 /// From what the faults of the graph are found: a web with its table of names, the name of its main
-/// file and its store; and for each name the number of the first use that resolves to it, or the
-/// number of all occurrences where none does.
+/// file and its store; for each name the number of the first use that resolves to it, or the number
+/// of all occurrences where none does; and which files have the name of another file.
 #[derive(Drop)]
 pub(crate) struct FaultSearch<'f, 's, 'a> {
     pub(crate) web: &'f Web<'s, 'a>,
@@ -27,6 +28,7 @@ pub(crate) struct FaultSearch<'f, 's, 'a> {
     pub(crate) out: &'f [u8],
     pub(crate) store: &'f Store,
     pub(crate) first_uses: Vec<usize>,
+    pub(crate) named_files: NamedFiles,
 }
 
 fn number_if(has_fault: bool, number: Option<usize>) -> Option<usize>
@@ -94,6 +96,7 @@ impl<'f, 's, 'a> FaultSearch<'f, 's, 'a> {
         let node = Node::name(id);
         let use_number = self.first_use(id);
         let first = Some(self.table.first_occurrence(id));
+        let first_file = self.table.first_file_occurrence(id);
         let has_piece = self.has_piece(node);
         match kind {
             FaultKind::Undefined => number_if(!has_piece, use_number),
@@ -103,10 +106,8 @@ impl<'f, 's, 'a> FaultSearch<'f, 's, 'a> {
             ),
             FaultKind::SelfContaining => number_if(self.store.self_containing(node), first),
             FaultKind::TooLarge => number_if(self.is_too_large(node), first),
-            FaultKind::FileClash => number_if(
-                has_piece && self.table.text(id) == self.out,
-                self.table.first_file_occurrence(id),
-            ),
+            FaultKind::FileClash => number_if(self.named_files.is_main_file(id), first_file),
+            FaultKind::FileTwice => number_if(self.named_files.is_earlier_file(id), first_file),
             _ => None,
         }
     }
@@ -199,6 +200,7 @@ impl<'f, 's, 'a> FaultSearch<'f, 's, 'a> {
         self.add_faults(alloc, FaultKind::TooLarge, &names, &mut faults)?;
         add_unplaced(alloc, FaultKind::TooLarge, is_large, &mut faults)?;
         self.add_faults(alloc, FaultKind::FileClash, &names, &mut faults)?;
+        self.add_faults(alloc, FaultKind::FileTwice, &names, &mut faults)?;
         add_unplaced(alloc, FaultKind::NoProgram, !has_piece, &mut faults)?;
         Ok(faults)
     }

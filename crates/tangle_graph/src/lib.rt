@@ -8,9 +8,11 @@ mod flags;
 mod laws;
 mod measures;
 mod name_graph;
+mod named_files;
 mod nodes;
 mod outputs;
 mod pieces;
+mod plain_forms;
 mod shapes;
 mod store;
 

@@ -50,7 +50,7 @@ const BEYOND: Measure = Measure {
 };
 
 /// What is recorded of the name with this number.
-fn measure_of_name(measures: &[Measure], id: usize) -> Measure
+pub(crate) fn measure_of_name(measures: &[Measure], id: usize) -> Measure
     ensures { result ≡ measure_at measures.now (suc id) }
 {
     entry(measures, Node::name(id), NO_PIECE)

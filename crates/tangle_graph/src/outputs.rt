@@ -2,7 +2,6 @@
 ghost use Rattle.std.specs.Prelude.{◌≡◌, [], ◌∷◌, ◌++◌, IfOk, OnOk, length, All};
 ghost use Rattle.std.specs.Prelude.{if◌then◌else◌, not, ◌&&◌, ◌||◌, ◌<◌, ◌+◌};
 ghost use Rattle.std.specs.Prelude.{true, false};
-ghost use Rattle.std.specs.Str.{bytes_eq};
 ghost use Rattle.digraph.specs.Nodes.{program};
 ghost use Rattle.tangle_plans.specs.WebShapes.{ResolvesInside, shapes};
 ghost use Rattle.tangle_graph.specs.Grouping.{has_number_in};
@@ -11,10 +10,12 @@ ghost use Rattle.tangle_graph.specs.Outputs.{first_file_name, first_file_occurre
 ghost use Rattle.tangle_graph.specs.Outputs.{file_names, outputs};
 
 use crate::measures::{Measure, NO_PIECE};
+use crate::named_files::NamedFiles;
 use crate::nodes::entry;
 use digraph::Node;
 use std::alloc::{AllocError, Global};
 use tangle_expansion::Output;
+use tangle_lines::NoMemory;
 use tangle_names::{NameTable, Resolved};
 use tangle_scan::Web;
 
@@ -101,17 +102,17 @@ fn main_file(
     Ok(files)
 }
 
-/// Adds the file of the node of a name, if the name has a file that is not the main file.
+/// Adds the file of the node of a name, if the name is expandable and not that of another file.
 fn add_named_file(
     alloc: Global,
     name: &[u8],
     node: Node,
-    out: &[u8],
     expandable: bool,
+    is_other: bool,
     files: &mut Vec<Output>,
 ) -> Result<(), AllocError>
     ensures { OnOk result (files.new.items ≡ files.old.items
-        ++ (if expandable && not (bytes_eq name.now out.now)
+        ++ (if expandable && not is_other
         then record {
           name = name.now;
           node = node;
@@ -119,7 +120,7 @@ fn add_named_file(
           has_piece = true;
         } ∷ [] else [])) }
 {
-    if expandable && name != out {
+    if expandable && !is_other {
         let name = Vec::from_slice(alloc, name)?;
         files.push(Output::new(name, node, false, true))?;
     }
@@ -133,7 +134,7 @@ pub(crate) fn outputs(
     table: &NameTable,
     out: &[u8],
     measures: &[Measure],
-) -> Result<Vec<Output>, AllocError>
+) -> Result<Vec<Output>, NoMemory>
     requires inside { ResolvesInside table.now }
     requires ours { length table.now.resolved ≡ length web.now.occurrences }
     requires size { length measures.now ≡ length table.now.names + 1 }
@@ -141,13 +142,22 @@ pub(crate) fn outputs(
     ensures { IfOk result (λ files. files.items ≡ outputs web.now table.now out.now) }
 {
     let names = file_names(alloc, web, table)?;
+    let named = NamedFiles::find(alloc, table, out, measures)?;
     let program = entry(measures, Node::program(), NO_PIECE);
     let mut files = main_file(alloc, web, out, program.depth > 0, program.is_expandable)?;
     for id in &names {
         let node = Node::name(*id);
         let name = table.text(*id);
         let measure = entry(measures, node, NO_PIECE);
-        add_named_file(alloc, name, node, out, measure.is_expandable, &mut files)?;
+        let is_other = named.has_other_name(*id);
+        add_named_file(
+            alloc,
+            name,
+            node,
+            measure.is_expandable,
+            is_other,
+            &mut files,
+        )?;
     }
     Ok(files)
 }

@@ -21,6 +21,7 @@ use crate::bodies::{GroupedWeb, bodies_by_node};
 use crate::faults::FaultSearch;
 use crate::measures::{Measure, NO_PIECE, measures_of_nodes};
 use crate::name_graph::{NameGraph, are_same_names, have_same_uses};
+use crate::named_files::NamedFiles;
 use crate::nodes::entry;
 use crate::outputs::outputs;
 use crate::pieces::pieces_by_node;
@@ -205,7 +206,8 @@ impl Store {
 
     /// The output files: the main file first, if the program has no piece or is expandable, and
     /// then each other file name with a piece that is expandable, in the order of their first
-    /// occurrences that begin with `@(`.
+    /// occurrences that begin with `@(`. Of the names of one file, compared by their plain forms,
+    /// only the first has an output, in the order of the names.
     pub fn outputs(&self) -> &[Output]
         ensures { result.now ≡ self.now.outputs }
     {
@@ -213,8 +215,8 @@ impl Store {
     }
 
     /// The faults of the graph of the store's web: names that are used and have no piece, names that
-    /// are never used, names that contain themselves, nodes that are too large, and names with `@(`
-    /// that are the main file's. Each kind is in the order of the names, with the program last. The
+    /// are never used, names that contain themselves, nodes that are too large, names with `@(` that
+    /// are the main file's, and those that are an earlier file's. Each kind is in the order of the names, with the program last. The
     /// last fault is that the program has no piece. Uses in dropped pieces count, and so do uses by
     /// abbreviations.
     ///
@@ -238,6 +240,7 @@ impl Store {
             out,
             store: self,
             first_uses: table.first_numbers(alloc, web.occurrences(), Counted::Uses)?,
+            named_files: NamedFiles::find(alloc, table, out, &self.measures)?,
         };
         search.faults(alloc)
     }

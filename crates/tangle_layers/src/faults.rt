@@ -23,6 +23,7 @@ fn kind_name(kind: FaultKind) -> &'static [u8] {
         FaultKind::MisplacedH => b"MisplacedH",
         FaultKind::MacroName => b"MacroName",
         FaultKind::ControlText => b"ControlText",
+        FaultKind::RawString => b"RawString",
         FaultKind::StringAt => b"StringAt",
         FaultKind::StringEnd => b"StringEnd",
         FaultKind::VerbatimEnd => b"VerbatimEnd",
@@ -38,6 +39,7 @@ fn kind_name(kind: FaultKind) -> &'static [u8] {
         FaultKind::SelfContaining => b"SelfContaining",
         FaultKind::TooLarge => b"TooLarge",
         FaultKind::FileClash => b"FileClash",
+        FaultKind::FileTwice => b"FileTwice",
         FaultKind::NoProgram => b"NoProgram",
     }
 }

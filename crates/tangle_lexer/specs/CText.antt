@@ -102,7 +102,7 @@ abbrev pub line_after_word : Bool → LineState → LineState
 line_after_word is_include l =
     lines_of_c.after_item (include_after_word is_include l.include) false false l
 
--- a word: the cells up to the first without a word byte
+-- a word: the cells up to the first without a word byte; a number goes on over separators
 abbrev pub word : LexerState → List Cell → Lexeme
 word s text =
     lexeme_of (token.Span span_kind.Word (span_at (1 + word_more text) text) ∷ []) (word_more text)

@@ -25,12 +25,6 @@ abbrev pub is_directive : LineOfC → Bool
 is_directive line.Directive = true
 is_directive _ = false
 
--- the line has no item so far
-abbrev pub is_empty : LineOfC → Bool
-is_empty line.Directive = false
-is_empty line.Other = false
-is_empty _ = true
-
 -- the line after an item, which may be its first
 abbrev pub with_item : Bool → LineOfC → LineOfC
 with_item is_number_sign line.Directive = line.Directive

@@ -44,7 +44,7 @@ abbrev pub unit_tokens : Region → Unit-of → ℕ → Cell → Option ℕ → 
 unit_tokens r unit.Two start c next =
     if holds at_sign c.byte then cut_range r c.line start (c.column + 1) else
     if holds backslash c.byte && is_line_end next
-    then cut_range r c.line start (c.column + 1) ++ token.QuoteBreak ∷ []
+    then cut_range r c.line start (c.column + 1) ++ token.QuoteBreak c.line ∷ []
     else []
 unit_tokens r _ start c next = fault_if (holds at_sign c.byte) fault.StringAt c.line
 

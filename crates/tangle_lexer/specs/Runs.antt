@@ -9,9 +9,9 @@ use Rattle.tangle_text.specs.declared.runs.RunPart.{RunPart}
 use Rattle.tangle_text.specs.declared.runs.RunPart.TheVariants as part
 use Rattle.tangle_text.specs.declared.spans.Span.{Span}
 use Rattle.tangle_text.specs.Runs.{run_parts, has_single_spaces}
-use Rattle.tangle_text.specs.Bytes.{backslash}
+use Rattle.tangle_text.specs.Bytes.{number_sign, backslash}
 use Rattle.tangle_text.specs.Text.{IsSpan}
-use Rattle.tangle_lexer.specs.SpanBytes.{last_byte}
+use Rattle.tangle_lexer.specs.SpanBytes.{first_byte, last_byte}
 
 -- the token of a part of a run
 abbrev pub part_token : RunPart → Token
@@ -36,10 +36,11 @@ abbrev pub HasNoRun : List Token → Type 0
 HasNoRun tokens = list_any is_run tokens ≡ false
 
 -- a range of a line whose spaces each have another part directly before and after them, and that
--- does not end in a backslash
+-- does not begin with `#` and does not end in a backslash
 pub record IsRunOf (texts : List (List ℕ)) (s : Span) : Type 0 where
   pub span : IsSpan texts s
   pub spaces : has_single_spaces true (run_parts texts s) ≡ true
+  pub begins : (first_byte texts s == number_sign) ≡ false
   pub ends : (last_byte texts s == backslash) ≡ false
 
 -- the token is no run, or the run is one of these lines

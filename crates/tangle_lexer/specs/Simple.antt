@@ -6,8 +6,6 @@ use Rattle.tangle_lexer.specs.declared.modes.Mode.{Mode}
 use Rattle.tangle_lexer.specs.declared.modes.Mode.TheVariants as mode
 use Rattle.tangle_lexer.specs.declared.modes.IncludeState.{IncludeState}
 use Rattle.tangle_lexer.specs.declared.modes.IncludeState.TheVariants as include
-use Rattle.tangle_lexer.specs.declared.modes.LineOfC.{LineOfC}
-use Rattle.tangle_lexer.specs.declared.modes.LineState.{LineState}
 use Rattle.tangle_lexer.specs.declared.simple.SimpleLexeme.{SimpleLexeme}
 use Rattle.tangle_lexer.specs.declared.simple.SimpleLexeme.TheVariants as simple
 use Rattle.tangle_lexer.specs.declared.lexeme_kinds.LexemeKind.{LexemeKind}
@@ -15,7 +13,6 @@ use Rattle.tangle_lexer.specs.declared.lexeme_kinds.LexemeKind.TheVariants as le
 use Rattle.tangle_text.specs.Bytes.{number_sign, holds, is_opener, is_word_byte}
 use Rattle.tangle_text.specs.Text.{Cell, byte_at}
 use Rattle.tangle_text.specs.Runs.{holds_plain}
-use Rattle.tangle_lexer.specs.LinesOfC.{is_empty}
 use Rattle.tangle_lexer.specs.Lexemes.{is_c_part}
 use Rattle.tangle_lexer.specs.CText.{kind_at}
 
@@ -52,12 +49,12 @@ is_c_text _ = false
 
 -- runs
 
--- Neither #include nor a directive begins with this byte, and #include was not begun on its line.
-abbrev pub is_apart : IncludeState → LineOfC → Option ℕ → Bool
-is_apart include.AtStart l b = not (holds number_sign b)
-is_apart include.Elsewhere l b = not (is_empty l && holds number_sign b)
-is_apart _ l b = false
+-- No #include was begun on the line, and neither #include nor a directive begins with this byte.
+abbrev pub is_apart : IncludeState → Option ℕ → Bool
+is_apart include.AtStart b = not (holds number_sign b)
+is_apart include.Elsewhere b = not (holds number_sign b)
+is_apart _ b = false
 
--- a simple lexeme with this first byte begins a run
-abbrev pub begins_run : Mode → LineState → SimpleLexeme → Option ℕ → Bool
-begins_run m l kind b = is_c_part m && is_word_or_sign kind && is_apart l.include l.line b
+-- a run may begin with a simple lexeme that begins with this byte
+abbrev pub begins_run : Mode → IncludeState → SimpleLexeme → Option ℕ → Bool
+begins_run m inc kind b = is_c_part m && is_word_or_sign kind && is_apart inc b

@@ -81,14 +81,6 @@ impl LineOfC {
             line => line,
         }
     }
-
-    /// Whether the line has no item so far.
-    #[inline(always)]
-    pub fn is_empty(self) -> bool
-        ensures { result ≡ lines_of_c.is_empty self }
-    {
-        !matches!(self, LineOfC::Directive | LineOfC::Other)
-    }
 }
 
 /// How a line of C was read so far. A line of C begins at the front of a part, after a line end

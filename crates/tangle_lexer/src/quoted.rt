@@ -87,7 +87,7 @@ fn push_quoted_unit(
     }
     if is_two && holds(b'\\', front.byte) && front.next.is_none() {
         push_range(tokens, region, line, start, reader.column_after())?;
-        tokens.push(Token::QuoteBreak)?;
+        tokens.push(Token::QuoteBreak(line))?;
         return Ok(0);
     }
     if !is_two && holds(b'@', front.byte) {

@@ -80,19 +80,19 @@ fn is_c_text(mode: Mode) -> bool
     matches!(mode, Mode::CPart | Mode::Macro)
 }
 
-/// Whether a simple lexeme that begins with this byte begins a run. A word or a sign of a C part
-/// does, unless `#include` or a directive begins with it, or `#include` was begun before it.
+/// Whether a run may begin with a simple lexeme that begins with this byte. It may with a word and
+/// with a sign other than `#` of a C part, unless `#include` was begun before it.
 #[inline(always)]
 fn begins_run(state: LexerState, simple: SimpleLexeme, byte: Option<u8>) -> bool
-    ensures { result ≡ spec.begins_run state.mode state.line simple byte }
+    ensures { result ≡ spec.begins_run state.mode state.line.include simple byte }
 {
     matches!(state.mode, Mode::CPart)
         && matches!(simple, SimpleLexeme::Word | SimpleLexeme::Sign)
-        && match state.line.include {
-            IncludeState::AtStart => !holds(b'#', byte),
-            IncludeState::Elsewhere => { !(state.line.line.is_empty() && holds(b'#', byte)) }
-            _ => false,
-        }
+        && matches!(
+            state.line.include,
+            IncludeState::AtStart | IncludeState::Elsewhere
+        )
+        && !holds(b'#', byte)
 }
 
 /// Reads the run that begins here, or else this simple lexeme. `line` is how the line of C was read
@@ -115,10 +115,11 @@ fn run_or_simple(
 {
     let state = from.with_line(*line);
     if begins_run(state, simple, reader.byte()) {
-        let run = reader.take_run();
-        tokens.push(Token::Run(run))?;
-        line.set(state.elsewhere().line);
-        return Ok(());
+        if let Some(run) = reader.take_run() {
+            tokens.push(Token::Run(run))?;
+            line.set(state.elsewhere().line);
+            return Ok(());
+        }
     }
     let after = simple_step(tokens, reader, state, simple)?;
     line.set(after.line);

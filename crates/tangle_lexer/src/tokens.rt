@@ -38,8 +38,9 @@ pub enum Token {
     /// A run: a range of a line of words, signs and single spaces in a C part. Its words and signs
     /// are spans, and each of its spaces is white space.
     Run(Span),
-    /// A line end inside a quoted text, after a backslash. The text is cut there.
-    QuoteBreak,
+    /// A line end inside a quoted text, after a backslash, with the line that it ends. The text is
+    /// cut there.
+    QuoteBreak(u32),
     /// An ASCII constant, with its value and its line.
     AsciiConstant(u8, u32),
     /// `@&`.

@@ -5,6 +5,8 @@ pub mod WebBuilderLemmas
 pub mod ItemsByOrigin
 pub mod KeptTokens
 pub mod MacroItemLemmas
+pub mod RawLemmas
+pub mod RestLemmas
 pub mod PartLemmas
 pub mod EntryLemmas
 pub mod RuleLemmas

@@ -1,5 +1,7 @@
+pub mod Directives
 pub mod Rules
 pub mod Passes
+pub mod RawStrings
 pub mod Web
 pub mod WebBuilder
 pub mod ItemSpans

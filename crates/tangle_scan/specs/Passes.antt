@@ -1,5 +1,6 @@
 -- What the rules for items give for the tokens that a pass has not read yet.
-use Rattle.std.specs.Prelude.{◌≡◌, ◌≤◌, ℕ, ◌+◌, suc, max, Bool, true, false, ◌==◌, ◌&&◌, ◌||◌, not}
+use Rattle.std.specs.Prelude.{◌≡◌, ◌≤◌, ℕ, ◌+◌, suc, max, Bool, true, false, ◌==◌, nat_le, ◌&&◌, ◌||◌}
+use Rattle.std.specs.Prelude.{not}
 use Rattle.std.specs.Prelude.{if◌then◌else◌}
 use Rattle.std.specs.Prelude.{List, [], ◌∷◌, ◌++◌, length, take, replicate, slice_get, ◌-◌}
 use Rattle.std.specs.Prelude.{Option, Some, None, is_some, option_to_list}
@@ -8,6 +9,8 @@ use Rattle.tangle_lexer.specs.declared.tokens.Token.{Token}
 use Rattle.tangle_lexer.specs.declared.tokens.Token.TheVariants as token
 use Rattle.tangle_lexer.specs.declared.tokens.SpanKind.TheVariants as span_kind
 use Rattle.tangle_text.specs.declared.spans.Span.{Span}
+use Rattle.tangle_text.specs.declared.runs.RunPart.{RunPart}
+use Rattle.tangle_text.specs.Runs.{run_parts}
 use Rattle.tangle_scan.specs.declared.items.Item.{Item}
 use Rattle.tangle_scan.specs.declared.items.Item.TheVariants as item
 use Rattle.tangle_scan.specs.declared.items.Entry.{Entry}
@@ -17,17 +20,21 @@ use Rattle.tangle_scan.specs.declared.macro_items.MacroState.{MacroState}
 use Rattle.tangle_scan.specs.declared.parts.CountedOrigin.{CountedOrigin}
 use Rattle.tangle_scan.specs.declared.parts.PartState.{PartState}
 use Rattle.tangle_scan.specs.declared.parts.Start.{Start}
+use Rattle.tangle_scan.specs.declared.turns.Turn.{Turn}
+use Rattle.tangle_scan.specs.declared.turns.Turn.TheVariants as turn
 use Rattle.tangle_scan.specs.declared.parts.Last.{Last}
 use Rattle.tangle_scan.specs.declared.parts.Last.TheVariants as last
-use Rattle.tangle_text.specs.Bytes.{backslash, slash, is_word_byte}
+use Rattle.tangle_text.specs.Bytes.{number_sign, backslash, slash, is_word_byte}
 use Rattle.tangle_lines.specs.Reading.{SourceLine, origin_at}
+use Rattle.tangle_scan.specs.Directives.{item_ends_in, is_turn_word}
 use Rattle.tangle_scan.specs.Rules.{clean_tokens, white_inner_end, with_spaces, with_name_space}
 use Rattle.tangle_scan.specs.Rules.{may_follow_name, is_gap}
-use Rattle.tangle_scan.specs.Rules.{would_merge, is_constant, may_merge, full_stop, has_join}
+use Rattle.tangle_scan.specs.Rules.{would_merge, is_constant, may_merge, is_character, full_stop}
+use Rattle.tangle_scan.specs.Rules.{has_join}
 use Rattle.tangle_scan.specs.Rules.{without_joins, left_of_run, blanks, is_open, is_continued, at_line_front}
-use Rattle.tangle_scan.specs.Rules.{texts_of, span_item, next_line}
+use Rattle.tangle_scan.specs.Rules.{texts_of, span_text, span_item, next_line}
 use Rattle.tangle_lexer.specs.SpanBytes.{first_byte, last_byte}
-use Rattle.tangle_scan.specs.Entries.{items_of, entry_is_mark}
+use Rattle.tangle_scan.specs.Entries.{part_item, items_of, entry_is_mark}
 use Rattle.std.specs.List.{list_any}
 use Rattle.tangle_scan.specs.LineTruth.{is_expected, counted_after_line_end}
 use Rattle.tangle_scan.specs.Rules.{macro_blanks, unmarked_items, without_backslashes}
@@ -52,15 +59,72 @@ origin_of counted = record { file = counted.file; line = counted.line }
 -- the item for a token, if that is the same item in C parts and in macros
 abbrev pub item_of : Token → Option Item
 item_of (token.Span kind s) = Some (span_item kind s)
-item_of token.QuoteBreak = Some item.QuoteBreak
+item_of (token.QuoteBreak line) = Some item.QuoteBreak
 item_of (token.AsciiConstant b line) = Some (item.Code b)
 item_of _ = None
 
+-- what other crates call how much of a turn is on a line of C
+abbrev pub TurnSoFar : Type 0
+TurnSoFar = Turn
+
+-- How much of a turn is on a line of C. These are the items that make one.
+
+abbrev pub is_number_sign : List (List ℕ) → Item → Bool
+is_number_sign texts (item.Sign s) = first_byte texts s == number_sign
+is_number_sign texts _ = false
+
+abbrev pub is_turn_item : List (List ℕ) → Item → Bool
+is_turn_item texts (item.Word s) = is_turn_word (span_text texts s)
+is_turn_item texts _ = false
+
+abbrev pub turn_by : Turn → Bool → Bool → Turn
+turn_by turn.NoItem is_sign is_word = if is_sign then turn.NumberSign else turn.Other
+turn_by turn.NumberSign is_sign is_word = if is_word then turn.Whole else turn.Other
+turn_by at is_sign is_word = at
+
+-- after one more item that is no white space, or after none
+abbrev pub turn_after_item : List (List ℕ) → Turn → Option Item → Turn
+turn_after_item texts at None = at
+turn_after_item texts at (Some x) = turn_by at (is_number_sign texts x) (is_turn_item texts x)
+
+-- after a token that is no line end; after a use or @h a line of C begins
+abbrev pub turn_after : List (List ℕ) → Turn → Token → Turn
+turn_after texts at (token.UseOf line occurrence) = turn.NoItem
+turn_after texts at (token.AllMacros line) = turn.NoItem
+turn_after texts at e = turn_after_item texts at (item_of e)
+
+-- after a run, which does not begin with the sign #
+
+abbrev pub parts_begin_turn : List (List ℕ) → List RunPart → Bool
+parts_begin_turn texts [] = false
+parts_begin_turn texts (p ∷ ps) = is_turn_item texts (part_item p)
+
+abbrev pub turn_after_run : List (List ℕ) → Turn → Span → Turn
+turn_after_run texts turn.NoItem s = turn.Other
+turn_after_run texts turn.NumberSign s =
+    if parts_begin_turn texts (run_parts texts s) then turn.Whole else turn.Other
+turn_after_run texts at s = at
+
+-- after the end of a line, which has a mark unless the line is continued or is the last one
+abbrev pub turn_after_line_end : List SourceLine → Bool → ℕ → Turn → Turn
+turn_after_line_end lines continued line at =
+    if continued || nat_le (length lines) (line + 1) then at else turn.NoItem
+
+abbrev pub is_whole : Turn → Bool
+is_whole turn.Whole = true
+is_whole _ = false
+
+-- no mark is at the end of a line that is not continued: the count expects the next source line, and
+-- this line is no turn; or there is no next source line
+abbrev pub is_unmarked : List SourceLine → Bool → Origin → ℕ → Bool
+is_unmarked lines turn counted line =
+    if turn then nat_le (length lines) (line + 1) else is_expected lines counted line
+
 -- the item that rules 4 and 5 leave for the end of a line; `continued`: the next line continues
--- this one
-abbrev pub line_item : List SourceLine → Bool → Origin → ℕ → Item
-line_item lines continued counted line =
-    if continued || is_expected lines counted line then item.LineEnd
+-- this one; `turn`: this line is a turn
+abbrev pub line_item : List SourceLine → Bool → Bool → Origin → ℕ → Item
+line_item lines continued turn counted line =
+    if continued || is_unmarked lines turn counted line then item.LineEnd
     else item.LineMark (origin_at lines (line + 1))
 
 -- the items that rules 4 and 5 give for a token other than white space and line ends
@@ -74,16 +138,11 @@ items_at lines e = option_to_list (item_of e)
 abbrev pub counted_after_token : List SourceLine → Origin → Token → Origin
 counted_after_token lines counted (token.UseOf line occurrence) = origin_at lines line
 counted_after_token lines counted (token.AllMacros line) = origin_at lines line
-counted_after_token lines counted token.QuoteBreak = next_line counted
+counted_after_token lines counted (token.QuoteBreak line) = next_line counted
 counted_after_token lines counted e = counted
 
--- whether an item, an entry, or the last of these entries is a sign or a verbatim text that ends in
--- this byte, or ends with one
-
-abbrev pub item_ends_in : ℕ → List (List ℕ) → Item → Bool
-item_ends_in b texts (item.Sign s) = first_byte texts s == b
-item_ends_in b texts (item.Verbatim s) = last_byte texts s == b
-item_ends_in b texts _ = false
+-- whether an entry, or the last of these entries, is a sign or a verbatim text that ends in this
+-- byte, or ends with one
 
 abbrev pub entry_ends_in : ℕ → List (List ℕ) → Entry → Bool
 entry_ends_in b texts (entry.Item x) = item_ends_in b texts x
@@ -124,27 +183,32 @@ is_merging_end texts _ = false
 
 abbrev pub entries_merge : List (List ℕ) → List Entry → Token → Bool
 entries_merge texts entries e =
-    is_code (last_entry entries) && may_merge texts e
+    is_code (last_entry entries) && (may_merge texts e || is_character texts e)
     || is_merging_end texts (last_entry entries) && is_constant e
 
 -- rule 4 and rule 5 in one pass: the items of tokens that rule 3 made, by the token before them on
--- the line and by the counted origin
-abbrev pub items_by_origin : List SourceLine → Option Token → Origin → List Token → List Item
-items_by_origin lines before counted [] = []
-items_by_origin lines before counted (token.LineEnd line ∷ es) =
+-- the line, by how much of a turn is on the line, and by the counted origin
+abbrev pub items_by_origin : List SourceLine → Option Token → Turn → Origin → List Token
+    → List Item
+items_by_origin lines before at counted [] = []
+items_by_origin lines before at counted (token.LineEnd line ∷ es) =
     let continued : Bool = is_continued (texts_of lines) before in
-    line_item lines continued counted line
+    line_item lines continued (is_whole at) counted line
     ∷ items_by_origin lines (at_line_front (texts_of lines) before line)
+    (turn_after_line_end lines continued line at)
     (counted_after_line_end lines continued counted line) es
-items_by_origin lines before counted (token.White ∷ es) =
-    item.Blank ∷ items_by_origin lines before counted es
-items_by_origin lines before counted (e ∷ es) =
-    items_at lines e ++ items_by_origin lines (Some e) (counted_after_token lines counted e) es
+items_by_origin lines before at counted (token.White ∷ es) =
+    item.Blank ∷ items_by_origin lines before at counted es
+items_by_origin lines before at counted (e ∷ es) =
+    items_at lines e
+    ++ items_by_origin lines (Some e) (turn_after (texts_of lines) at e)
+    (counted_after_token lines counted e) es
 
 -- rules 3 to 5 for the tokens after a token `before`; `white`: white space is directly before them
-abbrev pub items_after : List SourceLine → Option Token → Origin → Bool → List Token → List Item
-items_after lines before counted white es =
-    items_by_origin lines before counted (blanks (texts_of lines) before white es)
+abbrev pub items_after : List SourceLine → Option Token → Turn → Origin → Bool → List Token
+    → List Item
+items_after lines before at counted white es =
+    items_by_origin lines before at counted (blanks (texts_of lines) before white es)
 
 -- the tokens that rule 1 makes of those after a token
 abbrev pub spaced_after : List (List ℕ) → Token → List Token → List Token
@@ -179,11 +243,11 @@ abbrev pub is_touching : PartState → Bool
 is_touching at = is_item at.last && not at.has_white
 
 -- where the current gap of joins, white space and line ends begins: the number of entries before
--- it, and the counted origin
+-- it, how much of a turn is on its line, and the counted origin
 abbrev pub start_of_gap : List Entry → PartState → Start
 start_of_gap entries at =
     if is_after_line_end at.last then at.start
-    else record { entries = length entries; counted = at.counted }
+    else record { entries = length entries; turn = at.turn; counted = at.counted }
 
 -- the items of the entries before the current gap, then those of the gap and the tokens after it;
 -- `front`: the token before the gap
@@ -191,7 +255,8 @@ abbrev pub from_gap : List SourceLine → List Entry → PartState → Option To
     → List Item
 from_gap lines entries at front es =
     items_of (texts_of lines) (take (start_of_gap entries at).entries entries)
-    ++ items_after lines front (origin_of (start_of_gap entries at).counted) false es
+    ++ items_after lines front (start_of_gap entries at).turn
+    (origin_of (start_of_gap entries at).counted) false es
 
 -- a piece that ends with these entries needs a blank at its end
 abbrev pub are_open : List (List ℕ) → List Entry → Last → Bool
@@ -210,7 +275,8 @@ pub record IsRead (lines : List SourceLine) (entries : List Entry) (at : PartSta
   pub joined : has_join gap ≡ is_joined at.last
   pub made : (es : List Token) → from_gap lines entries at front (left_of_run gap ++ es)
       ≡ items_of (texts_of lines) entries
-      ++ items_after lines before (origin_of at.counted) (keeps_white at.last && at.has_white) es
+      ++ items_after lines before at.turn (origin_of at.counted)
+      (keeps_white at.last && at.has_white) es
   pub keeps : is_joined at.last ≡ false → is_some before ≡ keeps_white at.last
   pub continues : is_joined at.last ≡ false
       → is_continued (texts_of lines) before ≡ entries_continue (texts_of lines) entries

@@ -104,7 +104,7 @@ module _ (texts : List (List ℕ)) where
   abbrev pub token_bytes : (Token → List ℕ) → Token → List ℕ
   token_bytes used (token.Span kind s) = span_text texts s
   token_bytes used (token.AsciiConstant value line) = decimal value
-  token_bytes used token.QuoteBreak = line_feed ∷ []
+  token_bytes used (token.QuoteBreak line) = line_feed ∷ []
   token_bytes used e = used e
 
   -- The bytes are those of the items in their order, with gaps between them that the compiler reads

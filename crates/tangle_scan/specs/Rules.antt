@@ -17,8 +17,9 @@ use Rattle.tangle_lexer.specs.declared.tokens.SpanKind.{SpanKind}
 use Rattle.tangle_lexer.specs.declared.tokens.SpanKind.TheVariants as span_kind
 use Rattle.tangle_lexer.specs.declared.tokens.Token.TheVariants as token
 pub use Rattle.tangle_text.specs.Text.{texts_of, span_text}
+use Rattle.tangle_scan.specs.Directives.{is_turn}
 use Rattle.tangle_lexer.specs.SpanBytes.{first_byte, ends_in, ends_in_backslash}
-use Rattle.tangle_text.specs.Bytes.{left_parenthesis, backslash, slash, is_digit}
+use Rattle.tangle_text.specs.Bytes.{left_parenthesis, apostrophe, backslash, slash, is_digit}
 
 abbrev pub full_stop : ℕ
 full_stop = 46
@@ -41,8 +42,9 @@ abbrev pub clean_tokens : List Token → List Token
 clean_tokens tokens = map white_inner_end (without_faults tokens)
 
 -- Rule 1: white space is put between an ASCII constant and another one, a word, a verbatim text, a
--- full stop or a backslash that touch, in either order. The constant is written as a number, and a C
--- compiler would read both as one number, as in 97...122, or the next line as a part of it, after a
+-- full stop or a backslash that touch, in either order, and between a constant and a quoted text
+-- directly after it that an apostrophe begins. The constant is written as a number, and a C compiler
+-- would read both as one number, as in 97...122 and 65'b', or the next line as a part of it, after a
 -- backslash.
 
 abbrev pub is_constant : Token → Bool
@@ -58,8 +60,15 @@ may_merge texts (token.Span span_kind.Sign s) =
     first_byte texts s == full_stop || first_byte texts s == backslash
 may_merge texts _ = false
 
+-- a quoted text that an apostrophe begins
+abbrev pub is_character : List (List ℕ) → Token → Bool
+is_character texts (token.Span span_kind.Quoted s) = first_byte texts s == apostrophe
+is_character texts _ = false
+
 abbrev pub would_merge : List (List ℕ) → Token → Token → Bool
-would_merge texts e f = is_constant e && may_merge texts f || may_merge texts e && is_constant f
+would_merge texts e f =
+    is_constant e && (may_merge texts f || is_character texts f)
+    || may_merge texts e && is_constant f
 
 abbrev pub with_spaces : List (List ℕ) → List Token → List Token
 with_spaces texts [] = []
@@ -261,7 +270,7 @@ span_item span_kind.Verbatim s = item.Verbatim s
 abbrev pub token_items : Token → List Item
 token_items token.White = item.Blank ∷ []
 token_items (token.LineEnd line) = item.LineEnd ∷ []
-token_items token.QuoteBreak = item.QuoteBreak ∷ []
+token_items (token.QuoteBreak line) = item.QuoteBreak ∷ []
 token_items (token.Span kind s) = span_item kind s ∷ []
 token_items (token.AsciiConstant value line) = item.Code value ∷ []
 token_items (token.UseOf line occurrence) = item.UseOf occurrence ∷ []
@@ -285,9 +294,11 @@ with_all_marks lines before [] = []
 with_all_marks lines before (e ∷ es) =
     token_items e ++ (marks_after lines before e ++ with_all_marks lines (Some e) es)
 
--- Rule 5: of a line end and the mark after it only one is left. A compiler counts an origin: a mark
--- sets it, and a line end, also one in a quoted text, adds one line to it. The line end is left if
--- the compiler counts the mark's origin after it, else the mark is left.
+-- Rule 5: of a line end and the mark after it only one is left. A compiler that reads all lines
+-- counts an origin: a mark sets it, and a line end, also one in a quoted text, adds one line to it.
+-- The line end is left if the compiler counts the mark's origin after it, else the mark is left. The
+-- mark is left at the end of a turn, too: a compiler may have left out the lines before it, and then
+-- it obeyed none of their marks.
 
 abbrev pub next_line : Origin → Origin
 next_line p = record { file = p.file; line = p.line + 1 }
@@ -295,18 +306,24 @@ next_line p = record { file = p.file; line = p.line + 1 }
 abbrev pub same_origin : Origin → Origin → Bool
 same_origin p q = p.file == q.file && p.line == q.line
 
--- the items with the marks that are needed; `counted`: the origin that is counted before them
-abbrev pub with_needed_marks : Origin → List Item → List Item
-with_needed_marks counted [] = []
-with_needed_marks counted (item.LineEnd ∷ item.LineMark p ∷ items) =
-    (if same_origin p (next_line counted) then item.LineEnd else item.LineMark p)
-    ∷ with_needed_marks p items
-with_needed_marks counted (item.LineEnd ∷ items) =
-    item.LineEnd ∷ with_needed_marks (next_line counted) items
-with_needed_marks counted (item.QuoteBreak ∷ items) =
-    item.QuoteBreak ∷ with_needed_marks (next_line counted) items
-with_needed_marks counted (item.LineMark p ∷ items) = item.LineMark p ∷ with_needed_marks p items
-with_needed_marks counted (x ∷ items) = x ∷ with_needed_marks counted items
+-- The items with the marks that are needed. `line`: the items before them on their line of C, which
+-- goes on over a line end that has no mark after it; `counted`: the origin that is counted before
+-- them.
+abbrev pub with_needed_marks : List (List ℕ) → List Item → Origin → List Item → List Item
+with_needed_marks texts line counted [] = []
+with_needed_marks texts line counted (item.LineEnd ∷ item.LineMark p ∷ items) =
+    (if same_origin p (next_line counted) && not (is_turn texts line)
+    then item.LineEnd else item.LineMark p)
+    ∷ with_needed_marks texts [] p items
+with_needed_marks texts line counted (item.LineEnd ∷ items) =
+    item.LineEnd ∷ with_needed_marks texts (line ++ item.LineEnd ∷ []) (next_line counted) items
+with_needed_marks texts line counted (item.QuoteBreak ∷ items) =
+    item.QuoteBreak
+    ∷ with_needed_marks texts (line ++ item.QuoteBreak ∷ []) (next_line counted) items
+with_needed_marks texts line counted (item.LineMark p ∷ items) =
+    item.LineMark p ∷ with_needed_marks texts [] p items
+with_needed_marks texts line counted (x ∷ items) =
+    x ∷ with_needed_marks texts (line ++ x ∷ []) counted items
 
 -- the tokens of a C part after rules 1 and 2
 abbrev pub part_tokens : List (List ℕ) → List Token → List Token
@@ -315,7 +332,7 @@ part_tokens texts tokens = without_joins [] (with_spaces texts (clean_tokens tok
 -- The items of a C part whose head ends on this line. The origin of that line is counted first.
 abbrev pub part_items : List SourceLine → ℕ → List Token → List Item
 part_items lines line tokens =
-    with_needed_marks (origin_at lines line)
+    with_needed_marks (texts_of lines) [] (origin_at lines line)
     (with_all_marks lines None (blanks (texts_of lines) None false (part_tokens (texts_of lines) tokens)))
 
 -- Macros have no marks, and white space and line ends after @d are skipped.

@@ -13,9 +13,16 @@ use Rattle.tangle_scan.specs.declared.items.Item.TheVariants as item
 use Rattle.tangle_lexer.specs.declared.tokens.Token.{Token}
 use Rattle.tangle_lexer.specs.declared.tokens.Token.TheVariants as token
 use Rattle.tangle_lexer.specs.Lexemes.{OccurrenceOnLine}
-use Rattle.tangle_lexer.specs.LinesOfParts.{body}
+use Rattle.tangle_text.specs.declared.spans.Span.{Span}
+use Rattle.tangle_text.specs.declared.runs.RunPart.{RunPart}
+use Rattle.tangle_text.specs.declared.runs.RunPart.TheVariants as part
+use Rattle.tangle_text.specs.Runs.{run_parts}
+use Rattle.tangle_lexer.specs.declared.tokens.SpanKind.TheVariants as span_kind
+use Rattle.tangle_lexer.specs.Heads.{is_head}
+use Rattle.tangle_lexer.specs.LinesOfParts.{body, is_between_items}
 use Rattle.tangle_lexer.specs.Occurrences.{OccurrenceRead, occurrence_of}
 use Rattle.tangle_lexer.specs.Steps.{all_tokens, all_occurrences}
+use Rattle.tangle_scan.specs.RawStrings.{is_cut}
 use Rattle.tangle_scan.specs.Rules.{texts_of, part_items, macro_items, is_macro}
 
 -- a piece: a C part, with the number of its section, the origin of its opening mark, the number of
@@ -121,26 +128,72 @@ module _ (lines : List SourceLine) where
   abbrev pub macro_of : Block → List (List Item)
   macro_of b = kind_macro b.kind b
 
+-- the word with which a token ends, if it ends with one
+
+abbrev pub last_word : Option Span → List RunPart → Option Span
+last_word word [] = word
+last_word word (part.Word s ∷ ps) = last_word (Some s) ps
+last_word word (p ∷ ps) = last_word None ps
+
+abbrev pub word_at_end : List (List ℕ) → Token → Option Span
+word_at_end texts (token.Span span_kind.Word s) = Some s
+word_at_end texts (token.Run s) = last_word None (run_parts texts s)
+word_at_end texts _ = None
+
+-- the quoted text that begins next, or its first part; its own faults may be before it
+abbrev pub quoted_ahead : List Token → Option Span
+quoted_ahead (token.Fault kind line ∷ es) = quoted_ahead es
+quoted_ahead (token.Span span_kind.Quoted s ∷ es) = Some s
+quoted_ahead _ = None
+
 module _ (files : FileTable) (lines : List SourceLine) where
   abbrev pub fault_on : FaultKind → ℕ → FaultRead
   fault_on kind line = fault_at kind (place_of files (origin_at lines line))
 
-  -- the fault of a macro that is dropped
+  -- the fault of a token that is a fault
+  abbrev pub own_fault : Token → List FaultRead
+  own_fault (token.Fault kind line) = fault_on kind line ∷ []
+  own_fault _ = []
+
+  -- the fault of a quoted text that is a raw string of C++ and is not whole, if there is a word
+  -- directly before it
+  abbrev pub raw_fault : Option Span → Option Span → List FaultRead
+  raw_fault (Some word) (Some quoted) =
+      if is_cut (texts_of lines) word quoted then fault_on fault.RawString quoted.line ∷ [] else []
+  raw_fault word quoted = []
+
+  -- the faults of these tokens; `word`: the word with which the token before them ends
+  abbrev pub token_faults : Option Span → List Token → List FaultRead
+  token_faults word [] = []
+  token_faults word (e ∷ es) =
+      (raw_fault word (quoted_ahead (e ∷ es)) ++ own_fault e)
+      ++ token_faults (word_at_end (texts_of lines) e) es
+
+  -- the faults of the tokens of a macro; a word that is its name makes no raw string
+  abbrev pub macro_token_faults : List Token → List FaultRead
+  macro_token_faults [] = []
+  macro_token_faults (e ∷ es) =
+      own_fault e ++ (if is_between_items e then macro_token_faults es else token_faults None es)
+
+  -- the fault of a macro with these tokens, if it is dropped; it is on the line of its @d
   abbrev pub macro_fault : ℕ → List Token → List FaultRead
   macro_fault line es =
-      if is_macro (texts_of lines) (macro_items (texts_of lines) (body es)) then []
+      if is_macro (texts_of lines) (macro_items (texts_of lines) es) then []
       else fault_on fault.MacroName line ∷ []
 
-  -- the fault of a token; the fault of a macro that is dropped is on the line of its @d
-  abbrev pub faults_at : Token → List Token → List FaultRead
-  faults_at (token.Fault kind line) es = fault_on kind line ∷ []
-  faults_at (token.MacroStart line) es = macro_fault line es
-  faults_at _ es = []
+  -- the faults of a head and of the tokens after it
+  abbrev pub block_faults : Token → List Token → List FaultRead
+  block_faults (token.MacroStart line) es = macro_fault line es ++ macro_token_faults es
+  block_faults head es = token_faults None es
+
+  -- the faults of the heads among these tokens, and of what is after each
+  abbrev pub head_faults : List Token → List FaultRead
+  head_faults [] = []
+  head_faults (e ∷ es) = (if is_head e then block_faults e (body es) else []) ++ head_faults es
 
   -- the faults in the order of the text
   abbrev pub scan_faults : List Token → List FaultRead
-  scan_faults [] = []
-  scan_faults (e ∷ es) = faults_at e es ++ scan_faults es
+  scan_faults es = token_faults None (body es) ++ head_faults es
 
 -- the web of a source with these tokens and occurrences
 abbrev pub web_with : SourceRead → List Token → List OccurrenceOnLine → WebRead

@@ -1,17 +1,15 @@
 -- What is gathered of a web, block by block.
-use Rattle.std.specs.Prelude.{ℕ, Bool, false, ◌||◌, List, [], ◌∷◌, ◌++◌, flat_map, map}
+use Rattle.std.specs.Prelude.{ℕ, Bool, false, ◌||◌, List, [], ◌++◌, flat_map, map}
 use Rattle.std.specs.List.{list_any}
 use Rattle.tangle_faults.specs.Faults.{FaultRead}
-use Rattle.tangle_files.specs.Lines.{FileTable}
-use Rattle.tangle_lines.specs.Reading.{SourceLine, SourceRead}
+use Rattle.tangle_lines.specs.Reading.{SourceRead}
 use Rattle.tangle_scan.specs.declared.items.Item.{Item}
 use Rattle.tangle_lexer.specs.declared.tokens.Token.{Token}
-use Rattle.tangle_lexer.specs.declared.tokens.Token.TheVariants as token
 use Rattle.tangle_scan.specs.Entries.{StoredPiece, piece_read}
 use Rattle.tangle_scan.specs.Rules.{texts_of}
 use Rattle.tangle_scan.specs.Web.{PieceRead, WebRead, blocks, block_at, section_after}
 use Rattle.tangle_scan.specs.Web.{section_count, piece_of, macro_of, block_has_all_macros}
-use Rattle.tangle_scan.specs.Web.{scan_faults, faults_at, fault_on}
+use Rattle.tangle_scan.specs.Web.{scan_faults, block_faults}
 use Rattle.tangle_lexer.specs.Occurrences.{OccurrenceRead}
 
 -- what was gathered so far
@@ -58,20 +56,15 @@ builder_with source before tokens = record {
   faults = before.faults ++ scan_faults source.files source.lines tokens;
 }
 
--- the fault of a token that is a fault
-abbrev pub own_fault : FileTable → List SourceLine → Token → List FaultRead
-own_fault files lines (token.Fault kind line) = fault_on files lines kind line ∷ []
-own_fault files lines _ = []
-
--- a builder with what a head before these tokens adds, without the faults among the tokens
-abbrev pub with_head : SourceRead → WebBuilderRead → Token → List Token → WebBuilderRead
-with_head source before head tokens = record {
+-- a builder with what a head and the tokens up to the next head add
+abbrev pub with_block : SourceRead → WebBuilderRead → Token → List Token → WebBuilderRead
+with_block source before head tokens = record {
   sections = section_after before.sections head;
   pieces = before.pieces ++ flat_map (piece_of source.lines) (block_at before.sections head tokens);
   macros = before.macros ++ flat_map (macro_of source.lines) (block_at before.sections head tokens);
   has_all_macros =
       before.has_all_macros || list_any block_has_all_macros (block_at before.sections head tokens);
-  faults = before.faults ++ faults_at source.files source.lines head tokens;
+  faults = before.faults ++ block_faults source.files source.lines head tokens;
 }
 
 -- the web of a source, from what was gathered and from these occurrences

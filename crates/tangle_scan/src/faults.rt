@@ -1,8 +1,12 @@
 //! The faults among the tokens of a web.
-ghost use Rattle.std.specs.Prelude.{◌≡◌, ◌++◌, ◌∷◌, [], flat_map, OnOk};
+ghost use Rattle.std.specs.Prelude.{◌≡◌, ◌++◌, ◌∷◌, [], None, OnOk};
+ghost use Rattle.std.specs.List.{All};
+ghost use Rattle.tangle_lexer.specs.LinesOfParts as parts;
+ghost use Rattle.tangle_lexer.specs.Runs.{IsRunIn};
+ghost use Rattle.tangle_scan.specs.Rules.{texts_of};
 ghost use Rattle.tangle_scan.specs.Web as web;
-ghost use Rattle.tangle_scan.specs.WebBuilder.{own_fault};
 
+use crate::raw_strings::add_raw_fault;
 use std::alloc::Global;
 use tangle_lexer::Token;
 use tangle_lines::{Fault, FaultKind, NoMemory, Source};
@@ -32,7 +36,7 @@ fn add_own_fault(
     token: Token,
 ) -> Result<(), NoMemory>
     ensures { OnOk result (faults.new.items ≡ faults.old.items
-        ++ own_fault source.now.files source.now.lines token) }
+        ++ web.own_fault source.now.files source.now.lines token) }
 {
     if let Token::Fault(kind, line) = token {
         add_fault(alloc, source, faults, kind, line)?;
@@ -40,18 +44,56 @@ fn add_own_fault(
     Ok(())
 }
 
-/// Adds the faults among some tokens.
+/// Adds the faults of some tokens: of those that are faults, and of raw strings that are not whole.
 pub(crate) fn add_faults(
     alloc: Global,
     source: &Source,
     faults: &mut Vec<Fault>,
     tokens: &[Token],
 ) -> Result<(), NoMemory>
-    ensures { OnOk result (faults.new.items
-        ≡ faults.old.items ++ flat_map (own_fault source.now.files source.now.lines) tokens.now) }
+    requires { All (IsRunIn (texts_of source.now.lines)) tokens.now }
+    ensures { OnOk result (faults.new.items ≡ faults.old.items
+        ++ web.token_faults source.now.files source.now.lines None tokens.now) }
 {
-    for token in tokens {
+    let mut before = Token::White;
+    let mut left = tokens;
+    while let [token, rest @ ..] = left {
+        add_raw_fault(alloc, source, faults, before, left)?;
         add_own_fault(alloc, source, faults, *token)?;
+        before = *token;
+        left = rest;
+    }
+    Ok(())
+}
+
+/// Whether a token is no item, but what may be between two of them.
+fn is_between_items(token: Token) -> bool
+    ensures { result ≡ parts.is_between_items token }
+{
+    matches!(
+        token,
+        Token::White | Token::LineEnd(_) | Token::InnerLineEnd(_) | Token::Join | Token::Fault(..)
+    )
+}
+
+/// Adds the faults of the tokens of a macro. Its first item is its name, which makes no raw string.
+pub(crate) fn add_macro_faults(
+    alloc: Global,
+    source: &Source,
+    faults: &mut Vec<Fault>,
+    tokens: &[Token],
+) -> Result<(), NoMemory>
+    requires { All (IsRunIn (texts_of source.now.lines)) tokens.now }
+    ensures { OnOk result (faults.new.items ≡ faults.old.items
+        ++ web.macro_token_faults source.now.files source.now.lines tokens.now) }
+{
+    let mut left = tokens;
+    while let [token, rest @ ..] = left {
+        add_own_fault(alloc, source, faults, *token)?;
+        if !is_between_items(*token) {
+            return add_faults(alloc, source, faults, rest);
+        }
+        left = rest;
     }
     Ok(())
 }

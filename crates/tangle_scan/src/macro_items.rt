@@ -16,7 +16,7 @@ ghost use Rattle.tangle_lexer.specs.declared.tokens.Token.{Token as TokenRead};
 
 use crate::items::Item;
 use crate::parts::item_of;
-use crate::touching::{first_byte, may_merge, may_touch};
+use crate::touching::{first_byte, is_character, may_merge, may_touch};
 use std::alloc::Global;
 use tangle_lexer::{SpanKind, Token};
 use tangle_lines::{NoMemory, Source};
@@ -67,7 +67,7 @@ fn would_merge(source: &Source, before: Token, token: Token) -> bool
     ensures { result ≡ rules.would_merge (texts_of source.now.lines) before token }
 {
     match (before, token) {
-        (Token::AsciiConstant(..), _) => may_merge(source, token),
+        (Token::AsciiConstant(..), _) => { may_merge(source, token) || is_character(source, token) }
         (_, Token::AsciiConstant(..)) => may_merge(source, before),
         _ => false,
     }

@@ -5,27 +5,27 @@
 //! again if a join follows in their gap. A blank goes between a word and an ASCII constant that
 //! touch, in either order, and between two constants that touch. A line mark follows each use and
 //! each `@h`. It also replaces a line end if a compiler would count another origin for the next
-//! source line, except at the end of a continued line.
+//! source line, and at the end of a turn, except at the end of a continued line.
 ghost use Rattle.std.specs.Prelude.{◌≡◌, ◌≤◌, ◌<◌, ◌+◌, ◌^◌, ◌++◌, ◌∷◌, ◌&&◌, ◌||◌, [], map};
-ghost use Rattle.std.specs.Prelude.{List, max, if◌then◌else◌, true, false, None, take, flat_map};
+ghost use Rattle.std.specs.Prelude.{List, max, if◌then◌else◌, true, false, None, take};
 ghost use Rattle.std.specs.Prelude.{Some, option_to_list, IfOk, OnOk};
 ghost use Rattle.std.specs.List.{list_any, All};
 ghost use Rattle.tangle_lexer.specs.SpanBytes as span_bytes;
 ghost use Rattle.tangle_scan.specs.Rules as rules;
 ghost use Rattle.tangle_lines.specs.Reading.{origin_at};
 ghost use Rattle.tangle_scan.specs.Entries.{IsEntryInRange, entry_is_mark, items_of};
+ghost use Rattle.tangle_scan.specs.Directives.{item_ends_in};
 ghost use Rattle.tangle_scan.specs.Passes as passes;
 ghost use Rattle.tangle_scan.specs.Rules.{texts_of};
 ghost use Rattle.tangle_scan.specs.LineTruth.{is_expected, counted_after_line_end};
 ghost use Rattle.tangle_scan.specs.Web as web;
 ghost use Rattle.tangle_scan.specs.Web.{is_line_mark};
-ghost use Rattle.tangle_scan.specs.WebBuilder.{own_fault};
 ghost use Rattle.tangle_scan.specs.Passes.{origin_of, last_entry, entries_continue, highest};
 ghost use Rattle.tangle_scan.specs.Passes.{blank_if, blank_before, blank_before_run, start_of_gap};
 ghost use Rattle.tangle_scan.specs.Passes.{is_merging_byte};
 ghost use Rattle.tangle_scan.specs.Passes.{IsPassed, IsMarked};
 ghost use Rattle.tangle_lexer.specs.Heads.{is_head};
-ghost use Rattle.tangle_lexer.specs.Runs.{IsRunIn, unfolded, unfolded_token};
+ghost use Rattle.tangle_lexer.specs.Runs.{IsRunIn, IsRunOf, unfolded, unfolded_token};
 ghost use Rattle.tangle_lexer.specs.declared.tokens.Token.{Token as TokenRead};
 ghost use Rattle.tangle_scan.specs.declared.items.Item.{Item as ItemRead};
 ghost use Rattle.tangle_scan.specs.declared.items.Item.TheVariants as item;
@@ -34,7 +34,9 @@ ghost use Rattle.tangle_scan.specs.declared.parts.Last.TheVariants as last;
 
 use crate::faults::add_fault;
 use crate::items::{Entry, Item, OccurrenceNumber};
-use crate::touching::{first_byte, last_byte, may_merge};
+use crate::raw_strings::add_raw_fault;
+use crate::touching::{first_byte, is_character, last_byte, may_merge};
+use crate::turns::{Turn, is_whole, turn_after, turn_after_line_end, turn_after_run};
 use std::alloc::Global;
 use tangle_lexer::{SpanKind, Token};
 use tangle_lines::{Fault, NoMemory, Origin, Source};
@@ -61,11 +63,12 @@ enum Last {
     Item,
 }
 
-/// Where a gap of joins, white space and line ends begins: the number of entries before it, and the
-/// counted origin there.
+/// Where a gap of joins, white space and line ends begins: the number of entries before it, how much
+/// of a turn is on its line, and the counted origin there.
 #[derive(Clone, Copy)]
 struct Start {
     entries: usize,
+    turn: Turn,
     counted: CountedOrigin,
 }
 
@@ -76,6 +79,8 @@ struct PartState {
     last: Last,
     /// Whether white space is between `last` and the position.
     has_white: bool,
+    /// How much of a turn is on the line of C.
+    turn: Turn,
     counted: CountedOrigin,
     start: Start,
     /// Whether some token so far is `@h`.
@@ -137,10 +142,17 @@ fn next_line(counted: CountedOrigin) -> CountedOrigin
     }
 }
 
-/// The origin of the next source line, if there is one and the count does not expect that origin.
-fn unexpected_origin(source: &Source, counted: CountedOrigin, line: u32) -> Option<Origin>
+/// The origin of the next source line, if there is one and a mark has to set that origin: the line
+/// is a turn, or the count does not expect the origin.
+fn marked_origin(
+    source: &Source,
+    counted: CountedOrigin,
+    line: u32,
+    is_turn: bool,
+) -> Option<Origin>
     requires { counted.line < 2 ^ 63 }
-    ensures { result ≡ (if is_expected source.now.lines (origin_of counted) line then None
+    ensures { result
+        ≡ (if passes.is_unmarked source.now.lines is_turn (origin_of counted) line then None
         else Some (origin_at source.now.lines (line + 1))) }
 {
     let next = line as usize + 1;
@@ -148,7 +160,9 @@ fn unexpected_origin(source: &Source, counted: CountedOrigin, line: u32) -> Opti
         return None;
     }
     let origin = source.origin(next);
-    if origin.file as usize == counted.file && origin.line as usize == counted.line + 1 {
+    let is_expected = origin.file as usize == counted.file
+        && origin.line as usize == counted.line + 1;
+    if is_expected && !is_turn {
         return None;
     }
     Some(origin)
@@ -171,7 +185,8 @@ fn mark_at(origin: Origin) -> (Item, CountedOrigin)
 }
 
 /// The item for the end of a source line, and the counted origin after it. The item is a line end
-/// if the count expects the next source line or the line is continued, else a mark.
+/// if the line is continued, or if it is no turn and the count expects the next source line, else a
+/// mark.
 // It is inlined into both loops over the tokens of C parts, so that the counted origin stays in
 // registers.
 #[inline(always)]
@@ -180,19 +195,21 @@ pub(crate) fn line_end_item(
     counted: CountedOrigin,
     line: u32,
     is_continued: bool,
+    is_turn: bool,
 ) -> (Item, CountedOrigin)
     requires { counted.line < 2 ^ 63 }
     ensures made { result.0
-        ≡ passes.line_item source.now.lines is_continued (origin_of counted) line }
+        ≡ passes.line_item source.now.lines is_continued is_turn (origin_of counted) line }
     ensures counted { origin_of result.1
         ≡ counted_after_line_end source.now.lines is_continued (origin_of counted) line }
     ensures limit { result.1.line ≤ max (2 ^ 32) (counted.line + 1) }
     ensures mark { result.1.has_mark
-        ≡ (is_line_mark (passes.line_item source.now.lines is_continued (origin_of counted) line)
+        ≡ (is_line_mark
+        (passes.line_item source.now.lines is_continued is_turn (origin_of counted) line)
         || counted.has_mark) }
 {
-    let unexpected = unexpected_origin(source, counted, line);
-    match unexpected {
+    let marked = marked_origin(source, counted, line, is_turn);
+    match marked {
         Some(origin) if !is_continued => mark_at(origin),
         _ => (Item::LineEnd, next_line(counted)),
     }
@@ -218,7 +235,7 @@ pub(crate) fn item_of(token: Token) -> Option<Item>
 {
     match token {
         Token::Span(kind, span) => Some(span_item(kind, span)),
-        Token::QuoteBreak => Some(Item::QuoteBreak),
+        Token::QuoteBreak(_) => Some(Item::QuoteBreak),
         Token::AsciiConstant(byte, _) => Some(Item::Code(byte)),
         _ => None,
     }
@@ -269,7 +286,7 @@ pub(crate) fn token_items(source: &Source, counted: CountedOrigin, token: Token)
             with_mark(item, source.origin(line as usize))
         }
         Token::AllMacros(line) => with_mark(Item::Defs, source.origin(line as usize)),
-        Token::QuoteBreak => TokenItems {
+        Token::QuoteBreak(_) => TokenItems {
             item: Some(Item::QuoteBreak),
             mark: None,
             counted: next_line(counted),
@@ -298,7 +315,7 @@ fn push_entry(entries: &mut Vec<Entry>, item: Option<Item>) -> Result<(), NoMemo
 /// Whether an item is a sign or a verbatim text that ends in this byte.
 #[inline(always)]
 fn item_ends_in(source: &Source, item: Item, byte: u8) -> bool
-    ensures { result ≡ passes.item_ends_in byte (texts_of source.now.lines) item }
+    ensures { result ≡ item_ends_in byte (texts_of source.now.lines) item }
 {
     match item {
         Item::Sign(span) => first_byte(source, span) == byte,
@@ -390,7 +407,11 @@ fn would_merge(source: &Source, entries: &[Entry], at: &PartState, token: Token)
 {
     match token {
         Token::AsciiConstant(..) => is_touching(at) && ends_merging(source, entries),
-        _ => is_touching(at) && ends_in_constant(entries) && may_merge(source, token),
+        _ => {
+            is_touching(at)
+                && ends_in_constant(entries)
+                && (may_merge(source, token) || is_character(source, token))
+        }
     }
 }
 
@@ -428,15 +449,21 @@ fn add_run(
     at: &mut PartState,
     span: Span,
 ) -> Result<(), NoMemory>
+    requires { IsRunOf (texts_of source.now.lines) span }
     ensures entries { OnOk result (entries.new.items
         ≡ (entries.old.items ++ map entry.Item (blank_if
         (blank_before_run source.now.lines entries.old.items at.old span)))
         ++ entry.Run span ∷ []) }
-    ensures at { OnOk result (at.new ≡ record at.old { last = last.Item; has_white = false }) }
+    ensures at { OnOk result (at.new ≡ record at.old {
+      last = last.Item;
+      has_white = false;
+      turn = passes.turn_after_run (texts_of source.now.lines) at.old.turn span;
+    }) }
 {
     let merges = run_would_merge(source, entries, at, span);
     end_gap(entries, at, merges)?;
     entries.push(Entry::Run(span))?;
+    at.turn = turn_after_run(source, at.turn, span);
     Ok(())
 }
 
@@ -455,6 +482,7 @@ fn add_item(
     ensures at { OnOk result (at.new ≡ record at.old {
       last = last.Item;
       has_white = false;
+      turn = passes.turn_after (texts_of source.now.lines) at.old.turn token;
       counted = at.new.counted;
     }) }
     ensures counted { OnOk result (origin_of at.new.counted
@@ -469,6 +497,7 @@ fn add_item(
     let made = token_items(source, at.counted, token);
     push_entry(entries, made.item)?;
     push_entry(entries, made.mark)?;
+    at.turn = turn_after(source, at.turn, token);
     at.counted = made.counted;
     Ok(())
 }
@@ -480,6 +509,7 @@ fn note_gap(entries: &[Entry], at: &mut PartState)
 {
     if !is_after_line_end(at.last) {
         at.start.entries = entries.len();
+        at.start.turn = at.turn;
         at.start.counted = at.counted;
     }
 }
@@ -506,11 +536,13 @@ fn add_line_end(
     ensures entries { OnOk result (entries.new.items
         ≡ entries.old.items ++ entry.Item (passes.line_item source.now.lines
         (entries_continue (texts_of source.now.lines) entries.old.items)
-        (origin_of at.old.counted) line) ∷ []) }
+        (passes.is_whole at.old.turn) (origin_of at.old.counted) line) ∷ []) }
     ensures at { OnOk result (at.new ≡ record at.old {
       last = passes.last_after_line_end
           (entries_continue (texts_of source.now.lines) entries.old.items);
       has_white = false;
+      turn = passes.turn_after_line_end source.now.lines
+          (entries_continue (texts_of source.now.lines) entries.old.items) line at.old.turn;
       start = start_of_gap entries.old.items at.old;
       counted = at.new.counted;
     }) }
@@ -522,31 +554,36 @@ fn add_line_end(
     ensures mark { OnOk result (at.new.counted.has_mark
         ≡ (is_line_mark (passes.line_item source.now.lines
         (entries_continue (texts_of source.now.lines) entries.old.items)
-        (origin_of at.old.counted) line) || at.old.counted.has_mark)) }
+        (passes.is_whole at.old.turn) (origin_of at.old.counted) line)
+        || at.old.counted.has_mark)) }
 {
     note_gap(entries, at);
     let is_continued = continue_line(source, entries);
-    let (item, counted) = line_end_item(source, at.counted, line, is_continued);
+    let is_turn = is_whole(at.turn);
+    let (item, counted) = line_end_item(source, at.counted, line, is_continued, is_turn);
     entries.push(Entry::Item(item))?;
     at.last = last_after_line_end(is_continued);
     at.has_white = false;
+    at.turn = turn_after_line_end(source, is_continued, line, at.turn);
     at.counted = counted;
     Ok(())
 }
 
-/// Applies a join: removes the line ends of its gap, and sets the counted origin back to that at
-/// the start of the gap.
+/// Applies a join: removes the line ends of its gap, and sets the counted origin and what is on the
+/// line of C back to those at the start of the gap.
 #[inline(always)]
 fn apply_join(entries: &mut Vec<Entry>, at: &mut PartState)
     ensures entries { entries.new.items
         ≡ take (start_of_gap entries.old.items at.old).entries entries.old.items }
     ensures at { at.new ≡ record at.old {
       last = last.Joined;
+      turn = (start_of_gap entries.old.items at.old).turn;
       counted = (start_of_gap entries.old.items at.old).counted;
     } }
 {
     if is_after_line_end(at.last) {
         entries.truncate(at.start.entries);
+        at.turn = at.start.turn;
         at.counted = at.start.counted;
     }
     at.last = Last::Joined;
@@ -584,7 +621,7 @@ fn add_token(
     ensures all_macros { OnOk result
         (at.new.has_all_macros ≡ (at.old.has_all_macros || web.is_all_macros token.now)) }
     ensures faults { OnOk result (faults.new.items ≡ faults.old.items
-        ++ own_fault source.now.files source.now.lines token.now) }
+        ++ web.own_fault source.now.files source.now.lines token.now) }
 {
     match *token {
         Token::White => {
@@ -663,23 +700,30 @@ pub(crate) fn fill_part(
         ≡ list_any entry_is_mark entries.new.items) }
     ensures all_macros { IfOk result
         (λ notes. notes.has_all_macros ≡ list_any web.is_all_macros tokens.now) }
-    ensures faults { OnOk result (faults.new.items
-        ≡ faults.old.items ++ flat_map (own_fault source.now.files source.now.lines) tokens.now) }
+    ensures faults { OnOk result (faults.new.items ≡ faults.old.items
+        ++ web.token_faults source.now.files source.now.lines None tokens.now) }
 {
     entries.clear();
     let counted = counted_on(source, line);
     let mut at = PartState {
         last: Last::Front,
         has_white: false,
+        turn: Turn::NoItem,
         counted,
         start: Start {
             entries: 0,
+            turn: Turn::NoItem,
             counted,
         },
         has_all_macros: false,
     };
-    for token in tokens {
+    let mut before = Token::White;
+    let mut left = tokens;
+    while let [token, rest @ ..] = left {
+        add_raw_fault(alloc, source, faults, before, left)?;
         add_token(alloc, source, faults, entries, &mut at, token)?;
+        before = *token;
+        left = rest;
     }
     add_last_blank(source, entries, &at)?;
     Ok(PartNotes {

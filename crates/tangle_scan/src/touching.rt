@@ -1,5 +1,5 @@
 //! Which items may touch.
-ghost use Rattle.std.specs.Prelude.{◌≡◌, get_or, []};
+ghost use Rattle.std.specs.Prelude.{◌≡◌, drop, get_or, []};
 ghost use Rattle.tangle_lexer.specs.SpanBytes as span_bytes;
 ghost use Rattle.tangle_scan.specs.Rules as rules;
 ghost use Rattle.tangle_scan.specs.Rules.{texts_of};
@@ -32,7 +32,7 @@ fn byte_at(line: &[u8], column: usize) -> u8
 }
 
 /// The byte at this column of a source line, or 0 if the source has no such byte.
-fn source_byte(source: &Source, line: u32, column: usize) -> u8
+pub(crate) fn source_byte(source: &Source, line: u32, column: usize) -> u8
     ensures { result ≡ get_or (get_or (texts_of source.now.lines) line []) column 0 }
 {
     byte_at(source.line(line as usize), column)
@@ -55,6 +55,28 @@ pub(crate) fn last_byte(source: &Source, span: Span) -> u8
     source_byte(source, span.line, span.end as usize - 1)
 }
 
+/// The bytes of a source line from a column on.
+pub(crate) fn bytes_from<'s>(source: &'s Source, line: u32, column: usize) -> &'s [u8]
+    ensures { result.now ≡ drop column (get_or (texts_of source.now.lines) line []) }
+{
+    let line = source.line(line as usize);
+    if column < line.len() {
+        &line[column..]
+    } else {
+        &[]
+    }
+}
+
+/// The bytes of a span of the source, as far as the source has them.
+pub(crate) fn span_bytes<'s>(source: &'s Source, span: Span) -> &'s [u8]
+    ensures { result.now ≡ rules.span_text (texts_of source.now.lines) span }
+{
+    let line = source.line(span.line as usize);
+    let start = span.start as usize;
+    let end = line.len().min(span.end as usize);
+    if start < end { &line[start..end] } else { &[] }
+}
+
 /// Whether a number beside this token would be read as one with it: an ASCII constant, a word, a
 /// verbatim text, a full stop or a backslash.
 #[inline(always)]
@@ -65,6 +87,17 @@ pub(crate) fn may_merge(source: &Source, token: Token) -> bool
         Token::AsciiConstant(..) => true,
         Token::Span(SpanKind::Word | SpanKind::Verbatim, _) => true,
         Token::Span(SpanKind::Sign, span) => matches!(first_byte(source, span), b'.' | b'\\'),
+        _ => false,
+    }
+}
+
+/// Whether a token is a quoted text that an apostrophe begins.
+#[inline(always)]
+pub(crate) fn is_character(source: &Source, token: Token) -> bool
+    ensures { result ≡ rules.is_character (texts_of source.now.lines) token }
+{
+    match token {
+        Token::Span(SpanKind::Quoted, span) => first_byte(source, span) == b'\'',
         _ => false,
     }
 }

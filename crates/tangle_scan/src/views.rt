@@ -12,7 +12,7 @@ use tangle_lines::Source;
 use tangle_text::{RunPart, RunParts, Span};
 
 /// The item of a part of a run.
-fn item_of_part(part: RunPart) -> Item
+pub(crate) fn item_of_part(part: RunPart) -> Item
     ensures { result ≡ part_item part }
 {
     match part {

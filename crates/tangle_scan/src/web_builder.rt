@@ -1,6 +1,6 @@
 //! Gathers the pieces, macros and faults of a web from the tokens of its C parts and macros.
 ghost use Rattle.std.specs.Prelude.{◌≡◌, ◌≤◌, ◌<◌, ◌+◌, ◌^◌, ◌++◌, ◌∷◌, ◌||◌, ℕ, []};
-ghost use Rattle.std.specs.Prelude.{flat_map, map, if◌then◌else◌, true, false, IfOk, OnOk};
+ghost use Rattle.std.specs.Prelude.{map, if◌then◌else◌, true, false, None, IfOk, OnOk};
 ghost use Rattle.std.specs.List.{All, list_any};
 ghost use Rattle.tangle_faults.specs.declared.faults.FaultKind.TheVariants as fault;
 ghost use Rattle.tangle_scan.specs.Passes as passes;
@@ -14,10 +14,9 @@ ghost use Rattle.tangle_scan.specs.declared.items.Entry.TheVariants as entry;
 ghost use Rattle.tangle_scan.specs.Entries.{IsEntryInRange, RunsAreInRange};
 ghost use Rattle.tangle_scan.specs.Entries.{entry_is_mark, items_of};
 ghost use Rattle.tangle_scan.specs.Rules.{texts_of};
-ghost use Rattle.tangle_scan.specs.WebBuilder.{own_fault, nothing_stored, builder_read};
-ghost use Rattle.tangle_scan.specs.WebBuilder.{builder_with, with_head};
+ghost use Rattle.tangle_scan.specs.WebBuilder.{nothing_stored, builder_read, builder_with};
 
-use crate::faults::{add_fault, add_faults};
+use crate::faults::{add_fault, add_faults, add_macro_faults};
 use crate::items::{Entry, Item, OccurrenceNumber};
 use crate::macro_items::macro_items;
 use crate::parts::{PartNotes, fill_part};
@@ -49,8 +48,8 @@ fn part_entries(
     ensures mark { IfOk result (λ r. r.1.has_mark ≡ list_any entry_is_mark r.0.items) }
     ensures all_macros { IfOk result
         (λ r. r.1.has_all_macros ≡ list_any web.is_all_macros tokens.now) }
-    ensures faults { OnOk result (faults.new.items
-        ≡ faults.old.items ++ flat_map (own_fault source.now.files source.now.lines) tokens.now) }
+    ensures faults { OnOk result (faults.new.items ≡ faults.old.items
+        ++ web.token_faults source.now.files source.now.lines None tokens.now) }
 {
     let mut entries = Vec::with_capacity(alloc, tokens.len())?;
     let notes = fill_part(alloc, source, faults, &mut entries, line, tokens)?;
@@ -113,7 +112,8 @@ impl WebBuilder {
         source: &Source,
         tokens: &[Token],
     ) -> Result<(), NoMemory>
-        requires { list_any is_head tokens.now ≡ false }
+        requires no_head { list_any is_head tokens.now ≡ false }
+        requires runs { All (IsRunIn (texts_of source.now.lines)) tokens.now }
         ensures builder { OnOk result (let texts = texts_of source.now.lines in
             builder_read texts self.new
             ≡ builder_with source.now (builder_read texts self.old) (unfolded texts tokens.now)) }
@@ -131,11 +131,12 @@ impl WebBuilder {
         source: &Source,
         tokens: &[Token],
     ) -> Result<(), NoMemory>
-        requires { self.old.sections + 1 < 2 ^ 64 }
+        requires limit { self.old.sections + 1 < 2 ^ 64 }
+        requires runs { All (IsRunIn (texts_of source.now.lines)) tokens.now }
         ensures { OnOk result (self.new ≡ record self.old {
           sections = self.old.sections + 1;
           faults = self.old.faults
-              ++ flat_map (own_fault source.now.files source.now.lines) tokens.now;
+              ++ web.token_faults source.now.files source.now.lines None tokens.now;
         }) }
     {
         self.sections += 1;
@@ -166,7 +167,7 @@ impl WebBuilder {
               has_all_macros =
                   self.old.has_all_macros || list_any web.is_all_macros (unfolded texts tokens.now);
               faults = self.old.faults
-                  ++ flat_map (own_fault source.now.files source.now.lines)
+                  ++ web.token_faults source.now.files source.now.lines None
                   (unfolded texts tokens.now);
             }) }
         ensures kept { OnOk result (RunsAreInRange (texts_of source.now.lines) self.new.pieces) }
@@ -188,6 +189,7 @@ impl WebBuilder {
         line: u32,
         tokens: &[Token],
     ) -> Result<(), NoMemory>
+        requires { All (IsRunIn (texts_of source.now.lines)) tokens.now }
         ensures { OnOk result
             (let items = rules.macro_items (texts_of source.now.lines) tokens.now in
             let is_macro = rules.is_macro (texts_of source.now.lines) items in
@@ -195,7 +197,7 @@ impl WebBuilder {
               macros = self.old.macros ++ (if is_macro then items ∷ [] else []);
               faults = (self.old.faults ++ (if is_macro then []
                   else web.fault_on source.now.files source.now.lines fault.MacroName line ∷ []))
-                  ++ flat_map (own_fault source.now.files source.now.lines) tokens.now;
+                  ++ web.macro_token_faults source.now.files source.now.lines tokens.now;
             }) }
     {
         let items = macro_items(alloc, source, tokens)?;
@@ -204,8 +206,7 @@ impl WebBuilder {
         } else {
             add_fault(alloc, source, &mut self.faults, FaultKind::MacroName, line)?;
         }
-        add_faults(alloc, source, &mut self.faults, tokens)?;
-        Ok(())
+        add_macro_faults(alloc, source, &mut self.faults, tokens)
     }
 
     /// Adds a block: a head and the tokens up to the next head.

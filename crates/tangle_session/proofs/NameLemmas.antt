@@ -1,14 +1,19 @@
--- No two outputs of a web have the same name.
+-- No two outputs of a web have names of the same plain form.
 use Rattle.std.proofs.Common.{rules}
 use Rattle.std.proofs.lemmas.Bool.Decides.{nat_tests}
 use Rattle.std.proofs.Common.{◌≡◌, ◌≢◌, ◌∙◌, ◌<◌, ◌≤◌, ◌+◌, ◌++◌, ℕ, zero, suc, true}
 use Rattle.std.proofs.Common.{map, filter, flat_map, get_or, ap, sym, subst, arith, length, ◌∷◌, [], List}
-use Rattle.std.specs.Prelude.{Some, All, AllPairs, Contains}
-use Rattle.std.specs.List.{IsDistinct, range_with_len}
+use Rattle.std.proofs.Common.{Bool, false, not, ◌&&◌, ◌||◌, true≢false, zero-add}
+use Rattle.std.specs.Prelude.{Some, All, AllPairs, Contains, is_some, nat_le, nat_lt}
+use Rattle.std.specs.List.{IsDistinct, list_any, range_with_len}
 use Rattle.std.specs.Str.{bytes_eq}
+use Rattle.std.proofs.Math.Decide.{dec_lt}
+use Rattle.std.proofs.lemmas.Bool.{and_from, and_parts, or_parts}
 use Rattle.std.proofs.lemmas.Cmp.{nat_list_eq_equiv}
 use Rattle.std.proofs.lemmas.List.{get_or-map, length-map}
 use Rattle.std.proofs.lemmas.List.Elements.{All-append, All-nil, All-map, All-filter, filter_passes}
+use Rattle.std.proofs.lemmas.List.Folds.{list_any-from_Any}
+use Rattle.std.proofs.lemmas.List.FromFn.{get_or-range_with_len, length-range_with_len}
 use Rattle.std.proofs.lemmas.List.Kept.{AllPairs-cons, AllPairs-filter}
 use Rattle.std.proofs.lemmas.Map.Made.{IsDistinct-from_AllPairs}
 use Rattle.std.proofs.lemmas.Map.Views.{lookup-from_Contains}
@@ -21,13 +26,16 @@ use Rattle.tangle_names.specs.declared.Resolved.TheVariants as resolved
 use Rattle.tangle_names.specs.NameTable.{TableRead, table_of}
 use Rattle.tangle_expansion.specs.Outputs.{OutputRead}
 use Rattle.tangle_plans.specs.ItemTags.{uses_resolved}
-use Rattle.tangle_plans.specs.WebShapes.{name_at, resolved_at}
+use Rattle.tangle_plans.specs.Flat.{depth, weight}
+use Rattle.tangle_plans.specs.Shapes.{Named}
+use Rattle.tangle_plans.specs.WebShapes.{name_at, resolved_at, shapes}
+use Rattle.tangle_expansion.specs.Limits.{heaviest, levels}
 use Rattle.tangle_graph.specs.Grouping.{has_number_in}
 use Rattle.tangle_graph.specs.Outputs.{file_names, first_file_name, first_file_occurrence}
-use Rattle.tangle_graph.specs.Outputs.{is_written, named_file, outputs}
-use Rattle.tangle_names.proofs.LawLemmas.{once}
+use Rattle.tangle_graph.specs.Outputs.{form_at, is_earlier_file, is_expandable, is_file, is_main_file, is_named_file}
+use Rattle.tangle_graph.specs.Outputs.{is_written, named_file, outputs, shape_has_piece}
+use Rattle.tangle_graph.specs.PlainForms.{plain_form}
 use Rattle.tangle_plans.proofs.InsideLemmas.{table_inside}
-use Rattle.tangle_graph.proofs.NodeLemmas.{once_named}
 use Rattle.tangle_graph.proofs.OutputLemmas.{names_below}
 use Rattle.tangle_session.specs.Headline.{output_at, output_bytes, output_files, table_at, web_at}
 use Rattle.tangle_session.proofs.OutputLemmas.{names_written}
@@ -65,6 +73,15 @@ module _ (table : TableRead) where
           grind (arith, nat_tests, are 0 x (omega arith), later (a + 1) n i d h))) rest
       by (x ∷ y ∷ ids) are few rest = search rules
 
+in_range : (n k : ℕ) → k < n → Contains (range_with_len 0 n) k
+in_range n k h = (k, omega (arith, length-range_with_len 0 n), get_or-range_with_len 0 n k k h ∙ zero-add k)
+
+of_not : (b : Bool) → not b ≡ true → b ≡ false
+of_not b h = search rules
+
+unclashed : (f s : Bool) → f ≡ true → (f && s) ≡ false → (f && not s) ≡ true
+unclashed f s is no_clash = ap (λ b. b && not s) is ∙ ap not (ap (λ b. b && s) (sym is) ∙ no_clash)
+
 abbrev name_of : OutputRead → List ℕ
 name_of o = o.name
 
@@ -89,6 +106,57 @@ module _ (web : WebRead) (out : List ℕ) where
   unfolding ids
   ids_written = filter_passes (is_written web table out) (file_names web table)
 
+  -- each has an occurrence with `@(`
+  ids_marked : All (λ id. is_some (first_file_occurrence table id) ≡ true) ids
+  unfolding ids
+  ids_marked = All-filter (is_written web table out) (λ id. is_some (first_file_occurrence table id) ≡ true)
+      (file_names web table)
+      (λ i d h. (let from = later table 0 (length web.occurrences) i d h in ap is_some from.1))
+
+  -- the name is that of a file, which is neither the main file nor that of an earlier name
+  record IsOwn (id : ℕ) : Type 0 where
+    named : is_named_file (shapes web table) table out id ≡ true
+    first : is_earlier_file (shapes web table) table out id ≡ false
+
+  own : (id : ℕ) → is_some (first_file_occurrence table id) ≡ true → is_written web table out id ≡ true → IsOwn id
+  own id marked is =
+      let title = Named (name_at table id) in
+      let both = and_parts (is_expandable (shapes web table) title)
+      (not (is_main_file (shapes web table) table out id || is_earlier_file (shapes web table) table out id)) is in
+      let has = (and_parts (shape_has_piece (shapes web table title))
+      (nat_lt (depth levels (shapes web table) title) levels && nat_le (weight levels (shapes web table) title) heaviest)
+      both.0).0 in
+      let apart = or_parts (is_main_file (shapes web table) table out id) (is_earlier_file (shapes web table) table out id)
+      (of_not _ both.1) in
+      record {
+        named = unclashed (is_file (shapes web table) table id) (bytes_eq (form_at table id) (plain_form out))
+            (and_from (is_some (first_file_occurrence table id)) (shape_has_piece (shapes web table title)) marked has)
+            apart.0;
+        first = apart.1;
+      }
+
+  ids_own : All IsOwn ids
+  ids_own i d h = own (get_or ids i d) (ids_marked i d h) (ids_written i d h)
+
+  -- of two names of one file the later one has no file of its own
+  only_first : (a b : ℕ) → a < b → IsOwn a → IsOwn b → form_at table b ≡ form_at table a → ⊥
+  only_first a b less x y same =
+      let test = λ (e : ℕ). is_named_file (shapes web table) table out e
+      && bytes_eq (form_at table b) (form_at table e) in
+      let found = in_range b a less in
+      let passes : test a ≡ true = and_from (is_named_file (shapes web table) table out a)
+      (bytes_eq (form_at table b) (form_at table a)) x.named
+      ((bytes_eq-Decides (form_at table b) (form_at table a)).1 same) in
+      let seen = list_any-from_Any test (range_with_len 0 b) (found.0, a, found.1, found.2, passes) in
+      true≢false (sym (and_from (is_named_file (shapes web table) table out b) (list_any test (range_with_len 0 b))
+      y.named seen) ∙ y.first)
+
+  forms_apart : (a b : ℕ) → a ≢ b → IsOwn a → IsOwn b → form_at table a ≢ form_at table b
+  forms_apart a b other x y same = elim (dec_lt a b) [
+    | yes low ↦ only_first a b low x y (sym same)
+    | no high ↦ only_first b a (omega arith) y x same
+  ]
+
   body_at : (i : ℕ) (d : List ℕ)
       → i < length ids → get_or (map name_of (map (named_file table) ids)) i d ≡ name_at table (get_or ids i 0)
   body_at i d h =
@@ -96,30 +164,64 @@ module _ (web : WebRead) (out : List ℕ) where
       d (omega (arith, length-map ids (named_file table)))
       ∙ ap name_of (get_or-map (named_file table) ids i 0 (named_file table 0) h)
 
-  named_once : AllPairs (λ a b. a ≢ b) (map name_of (map (named_file table) ids))
+  form_of_named : (i : ℕ) (d : List ℕ) → i < length ids
+      → get_or (map plain_form (map name_of (map (named_file table) ids))) i d ≡ form_at table (get_or ids i 0)
+  form_of_named i d h =
+      get_or-map plain_form (map name_of (map (named_file table) ids)) i [] d
+      (omega (arith, length-map (map (named_file table) ids) name_of, length-map ids (named_file table)))
+      ∙ ap plain_form (body_at i [] h)
+
+  named_once : AllPairs (λ a b. a ≢ b) (map plain_form (map name_of (map (named_file table) ids)))
   named_once i j d less h same =
       let high : j < length ids =
-      omega (arith, length-map (map (named_file table) ids) name_of, length-map ids (named_file table)) in
+      omega (
+        arith,
+        length-map (map name_of (map (named_file table) ids)) plain_form,
+        length-map (map (named_file table) ids) name_of,
+        length-map ids (named_file table),
+      ) in
       let low : i < length ids = omega arith in
-      ids_once i j 0 less high
-      (once_named table.names (get_or ids i 0) (get_or ids j 0) (once web.occurrences) (ids_below i 0 low)
-      (ids_below j 0 high) (sym (body_at i d low) ∙ same ∙ body_at j d high))
+      forms_apart (get_or ids i 0) (get_or ids j 0) (ids_once i j 0 less high) (ids_own i 0 low) (ids_own j 0 high)
+      (sym (form_of_named i d low) ∙ same ∙ form_of_named j d high)
 
-  main_apart : All (λ x. out ≢ x) (map name_of (map (named_file table) ids))
+  not_main : (id : ℕ) → IsOwn id → plain_form out ≢ form_at table id
+  not_main id is same =
+      let clash = (bytes_eq-Decides (form_at table id) (plain_form out)).1 (sym same) in
+      let both = and_parts (is_file (shapes web table) table id)
+      (not (bytes_eq (form_at table id) (plain_form out))) is.named in
+      true≢false (sym clash ∙ of_not (bytes_eq (form_at table id) (plain_form out)) both.1)
+
+  main_apart : All (λ x. plain_form out ≢ x) (map plain_form (map name_of (map (named_file table) ids)))
   main_apart =
-      All-map (λ x. out ≢ x) name_of (map (named_file table) ids) (All-map (λ o. out ≢ name_of o) (named_file table) ids
-      (λ i d h. search (rules, ids_written)))
+      All-map (λ x. plain_form out ≢ x) plain_form (map name_of (map (named_file table) ids))
+      (All-map (λ x. plain_form out ≢ plain_form x) name_of (map (named_file table) ids)
+      (All-map (λ o. plain_form out ≢ plain_form (name_of o)) (named_file table) ids
+      (λ i d h. not_main (get_or ids i d) (ids_own i d h))))
 
-  pub names_once : AllPairs (λ a b. a ≢ b) (map (λ o. o.name) (outputs web table out))
+  pub forms_once : AllPairs (λ a b. a ≢ b) (map plain_form (map name_of (outputs web table out)))
   unfolding ids
-  names_once = search (rules, main_apart, named_once)
+  forms_once = search (rules, main_apart, named_once)
+
+-- where no two of the values that a function gives are equal, no two of its arguments are
+apart_from : {X Y : Type 0} (f : X → Y) (xs : List X) → AllPairs (λ a b. a ≢ b) (map f xs) → AllPairs (λ a b. a ≢ b) xs
+apart_from f xs once i j d less h same =
+    once i j (f d) less (omega (arith, length-map xs f))
+    (get_or-map f xs i d (f d) (omega arith) ∙ ap f same ∙ sym (get_or-map f xs j d (f d) h))
+
+pub forms_distinct : (files : FileTable) (roles : RolesRead)
+    → IsDistinct bytes_eq (map plain_form (map (λ f. f.0) (output_files files roles)))
+forms_distinct files roles =
+    subst (λ names. IsDistinct bytes_eq (map plain_form names))
+    (names_written (output_bytes files roles) (outputs (web_at files roles) (table_at files roles) roles.out))
+    (IsDistinct-from_AllPairs bytes_eq-Decides _ (forms_once (web_at files roles) roles.out))
 
 pub names_distinct : (files : FileTable) (roles : RolesRead)
     → IsDistinct bytes_eq (map (λ f. f.0) (output_files files roles))
 names_distinct files roles =
     subst (IsDistinct bytes_eq)
     (names_written (output_bytes files roles) (outputs (web_at files roles) (table_at files roles) roles.out))
-    (IsDistinct-from_AllPairs bytes_eq-Decides _ (names_once (web_at files roles) roles.out))
+    (IsDistinct-from_AllPairs bytes_eq-Decides _
+    (apart_from plain_form _ (forms_once (web_at files roles) roles.out)))
 
 pub found_by_name : (files : FileTable) (roles : RolesRead) (name bytes : List ℕ)
     → Contains (output_files files roles) (name, bytes) → output_at files roles name ≡ Some bytes

@@ -11,6 +11,7 @@ ghost use Rattle.tangle_files.specs.declared.edits.Edit.{Edit};
 ghost use Rattle.tangle_files.specs.declared.marks.MarkMode.{MarkMode};
 ghost use Rattle.tangle_scan.specs.Web.{WebRead};
 ghost use Rattle.digraph.specs.Nodes.{Node};
+ghost use Rattle.tangle_graph.specs.PlainForms.{plain_form};
 ghost use Rattle.tangle_session.specs.Edits.{list_refusal, of_first, session_refusal};
 ghost use Rattle.tangle_session.specs.Headline.{Call, EachCycleIsReported, HasMade, History};
 ghost use Rattle.tangle_session.specs.Headline.{IsPlainTangling, NoOutputReachesACycle, accepted};
@@ -39,8 +40,11 @@ pub fn tangling_is_one()
         → IsPlainTangling files roles other others → (one ≡ other) × (faults ≡ others) }
 {}
 
-/// No two output files have the same name, so each is found by its name.
+/// No two output files have names of the same plain form, so none is written over another one; and
+/// each is found by its name.
 pub fn outputs_are_found_by_their_names()
+    ensures apart { (files : FileTable) (roles : RolesRead) → IsDistinct bytes_eq
+        (map plain_form (map (λ file. file.0) (output_files files roles))) }
     ensures distinct { (files : FileTable) (roles : RolesRead)
         → IsDistinct bytes_eq (map (λ file. file.0) (output_files files roles)) }
     ensures found { (files : FileTable) (roles : RolesRead) (name bytes : List ℕ)

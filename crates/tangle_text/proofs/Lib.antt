@@ -6,4 +6,7 @@ pub mod RegionLemmas
 pub mod RunChunks
 pub mod RunLemmas
 pub mod RunPartLemmas
+pub mod SeparatorLemmas
+pub mod TakenLemmas
 pub mod UnitLemmas
+pub mod WordLemmas

@@ -31,7 +31,7 @@ word-run = record { ends = λ x. refl; is = λ b x. refl }
 pub white-run : IsRunOf region.White is_white
 white-run = record { ends = λ x. refl; is = λ b x. refl }
 
-counted-run : (r : Region) (test : ℕ → Bool) → IsRunOf r test → (line column : ℕ) (bytes : List ℕ) (rest : List Cell) →
+pub counted-run : (r : Region) (test : ℕ → Bool) → IsRunOf r test → (line column : ℕ) (bytes : List ℕ) (rest : List Cell) →
     counted r 0 (line_text line column bytes ++ rest) ≡ prefix_len test bytes
 counted-run r test run line column [] rest = rw (run.ends (byte_at 0 rest)) refl
 counted-run r test run line column (b ∷ bs) rest =

@@ -2,7 +2,7 @@
 use Rattle.std.proofs.Common.{rules}
 use Rattle.std.proofs.lemmas.Bool.Decides.{nat_tests}
 use Rattle.std.proofs.Common.{◌≡◌, ℕ, ◌+◌, ◌<◌, ◌≤◌, ◌==◌, zero, suc, Bool, true, false, List, [], ◌∷◌, ◌++◌}
-use Rattle.std.proofs.Common.{cond, length, take, drop, get_or, slice_get, refl, ap, ◌∙◌, arith, drop-cons, drop-drop}
+use Rattle.std.proofs.Common.{Option, cond, length, take, drop, get_or, slice_get, refl, ap, ◌∙◌, arith, drop-cons, drop-drop}
 use Rattle.std.specs.List.{prefix_len}
 use Rattle.std.proofs.lemmas.List.Sums.{prefix_len-le-length}
 use Rattle.tangle_lines.specs.Reading.{SourceLine}
@@ -10,46 +10,67 @@ use Rattle.tangle_text.proofs.RunChunks.{alone-chunk}
 use Rattle.tangle_files.specs.Bytes.{space}
 use Rattle.tangle_text.specs.Bytes.{is_word_byte}
 use Rattle.tangle_text.specs.declared.runs.RunPart.TheVariants as part
-use Rattle.tangle_text.specs.Text.{Cell, line_text}
+use Rattle.tangle_text.specs.Text.{Cell, line_text, line_bytes}
 use Rattle.tangle_text.specs.Ahead.{rest_of}
-use Rattle.tangle_text.specs.Runs.{is_in_run, run_count, run_size, with_front_byte, chunks, parts_of}
+use Rattle.tangle_text.specs.Runs.{is_run_byte, is_in_run, longest_run, run_count, run_size}
+use Rattle.tangle_text.specs.Runs.{with_front_byte, chunks, parts_of}
+
+line_bytes-line : (line column : ℕ) (bs : List ℕ) (rest : List Cell)
+    → line_bytes (line_text line column bs ++ rest) ≡ bs
+line_bytes-line line column [] rest = refl
+line_bytes-line line column (b ∷ bs) rest = ap (λ l. b ∷ l) (line_bytes-line line (column + 1) bs rest)
 
 pub run_count-line : (line column : ℕ) (bs : List ℕ) (rest : List Cell)
     → run_count (line_text line column bs ++ rest) ≡ run_size bs
-run_count-line line column [] rest = refl
-run_count-line line column (b ∷ []) rest = refl
-run_count-line line column (b ∷ c ∷ bs) rest =
-    grind (arith, nat_tests, run_count-line line (column + 1) (c ∷ bs) rest)
+run_count-line line column bs rest = ap run_size (line_bytes-line line column bs rest)
 
 pub run_count-rest : (lines : List SourceLine) (bytes : List ℕ) (line column : ℕ)
     → run_count (rest_of lines bytes line column false) ≡ run_size (drop column bytes)
 run_count-rest lines bytes line column = grind (arith, nat_tests, run_count-line)
 
+fits-by : (t : Bool) (n m : ℕ) → n ≤ m → cond t (1 + n) 0 ≤ suc m
+fits-by x n m h = grind arith
+
 pub run_size-fits : (bs : List ℕ) → run_size bs ≤ length bs
 run_size-fits [] = omega arith
-run_size-fits (b ∷ bs) = grind (arith, nat_tests, run_size-fits bs)
+run_size-fits (b ∷ bs) = fits-by (is_in_run b bs) (run_size bs) (length bs) (run_size-fits bs)
 
--- the run goes over the byte at a column, or ends there
+-- the bytes that a run may go over: it may go over the byte at a column, or ends there
 
-get-drop : (bytes : List ℕ) (column : ℕ) → slice_get (drop column bytes) 0 ≡ slice_get bytes column
+pub get-drop : (bytes : List ℕ) (column : ℕ) → slice_get (drop column bytes) 0 ≡ slice_get bytes column
 get-drop bytes zero = refl
 get-drop [] (suc column) = refl
 get-drop (b ∷ bs) (suc column) = get-drop bs column
 
-pub run_size_step : (bytes : List ℕ) (column : ℕ) → column < length bytes
-    → run_size (drop column bytes)
-    ≡ cond (is_in_run (get_or bytes column 0) (slice_get bytes (column + 1))) (1 + run_size (drop (column + 1) bytes)) 0
-run_size_step bytes column h = grind (arith, nat_tests, drop-cons bytes column 0 h, get-drop bytes (suc column))
+pub get-drop-next : (bytes : List ℕ) (column : ℕ) → slice_get (drop column bytes) 1 ≡ slice_get bytes (column + 1)
+get-drop-next bytes zero = refl
+get-drop-next [] (suc column) = refl
+get-drop-next (b ∷ bs) (suc column) =
+    let next : suc (column + 1) ≡ suc column + 1 = omega arith in
+    get-drop-next bs column ∙ ap (slice_get (b ∷ bs)) next
 
-pub run_size-over : (bytes : List ℕ) (column next : ℕ) → column < length bytes → next ≡ column + 1
-    → is_in_run (get_or bytes column 0) (slice_get bytes (column + 1)) ≡ true
-    → run_size (drop column bytes) ≡ 1 + run_size (drop next bytes)
-run_size-over bytes column next h after is = rw (run_size_step bytes column h, is, after) refl
+step-by : (b : ℕ) (next : Option ℕ) (bs : List ℕ) → slice_get bs 0 ≡ next
+    → longest_run (b ∷ bs) ≡ cond (is_run_byte b next) (1 + longest_run bs) 0
+step-by b next bs e = rw (← e) refl
 
-pub run_size-end : (bytes : List ℕ) (column : ℕ) → column < length bytes
-    → is_in_run (get_or bytes column 0) (slice_get bytes (column + 1)) ≡ false
-    → run_size (drop column bytes) ≡ 0
-run_size-end bytes column h is = rw (run_size_step bytes column h, is) refl
+pub longest_run_step : (bytes : List ℕ) (column : ℕ) → column < length bytes
+    → longest_run (drop column bytes)
+    ≡ cond (is_run_byte (get_or bytes column 0) (slice_get bytes (column + 1))) (1 + longest_run (drop (column + 1) bytes)) 0
+longest_run_step bytes column h =
+    let next : column + 1 ≡ suc column = omega arith in
+    ap longest_run (drop-cons bytes column 0 h)
+    ∙ rw next (step-by (get_or bytes column 0) (slice_get bytes (suc column)) (drop (suc column) bytes)
+    (get-drop bytes (suc column)))
+
+pub longest_run-over : (bytes : List ℕ) (column next : ℕ) → column < length bytes → next ≡ column + 1
+    → is_run_byte (get_or bytes column 0) (slice_get bytes (column + 1)) ≡ true
+    → longest_run (drop column bytes) ≡ 1 + longest_run (drop next bytes)
+longest_run-over bytes column next h after is = rw (longest_run_step bytes column h, is, after) refl
+
+pub longest_run-end : (bytes : List ℕ) (column : ℕ) → column < length bytes
+    → is_run_byte (get_or bytes column 0) (slice_get bytes (column + 1)) ≡ false
+    → longest_run (drop column bytes) ≡ 0
+longest_run-end bytes column h is = rw (longest_run_step bytes column h, is) refl
 
 -- the word bytes at the front are a chunk
 pub chunks-word : (b : ℕ) (bs : List ℕ) → is_word_byte b ≡ true

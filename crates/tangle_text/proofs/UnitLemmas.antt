@@ -8,7 +8,7 @@ use Rattle.tangle_text.specs.declared.regions.Unit.{Unit as Unit-of}
 use Rattle.tangle_text.specs.declared.regions.Unit.TheVariants as unit
 use Rattle.tangle_text.specs.NameBytes.{unit_name_bytes, unit_bytes, name_bytes}
 use Rattle.tangle_text.specs.Text.{Cell, byte_at}
-use Rattle.tangle_text.specs.Regions.{unit_at, more_by, unless_stop, units, count_before}
+use Rattle.tangle_text.specs.Regions.{unit_at, more_by, unless_stop, units_from, units, count_before}
 
 -- the number of cells up to the end of a region: 0 where it ends, else this cell and those after it
 abbrev pub count_by : Unit-of → ℕ → ℕ
@@ -49,7 +49,15 @@ pub units-give : {A : Type 0} (f : Unit-of → Cell → Option ℕ → List A) (
 units-give f g r one two last [] = refl
 units-give f g r one two last (c ∷ []) = grind (arith, nat_tests)
 units-give f g r one two last (c ∷ d ∷ cs) =
-    grind (arith, nat_tests, units-give f g r one two last (d ∷ cs), units-give f g r one two last cs)
+    by (unit_at r (c ∷ d ∷ cs)) (units-give f g r one two last (d ∷ cs)) (units-give f g r one two last cs)
+  where
+    by : (u : Unit-of) → flat_map g (units r (d ∷ cs)) ≡ from_units f r 0 (d ∷ cs)
+        → flat_map g (units r cs) ≡ from_units f r 0 cs
+        → flat_map g (units_from u c d (units r (d ∷ cs)) (units r cs))
+        ≡ unless_stop u (f u c d.byte ++ from_units f r (more_by u) (d ∷ cs))
+    by unit.Stop next further = refl
+    by unit.One next further = rw (one c d.byte, next) refl
+    by unit.Two next further = rw (two c d, further) refl
 
 -- the bytes of the units of a name
 

@@ -22,6 +22,10 @@ quoted_unit close b next =
     unit_by (holds close b || is_line_end b)
     (are_bytes at_sign at_sign b next || holds backslash b && not (holds at_sign next))
 
+-- an apostrophe before a word byte, which a number with a word byte before it goes on over
+abbrev pub is_separator : Option ℕ → Option ℕ → Bool
+is_separator b next = holds apostrophe b && holds_word_byte next
+
 -- The unit of a region at these two cells: the end of the region, two cells that belong together,
 -- or one.
 abbrev pub unit_of : Region → Option ℕ → Option ℕ → Unit-of
@@ -50,6 +54,9 @@ unit_of region.HeaderName b next =
 -- a word ends where no word byte is, and white space where no white space is
 unit_of region.Word b next = unit_by (not (holds_word_byte b)) false
 unit_of region.White b next = unit_by (not (holds_white b)) false
+-- a number goes on over an apostrophe between two word bytes, too
+unit_of region.Number b next =
+    unit_by (not (holds_word_byte b || is_separator b next)) (is_separator b next)
 -- text without an `@`, which may have line ends in it
 unit_of region.Prose b next = unit_by (holds at_sign b) false
 -- a bad constant goes on up to an apostrophe or the line end

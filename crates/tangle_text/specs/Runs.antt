@@ -4,7 +4,8 @@ use Rattle.std.specs.Prelude.{if◌then◌else◌, List, [], ◌∷◌, length, 
 use Rattle.tangle_files.specs.Bytes.{space}
 use Rattle.tangle_lines.specs.Bytes.{at_sign, double_quote, is_white}
 use Rattle.tangle_text.specs.Bytes.{apostrophe, asterisk, slash, backslash, holds, is_word_byte}
-use Rattle.tangle_text.specs.Text.{Cell, byte_at, span_text}
+use Rattle.tangle_text.specs.Text.{Cell, line_bytes, span_at, span_text}
+use Rattle.tangle_text.specs.Regions.{is_separator}
 use Rattle.tangle_text.specs.declared.spans.Span.{Span}
 use Rattle.tangle_text.specs.declared.runs.RunPart.{RunPart}
 use Rattle.tangle_text.specs.declared.runs.RunPart.TheVariants as part
@@ -20,26 +21,44 @@ abbrev pub holds_plain : Option ℕ → Bool
 holds_plain None = false
 holds_plain (Some b) = is_plain b
 
--- A run goes over a plain byte, over a space before a plain byte, and over a slash that opens no
+-- A run may go over a plain byte, over a space before a plain byte, and over a slash that opens no
 -- comment. `next` is the byte after `b`.
-abbrev pub is_in_run : ℕ → Option ℕ → Bool
-is_in_run b next =
+abbrev pub is_run_byte : ℕ → Option ℕ → Bool
+is_run_byte b next =
     is_plain b || b == space && holds_plain next
     || b == slash && not (holds asterisk next || holds slash next)
 
-abbrev pub holds_in_run : Option ℕ → Option ℕ → Bool
-holds_in_run None next = false
-holds_in_run (Some b) next = is_in_run b next
+-- the number of bytes at the front of the rest of a line that a run may go over
+abbrev pub longest_run : List ℕ → ℕ
+longest_run [] = 0
+longest_run (b ∷ bs) = if is_run_byte b (slice_get bs 0) then 1 + longest_run bs else 0
 
--- the number of cells of the run at the front of a text
-abbrev pub run_count : List Cell → ℕ
-run_count [] = 0
-run_count (c ∷ cs) = if holds_in_run c.byte (byte_at 0 cs) then 1 + run_count cs else 0
+-- Word bytes, as many as there are, are directly before an apostrophe and a word byte, which may
+-- belong to their word.
+abbrev pub is_before_separator : List ℕ → Bool
+is_before_separator [] = false
+is_before_separator (b ∷ bs) =
+    if is_word_byte b then is_before_separator bs else is_separator (Some b) (slice_get bs 0)
+
+-- A run goes over the first of these bytes: it ends before a word that may go on after an
+-- apostrophe, and before a space in front of such a word.
+abbrev pub is_in_run : ℕ → List ℕ → Bool
+is_in_run b bs =
+    is_run_byte b (slice_get bs 0)
+    && not (is_before_separator (b ∷ bs) || b == space && is_before_separator bs)
 
 -- the number of bytes of the run at the front of the rest of a line
 abbrev pub run_size : List ℕ → ℕ
 run_size [] = 0
-run_size (b ∷ bs) = if is_in_run b (slice_get bs 0) then 1 + run_size bs else 0
+run_size (b ∷ bs) = if is_in_run b bs then 1 + run_size bs else 0
+
+-- the number of cells of the run at the front of a text
+abbrev pub run_count : List Cell → ℕ
+run_count text = run_size (line_bytes text)
+
+-- the span of the run at the front of a text, unless no byte is in it
+abbrev pub run_at : List Cell → Option Span
+run_at text = if run_count text == 0 then None else Some (span_at (run_count text) text)
 
 -- the chunks of `b` and then of the bytes that have these chunks
 abbrev pub with_front_byte : ℕ → List (List ℕ) → List (List ℕ)

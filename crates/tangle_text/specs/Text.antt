@@ -26,6 +26,16 @@ text_from line (l ∷ ls) = line_text line 0 l.bytes ++ text_from (line + 1) ls
 abbrev pub bytes_of : List Cell → List ℕ
 bytes_of cells = flat_map (λ c. option_to_list c.byte) cells
 
+-- a byte, unless it is a line end, and then these
+abbrev pub bytes_by : Option ℕ → List ℕ → List ℕ
+bytes_by None bytes = []
+bytes_by (Some b) bytes = b ∷ bytes
+
+-- the bytes of a text up to its first line end
+abbrev pub line_bytes : List Cell → List ℕ
+line_bytes [] = []
+line_bytes (c ∷ cs) = bytes_by c.byte (line_bytes cs)
+
 -- the byte of the cell at this distance from the front; after the end of the text there are line
 -- ends
 abbrev pub byte_at : ℕ → List Cell → Option ℕ

@@ -19,6 +19,13 @@ pub fn is_white(byte: u8) -> bool
     byte == b' ' || byte == b'\t' || byte == b'\r' || byte == 11 || byte == 12
 }
 
+/// Whether a byte is a decimal digit.
+pub fn is_digit(byte: u8) -> bool
+    ensures { result ≡ spec.is_digit byte }
+{
+    b'0' <= byte && byte <= b'9'
+}
+
 /// The small letter of a capital one; any other byte unchanged.
 pub fn lower(byte: u8) -> u8
     ensures { result ≡ spec.lower byte }

@@ -11,12 +11,12 @@ ghost use Rattle.tangle_text.specs.NameBytes.{BeginsName};
 ghost use Rattle.tangle_text.specs.declared.regions.Region.TheVariants as region;
 ghost use Rattle.tangle_text.specs.Words.{word_more, is_include_word};
 ghost use Rattle.tangle_text.specs.Text.{text_from, byte_at, bytes_of, front_line, front_column};
-ghost use Rattle.tangle_text.specs.Text.{span_at};
-ghost use Rattle.tangle_text.specs.Runs.{run_count};
+ghost use Rattle.tangle_text.specs.Text.{span_at, line_text};
+ghost use Rattle.tangle_text.specs.Runs.{run_at, run_count};
 ghost use Rattle.tangle_text.specs.Regions as regions;
 ghost use Rattle.tangle_text.specs.Regions.{count_before, more_by, region_end};
 
-use crate::bytes::{holds, is_white};
+use crate::bytes::{holds, is_digit, is_white};
 use crate::classes::{is_ordinary, is_word_byte};
 use crate::regions::{Region, Unit, skips_ordinary, unit_of};
 use crate::runs::run_end;
@@ -67,7 +67,7 @@ impl<'s, 'a> Model for Reader<'s, 'a> {
 
 /// The byte at a column of a line; `None` at the line's end.
 #[inline(always)]
-fn byte_of(bytes: &[u8], column: usize) -> Option<u8>
+pub(crate) fn byte_of(bytes: &[u8], column: usize) -> Option<u8>
     ensures { result ≡ slice_get bytes.now column }
 {
     bytes.get(column).copied()
@@ -121,6 +121,37 @@ pub(crate) fn word_end(bytes: &[u8], from: usize) -> usize
     ensures inside { result ≤ length bytes.now }
 {
     run_end!(is_word_byte, bytes, from)
+}
+
+/// The column where a number ends of which the bytes before this column were read.
+fn number_end(bytes: &[u8], from: usize) -> usize
+    requires { from ≤ length bytes.now }
+    ensures end { result ≡ from + count_before region.Number (line_text 0 0 (drop from bytes.now)) }
+    ensures inside { result ≤ length bytes.now }
+{
+    let mut end = from;
+    while end < bytes.len() {
+        match unit_of(Region::Number, byte_of(bytes, end), byte_of(bytes, end + 1)) {
+            Unit::Stop => return end,
+            Unit::One => end += 1,
+            Unit::Two => end += 2,
+        }
+    }
+    end
+}
+
+/// The column after the word that begins at this column.
+#[inline(always)]
+fn whole_word_end(bytes: &[u8], from: usize) -> usize
+    requires { from < length bytes.now }
+    ensures end { result ≡ from + 1 + word_more (line_text 0 0 (drop from bytes.now)) }
+    ensures inside { result ≤ length bytes.now }
+{
+    if is_digit(bytes[from]) {
+        number_end(bytes, from + 1)
+    } else {
+        word_end(bytes, from + 1)
+    }
 }
 
 /// The column after the run of ordinary bytes from this column on.
@@ -368,7 +399,7 @@ impl<'s, 'a> Reader<'s, 'a> {
         requires { IsSome (byte_at 0 self.now) }
         ensures { result ≡ is_include_word (bytes_of (take (1 + word_more self.now) self.now)) }
     {
-        let end = word_end(self.bytes, self.column + 1);
+        let end = whole_word_end(self.bytes, self.column);
         &self.bytes[self.column..end] == b"include".as_slice()
     }
 
@@ -380,7 +411,7 @@ impl<'s, 'a> Reader<'s, 'a> {
         ensures ahead { self.new ≡ drop (word_more self.old) (drop 1 self.old) }
     {
         let start = self.column;
-        let end = word_end(self.bytes, start + 1);
+        let end = whole_word_end(self.bytes, start);
         self.column = end;
         Span {
             line: self.line as u32,
@@ -390,21 +421,24 @@ impl<'s, 'a> Reader<'s, 'a> {
     }
 
     /// Advances over the run at the position: words, signs that open nothing, and single spaces
-    /// between them. Returns the run's span.
+    /// between them. Returns the run's span; `None` if no byte is in the run.
     #[inline(always)]
-    pub fn take_run(&mut self) -> Span
+    pub fn take_run(&mut self) -> Option<Span>
         requires { IsSome (byte_at 0 self.old) }
-        ensures span { result ≡ span_at (run_count self.old) self.old }
+        ensures span { result ≡ run_at self.old }
         ensures ahead { self.new ≡ drop (run_count self.old) self.old }
     {
         let start = self.column;
         let end = run_end(self.bytes, start);
+        if end == start {
+            return None;
+        }
         self.column = end;
-        Span {
+        Some(Span {
             line: self.line as u32,
             start: start as u16,
             end: end as u16,
-        }
+        })
     }
 
     /// Advances over the white space at the position.

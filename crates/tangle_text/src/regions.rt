@@ -29,6 +29,8 @@ pub enum Region {
     Word,
     /// Up to a byte that is no white space, or the line end.
     White,
+    /// As a word, but over an apostrophe between two word bytes.
+    Number,
     /// Up to an `@`, which may be on a later line.
     Prose,
     /// A bad ASCII constant: up to an apostrophe or the line end.
@@ -67,6 +69,14 @@ fn quoted_unit(close: u8, byte: Option<u8>, next: Option<u8>) -> Unit
     unit_by(holds(close, byte) || byte.is_none(), is_two)
 }
 
+/// Whether a number goes on here over an apostrophe and the word byte after it.
+#[inline(always)]
+pub(crate) fn is_separator(byte: Option<u8>, next: Option<u8>) -> bool
+    ensures { result ≡ spec.is_separator byte next }
+{
+    holds(b'\'', byte) && holds_word_byte(next)
+}
+
 /// The unit at a position of a region, by the two bytes or line ends from the position on.
 #[inline(always)]
 pub fn unit_of(region: Region, byte: Option<u8>, next: Option<u8>) -> Unit
@@ -87,6 +97,10 @@ pub fn unit_of(region: Region, byte: Option<u8>, next: Option<u8>) -> Unit
         Region::HeaderName => unit_by(holds(b'>', byte) || byte.is_none(), doubled),
         Region::Word => unit_by(!holds_word_byte(byte), false),
         Region::White => unit_by(!holds_white(byte), false),
+        Region::Number => {
+            let separates = is_separator(byte, next);
+            unit_by(!(holds_word_byte(byte) || separates), separates)
+        }
         Region::Prose => unit_by(at, false),
         Region::BadConstant => unit_by(holds(b'\'', byte) || byte.is_none(), false),
     }

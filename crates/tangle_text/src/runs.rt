@@ -1,12 +1,14 @@
 //! Runs: ranges of a line that consist of words, signs and single spaces.
 ghost use Rattle.std.specs.Prelude.{◌≡◌, ◌≤◌, ◌<◌, ◌+◌, ◌-◌, ◌^◌, length, take, drop, get_or};
-ghost use Rattle.std.specs.Prelude.{false, slice_get};
+ghost use Rattle.std.specs.Prelude.{true, false, slice_get};
+ghost use Rattle.tangle_text.specs.Regions.{is_separator};
 ghost use Rattle.tangle_text.specs.Runs as runs;
-ghost use Rattle.tangle_text.specs.Runs.{chunks, parts_of, run_size};
+ghost use Rattle.tangle_text.specs.Runs.{chunks, parts_of, longest_run, run_size};
 
 use crate::bytes::holds;
 use crate::classes::{is_plain, is_word_byte};
-use crate::reader::word_end;
+use crate::reader::{byte_of, word_end};
+use crate::regions::is_separator;
 use crate::spans::Span;
 use std::marker::Model;
 
@@ -19,13 +21,13 @@ fn holds_plain(byte: Option<u8>) -> bool
     }
 }
 
-/// Whether a run goes over the byte at this column, which is not plain.
+/// Whether a run may go over the byte at this column, which is not plain.
 #[inline(always)]
 fn goes_on(bytes: &[u8], column: usize) -> bool
     requires inside { column < length bytes.now }
     requires other { runs.is_plain (get_or bytes.now column 0) ≡ false }
     ensures { result
-        ≡ runs.is_in_run (get_or bytes.now column 0) (slice_get bytes.now (column + 1)) }
+        ≡ runs.is_run_byte (get_or bytes.now column 0) (slice_get bytes.now (column + 1)) }
 {
     let next = bytes.get(column + 1).copied();
     match bytes[column] {
@@ -35,23 +37,23 @@ fn goes_on(bytes: &[u8], column: usize) -> bool
     }
 }
 
-/// Whether a run goes over the byte at this column.
+/// Whether a run may go over the byte at this column.
 #[inline(always)]
 fn goes_over(bytes: &[u8], column: usize) -> bool
     requires { column < length bytes.now }
     ensures { result
-        ≡ runs.is_in_run (get_or bytes.now column 0) (slice_get bytes.now (column + 1)) }
+        ≡ runs.is_run_byte (get_or bytes.now column 0) (slice_get bytes.now (column + 1)) }
 {
     is_plain(bytes[column]) || goes_on(bytes, column)
 }
 
-/// The column after the run that begins at this column of a line.
+/// The column of the first byte from this column on that no run goes over.
 // Four bytes are tested in a turn, as for words.
-#[tactic(auto, using(crate::proofs::RunPartLemmas::run_size_step))]
+#[tactic(auto, using(crate::proofs::RunPartLemmas::longest_run_step))]
 #[inline(always)]
-pub(crate) fn run_end(bytes: &[u8], from: usize) -> usize
+fn longest_run_end(bytes: &[u8], from: usize) -> usize
     requires { from ≤ length bytes.now }
-    ensures end { result ≡ from + run_size (drop from bytes.now) }
+    ensures end { result ≡ from + longest_run (drop from bytes.now) }
     ensures inside { result ≤ length bytes.now }
 {
     let mut end = from;
@@ -74,6 +76,41 @@ pub(crate) fn run_end(bytes: &[u8], from: usize) -> usize
         end += 1;
     }
     end
+}
+
+/// The column before the word that ends at this column, and before a space in front of the word.
+fn before_word(bytes: &[u8], from: usize, end: usize) -> usize
+    requires inside { end ≤ length bytes.now }
+    requires longest { end ≡ from + longest_run (drop from bytes.now) }
+    requires separator { is_separator (slice_get bytes.now end) (slice_get bytes.now (end + 1))
+        ≡ true }
+    ensures start { result ≡ from + run_size (drop from bytes.now) }
+    ensures inside { result ≤ end }
+{
+    let mut start = end;
+    while start > from && is_word_byte(bytes[start - 1]) {
+        start -= 1;
+    }
+    if start > from && bytes[start - 1] == b' ' {
+        start - 1
+    } else {
+        start
+    }
+}
+
+/// The column after the run that begins at this column of a line.
+#[inline(always)]
+pub(crate) fn run_end(bytes: &[u8], from: usize) -> usize
+    requires { from ≤ length bytes.now }
+    ensures end { result ≡ from + run_size (drop from bytes.now) }
+    ensures inside { result ≤ length bytes.now }
+{
+    let end = longest_run_end(bytes, from);
+    if is_separator(byte_of(bytes, end), byte_of(bytes, end + 1)) {
+        before_word(bytes, from, end)
+    } else {
+        end
+    }
 }
 
 /// A part of a run.

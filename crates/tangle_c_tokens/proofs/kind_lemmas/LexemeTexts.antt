@@ -15,7 +15,8 @@ use Rattle.tangle_text.specs.Bytes.{holds, is_line_end, holds_word_byte}
 use Rattle.tangle_text.specs.Bytes.{apostrophe}
 use Rattle.tangle_text.specs.Bytes.{less_sign}
 use Rattle.tangle_text.specs.Text.{Cell, byte_at, front_line, span_at}
-use Rattle.tangle_text.specs.Regions.{unit_at, more_by, units, count_before}
+use Rattle.tangle_text.specs.Regions.{unit_at, more_by, units}
+use Rattle.tangle_text.specs.Words.{word_more}
 use Rattle.tangle_lexer.specs.declared.modes.Mode.{Mode}
 use Rattle.tangle_lexer.specs.declared.modes.Mode.TheVariants as mode
 use Rattle.tangle_lexer.specs.declared.modes.IncludeState.{IncludeState}
@@ -156,7 +157,7 @@ module _ (texts : List (List ℕ)) where
 
   word-whole : (c : Cell) (cs : List Cell) → IsInLine texts c cs → (b : Option ℕ) → c.byte ≡ b
       → holds_word_byte b ≡ true
-      → AreWhole (token.Span span_kind.Word (span_at (1 + count_before region.Word cs) (c ∷ cs)) ∷ [])
+      → AreWhole (token.Span span_kind.Word (span_at (1 + word_more (c ∷ cs)) (c ∷ cs)) ∷ [])
   word-whole c cs is None e word = cc
   word-whole c cs is (Some b) e word =
       whole _ (search (rules, texts-alone, word-span, texts-none))

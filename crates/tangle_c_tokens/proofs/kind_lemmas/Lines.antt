@@ -11,21 +11,12 @@ use Rattle.std.specs.List.{list_any}
 use Rattle.std.proofs.lemmas.Bool.{or_parts}
 use Rattle.tangle_lines.specs.Reading.{SourceLine}
 use Rattle.tangle_text.specs.Bytes.{holds}
-use Rattle.tangle_text.specs.Text.{Cell, line_text, text_from, texts_of, span_at, span_text}
+use Rattle.tangle_text.specs.Text.{Cell, line_bytes, line_text, text_from, texts_of, span_at, span_text}
 use Rattle.tangle_lexer.specs.SpanBytes.{first_byte}
 use Rattle.c_tokens.specs.Bytes.{line_feed}
 use Rattle.c_tokens.specs.Borders.{has_bytes}
 use Rattle.tangle_c_tokens.specs.LineFeeds.{HaveNoLineFeed}
 use Rattle.std.proofs.lemmas.Bool.Decides.{nat_tests}
-
-abbrev pub bytes_by : Option ℕ → List ℕ → List ℕ
-bytes_by None rest = []
-bytes_by (Some b) rest = b ∷ rest
-
--- the bytes of the cells up to the first line end
-abbrev pub line_bytes : List Cell → List ℕ
-line_bytes [] = []
-line_bytes (c ∷ cs) = bytes_by c.byte (line_bytes cs)
 
 -- the cells after a cell are at the next column, or at the front of a line after a line end
 abbrev pub Continues : Option ℕ → Cell → List Cell → Type 0

@@ -34,7 +34,7 @@ gaps-last [] t all gap = (gap, tt)
 gaps-last (u ∷ run) t all gap = (all.0, gaps-last run t all.1 gap)
 
 range-first : (t : Token) (ts : List Token) → is_range t ≡ true → first_is_range (t ∷ ts) ≡ true
-range-first t ts h = range-by (λ u. first_is_range (u ∷ ts) ≡ true) (λ s. refl) refl t h
+range-first t ts h = range-by (λ u. first_is_range (u ∷ ts) ≡ true) (λ s. refl) (λ n. refl) t h
 
 after-gaps : (run : List Token) (t : Token) (ts : List Token) → AreNameGaps run → has_join run ≡ false → is_range t
     ≡ true
@@ -68,8 +68,8 @@ module _ (texts : List (List ℕ)) where
   name-left (token.Span span_kind.Word s ∷ ts) run gaps h = cc
   name-left (token.Span span_kind.Sign s ∷ ts) run gaps h = cc
   name-left (token.Span span_kind.Verbatim s ∷ ts) run gaps h = cc
-  name-left (token.QuoteBreak ∷ []) run gaps h = range-left token.QuoteBreak [] run gaps h
-  name-left (token.QuoteBreak ∷ f ∷ ts) run gaps h = range-left token.QuoteBreak (spaced f ts) run gaps h
+  name-left (token.QuoteBreak n ∷ []) run gaps h = range-left (token.QuoteBreak n) [] run gaps h
+  name-left (token.QuoteBreak n ∷ f ∷ ts) run gaps h = range-left (token.QuoteBreak n) (spaced f ts) run gaps h
   name-left (t ∷ ts) run gaps h = cc
 
   backslashes-left : (ts : List Token) → first_is_range ts ≡ true → first_is_range (without_backslashes texts ts) ≡ true
@@ -80,7 +80,7 @@ module _ (texts : List (List ℕ)) where
   backslashes-left (token.Span span_kind.Word s ∷ ts) h = cc
   backslashes-left (token.Span span_kind.Sign s ∷ ts) h = cc
   backslashes-left (token.Span span_kind.Verbatim s ∷ ts) h = cc
-  backslashes-left (token.QuoteBreak ∷ ts) h = refl
+  backslashes-left (token.QuoteBreak n ∷ ts) h = refl
   backslashes-left (t ∷ ts) h = cc
 
   no-macro : (white : Bool) (ts : List Token) → first_is_range ts ≡ true
@@ -92,7 +92,7 @@ module _ (texts : List (List ℕ)) where
   no-macro white (token.Span span_kind.Word s ∷ ts) h = cc
   no-macro white (token.Span span_kind.Sign s ∷ ts) h = cc
   no-macro white (token.Span span_kind.Verbatim s ∷ ts) h = cc
-  no-macro white (token.QuoteBreak ∷ ts) h = refl
+  no-macro white (token.QuoteBreak n ∷ ts) h = refl
   no-macro white (t ∷ ts) h = cc
 
   pub kept-name : (ts : List Token) → is_macro texts (macro_items texts ts) ≡ true

@@ -160,11 +160,11 @@ module _ (texts : List (List ℕ)) (r : Region) (close last_line : ℕ) (cut : I
 
   broken-holds : (n : ℕ) (c d : Cell) (cs : List Cell) (b start : ℕ) → c.byte ≡ Some b → d.byte ≡ None
       → unit_of r c.byte d.byte ≡ unit.Two → Holds n cs → AreInLines texts (c ∷ d ∷ cs) → start ≤ c.column
-      → tokens_of start (c ∷ d ∷ cs) ≡ cut_range r c.line start (c.column + 1) ++ token.QuoteBreak ∷ tokens_of 0 cs
+      → tokens_of start (c ∷ d ∷ cs) ≡ cut_range r c.line start (c.column + 1) ++ token.QuoteBreak c.line ∷ tokens_of 0 cs
       → Ends (range texts c.line start c.column) c.byte (tokens_of start (c ∷ d ∷ cs))
   broken-holds n c d cs b start x y e next is low tokens =
       let cut = cut-range c.line start (c.column + 1) (omega arith) (byte-within texts c (d ∷ cs) b x is.0)
-      (token.QuoteBreak ∷ tokens_of 0 cs) in
+      (token.QuoteBreak c.line ∷ tokens_of 0 cs) in
       let further = (from-front n d cs y next is.1).1 in
       record {
         ends = further.ends;
@@ -254,7 +254,7 @@ module _ (texts : List (List ℕ)) (r : Region) (close last_line : ℕ) (cut : I
           others-holds n c d cs b y start x k e s next is low (tokens ∙ rw s (none (holds backslash c.byte) d.byte k))
         where
           none : (slash : Bool) (z : Option ℕ) → z ≡ Some y
-              → cond (slash && is_line_end z) (cut_range r c.line start (c.column + 1) ++ token.QuoteBreak ∷ []) []
+              → cond (slash && is_line_end z) (cut_range r c.line start (c.column + 1) ++ token.QuoteBreak c.line ∷ []) []
               ++ tokens_of (cond (slash && is_line_end z) 0 start) cs ≡ tokens_of start cs
           none slash None same = cc
           none true (Some z) same = refl

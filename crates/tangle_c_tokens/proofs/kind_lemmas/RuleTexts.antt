@@ -22,13 +22,13 @@ use Rattle.tangle_c_tokens.proofs.kind_lemmas.Texts.{texts-none, texts-alone, te
 use Rattle.std.proofs.lemmas.Bool.Decides.{nat_tests}
 
 -- what is true of ranges and breaks
-pub range-by : (P : Token → Type 0) → ((s : Span) → P (token.Span span_kind.Quoted s)) → P token.QuoteBreak
+pub range-by : (P : Token → Type 0) → ((s : Span) → P (token.Span span_kind.Quoted s)) → ((n : ℕ) → P (token.QuoteBreak n))
     → (t : Token) → is_range t ≡ true → P t
 range-by P range break (token.Span span_kind.Quoted s) h = range s
 range-by P range break (token.Span span_kind.Word s) h = cc
 range-by P range break (token.Span span_kind.Sign s) h = cc
 range-by P range break (token.Span span_kind.Verbatim s) h = cc
-range-by P range break token.QuoteBreak h = break
+range-by P range break (token.QuoteBreak n) h = break n
 range-by P range break _ h = cc
 
 -- `f` keeps each range
@@ -65,14 +65,14 @@ module _ (texts : List (List ℕ)) where
   -- the tokens before the next head
   pub body-texts : (ts : List Token) → AreTexts texts ts → AreTexts texts (body ts)
   body-texts = edited-texts body (texts-none texts)
-      (λ t ts h. range-by (λ t. body (t ∷ ts) ≡ t ∷ body ts) (λ s. refl) refl t h)
+      (λ t ts h. range-by (λ t. body (t ∷ ts) ≡ t ∷ body ts) (λ s. refl) (λ n. refl) t h)
       (λ t ts alone kind made.
       cond_both (is_head t) [] (t ∷ body ts) (AreTexts texts) (λ e. texts-none texts)
       (λ e. texts-alone texts t (body ts) alone kind made))
 
   inner-texts : (ts : List Token) → AreTexts texts ts → AreTexts texts (map white_inner_end ts)
   inner-texts = edited-texts (map white_inner_end) (texts-none texts)
-      (λ t ts h. range-by (λ t. map white_inner_end (t ∷ ts) ≡ t ∷ map white_inner_end ts) (λ s. refl) refl t h)
+      (λ t ts h. range-by (λ t. map white_inner_end (t ∷ ts) ≡ t ∷ map white_inner_end ts) (λ s. refl) (λ n. refl) t h)
       (λ t ts alone kind made. one t (map white_inner_end ts) alone kind made)
     where
       one : (t : Token) (ts : List Token) → is_range t ≡ false → HasItsKind texts t → AreTexts texts ts
@@ -82,7 +82,7 @@ module _ (texts : List (List ℕ)) where
 
   spaces-texts : (ts : List Token) → AreTexts texts ts → AreTexts texts (with_spaces texts ts)
   spaces-texts = edited-texts (with_spaces texts) (texts-none texts)
-      (λ t ts h. range-by (λ t. with_spaces texts (t ∷ ts) ≡ t ∷ with_spaces texts ts) (λ s. range s ts) (break ts) t h)
+      (λ t ts h. range-by (λ t. with_spaces texts (t ∷ ts) ≡ t ∷ with_spaces texts ts) (λ s. range s ts) (λ n. break n ts) t h)
       (λ t ts alone kind made. one t ts alone kind made)
     where
       range : (s : Span) (ts : List Token) → with_spaces texts (token.Span span_kind.Quoted s ∷ ts)
@@ -90,9 +90,10 @@ module _ (texts : List (List ℕ)) where
       range s [] = refl
       range s (f ∷ ts) = refl
 
-      break : (ts : List Token) → with_spaces texts (token.QuoteBreak ∷ ts) ≡ token.QuoteBreak ∷ with_spaces texts ts
-      break [] = refl
-      break (f ∷ ts) = refl
+      break : (n : ℕ) (ts : List Token) → with_spaces texts (token.QuoteBreak n ∷ ts)
+          ≡ token.QuoteBreak n ∷ with_spaces texts ts
+      break n [] = refl
+      break n (f ∷ ts) = refl
 
       one : (t : Token) (ts : List Token) → is_range t ≡ false → HasItsKind texts t
           → AreTexts texts (with_spaces texts ts)
@@ -173,7 +174,7 @@ module _ (texts : List (List ℕ)) where
       by (t ∷ part) ts quoted all made =
           let range = (and_parts (is_range t) (list_all is_range part) quoted.ranges).0 in
           subst (AreTexts texts)
-          (sym (range-by (λ u. without_front_gaps (u ∷ part ++ ts) ≡ u ∷ part ++ ts) (λ s. refl) refl t range))
+          (sym (range-by (λ u. without_front_gaps (u ∷ part ++ ts) ≡ u ∷ part ++ ts) (λ s. refl) (λ n. refl) t range))
           (texts-part texts (t ∷ part) ts quoted all)
 
   name_space-texts : (ts : List Token) → AreTexts texts ts → name_is_range ts ≡ false

@@ -1,23 +1,26 @@
 -- The spans of words and signs have bytes of their kinds.
 use Rattle.std.proofs.Common.{◌≡◌, ℕ, suc, ◌+◌, Bool, true, false, List, ◌∷◌, Option, Some, None, get_or, take}
 use Rattle.std.proofs.Common.{refl, ap, sym, ◌∙◌, subst, arith}
-use Rattle.std.specs.Prelude.{if◌then◌else◌}
+use Rattle.std.specs.Prelude.{◌||◌, ◌==◌, not, if◌then◌else◌}
 use Rattle.std.specs.List.{list_all}
-use Rattle.std.proofs.lemmas.Bool.{and_from}
+use Rattle.std.proofs.lemmas.Bool.{and_parts, and_from, or_left, eqb-true, false≢true}
 use Rattle.tangle_text.specs.declared.spans.Span.{Span}
 use Rattle.tangle_text.specs.declared.regions.Region.TheVariants as region
 use Rattle.tangle_text.specs.declared.regions.Unit.TheVariants as unit
-use Rattle.tangle_text.specs.Bytes.{is_word_byte, is_digit}
-use Rattle.tangle_text.specs.Text.{Cell, byte_at, span_at, span_text}
-use Rattle.tangle_text.specs.Regions.{unit_by, unit_of, count_before}
+use Rattle.tangle_text.specs.Bytes.{apostrophe, is_word_byte, is_digit}
+use Rattle.tangle_text.specs.Text.{Cell, byte_at, bytes_by, line_bytes, span_at, span_text}
+use Rattle.tangle_text.specs.Regions.{unit_by, unit_of, is_separator, count_before}
+use Rattle.tangle_text.specs.Words.{word_region, word_more}
 use Rattle.tangle_lexer.specs.declared.tokens.SpanKind.TheVariants as span_kind
 use Rattle.tangle_lexer.specs.declared.tokens.Token.TheVariants as token
 use Rattle.tangle_lexer.proofs.laws.RegionUnits.{units-by}
 use Rattle.tangle_lexer.specs.SpanBytes.{first_byte}
+use Rattle.c_tokens.specs.Grammar.{is_number, apostrophes_separate}
 use Rattle.c_tokens.specs.Touching.TextKind.{Plain, Other}
 use Rattle.tangle_c_tokens.specs.Kinds.{IsTextOfKind, HasItsKind}
-use Rattle.tangle_c_tokens.proofs.kind_lemmas.Lines.{IsInLine, bytes_by, line_bytes, span-bytes, first-byte}
-use Rattle.tangle_c_tokens.proofs.kind_lemmas.WordKinds.{word-text}
+use Rattle.tangle_c_tokens.proofs.kind_lemmas.Lines.{IsInLine, span-bytes, first-byte}
+use Rattle.tangle_c_tokens.proofs.kind_lemmas.NumberWords.{is_separated_byte, separated-number, separates-word, separates-more}
+use Rattle.tangle_c_tokens.proofs.kind_lemmas.WordKinds.{number-text, plain-text}
 use Rattle.std.proofs.lemmas.Bool.Decides.{nat_tests}
 
 -- the cells of a word have word bytes
@@ -36,6 +39,77 @@ word-bytes =
     never true e = cc
     never false e = cc
 
+-- the cells of a number after its first have word bytes, and apostrophes that separate them
+
+abbrev IsSeparated : List ℕ → Type 0
+IsSeparated a = (list_all is_separated_byte a ≡ true) × (apostrophes_separate a ≡ true)
+
+unit-one : (word separator : Bool) → unit_by (not (word || separator)) separator ≡ unit.One → word ≡ true
+unit-one true separator e = refl
+unit-one false true e = cc
+unit-one false false e = cc
+
+unit-two : (word separator : Bool) → unit_by (not (word || separator)) separator ≡ unit.Two → separator ≡ true
+unit-two word true e = refl
+unit-two true false e = cc
+unit-two false false e = cc
+
+more-separated : (b : ℕ) (a : List ℕ) → is_word_byte b ≡ true → IsSeparated a → IsSeparated (b ∷ a)
+more-separated b a word h = (
+  and_from (is_separated_byte b) (list_all is_separated_byte a) (or_left (is_word_byte b) (b == apostrophe) word) h.0,
+  separates-word b a word h.1,
+)
+
+number-bytes : (text : List Cell) → IsSeparated (take (count_before region.Number text) (line_bytes text))
+number-bytes =
+    units-by region.Number (λ n text. IsSeparated (take n (line_bytes text))) (λ text e. (refl, refl)) (refl, refl)
+    (λ n c cs e h. one n cs h (byte_at 0 cs) c.byte e) (λ n c d cs e h. two n cs h c.byte d.byte e)
+    (λ c e. absurd (never c.byte e))
+  where
+    one : (n : ℕ) (cs : List Cell) → IsSeparated (take n (line_bytes cs)) → (next b : Option ℕ)
+        → unit_of region.Number b next ≡ unit.One → IsSeparated (take (suc n) (bytes_by b (line_bytes cs)))
+    one n cs h next None e = absurd (false≢true (unit-one false (is_separator None next) e))
+    one n cs h next (Some b) e =
+        more-separated b (take n (line_bytes cs)) (unit-one (is_word_byte b) (is_separator (Some b) next) e) h
+
+    two : (n : ℕ) (cs : List Cell) → IsSeparated (take n (line_bytes cs)) → (b next : Option ℕ)
+        → unit_of region.Number b next ≡ unit.Two
+        → IsSeparated (take (suc (suc n)) (bytes_by b (bytes_by next (line_bytes cs))))
+    two n cs h None next e = absurd (false≢true (unit-two false false e))
+    two n cs h (Some b) None e =
+        absurd (false≢true (and_parts (b == apostrophe) false (unit-two (is_word_byte b) (is_separator (Some b) None) e)).1)
+    two n cs h (Some b) (Some c) e =
+        let a = take n (line_bytes cs) in
+        let parts = and_parts (b == apostrophe) (is_word_byte c) (unit-two (is_word_byte b) (is_separator (Some b) (Some c)) e) in
+        let more = more-separated c a parts.1 h in
+        subst (λ k. IsSeparated (k ∷ c ∷ a)) (sym (eqb-true b apostrophe parts.0))
+        (more.0, separates-more c a parts.1 h.0 more.1)
+
+    never : (b : Option ℕ) → unit_of region.Number b None ≡ unit.Two → ⊥
+    never None e = false≢true (unit-two false false e)
+    never (Some b) e =
+        false≢true (and_parts (b == apostrophe) false (unit-two (is_word_byte b) (is_separator (Some b) None) e)).1
+
+-- a word with this first byte is of its kind
+abbrev IsWord : ℕ → List ℕ → Type 0
+IsWord b text =
+    IsTextOfKind (if is_digit b then Other else Plain) text × (is_digit b ≡ true → is_number text ≡ true)
+
+word-is : (b : ℕ) (cs : List Cell) → is_word_byte b ≡ true →
+    IsWord b (b ∷ take (count_before (word_region (Some b)) cs) (line_bytes cs))
+word-is b cs word = by (is_digit b) refl
+  where
+    by : (digit : Bool) → is_digit b ≡ digit →
+        let text = b ∷ take (count_before (if digit then region.Number else region.Word) cs) (line_bytes cs) in
+        IsTextOfKind (if digit then Other else Plain) text × (digit ≡ true → is_number text ≡ true)
+    by true e =
+        let a = take (count_before region.Number cs) (line_bytes cs) in
+        let all = more-separated b a word (number-bytes cs) in
+        (number-text b a all.0, λ is. separated-number b a e all.0 all.1)
+    by false e =
+        let a = take (count_before region.Word cs) (line_bytes cs) in
+        (plain-text b a e (and_from (is_word_byte b) (list_all is_word_byte a) word (word-bytes cs)), λ is. cc)
+
 module _ (texts : List (List ℕ)) where
   -- the text of a span, and its first byte
 
@@ -52,12 +126,12 @@ module _ (texts : List (List ℕ)) where
   sign-span c cs b e is = grind (arith, nat_tests, first-is 1 c cs b e is, at-byte 1 c cs b e is)
 
   pub word-span : (c : Cell) (cs : List Cell) (b : ℕ) → c.byte ≡ Some b → is_word_byte b ≡ true → IsInLine texts c cs
-      → HasItsKind texts (token.Span span_kind.Word (span_at (1 + count_before region.Word cs) (c ∷ cs)))
+      → HasItsKind texts (token.Span span_kind.Word (span_at (1 + word_more (c ∷ cs)) (c ∷ cs)))
   word-span c cs b e word is =
-      let n = count_before region.Word cs in
+      let n = count_before (word_region (Some b)) cs in
       let more : 1 + n ≡ suc n = omega arith in
+      let same : word_more (c ∷ cs) ≡ n = ap (λ x. count_before (word_region x) cs) e in
       let text = at-byte (1 + n) c cs b e is ∙ ap (λ k. take k (b ∷ line_bytes cs)) more in
-      let all = and_from (is_word_byte b) (list_all is_word_byte (take n (line_bytes cs))) word (word-bytes cs) in
-      subst (λ k. IsTextOfKind (if is_digit k then Other else Plain) (span_text texts (span_at (1 + n) (c ∷ cs))))
-      (sym (first-is (1 + n) c cs b e is))
-      (grind (arith, nat_tests, word-text b))
+      subst (λ k. HasItsKind texts (token.Span span_kind.Word (span_at (1 + k) (c ∷ cs)))) (sym same)
+      (subst (λ k. IsWord k (span_text texts (span_at (1 + n) (c ∷ cs)))) (sym (first-is (1 + n) c cs b e is))
+      (subst (IsWord b) (sym text) (word-is b cs word)))

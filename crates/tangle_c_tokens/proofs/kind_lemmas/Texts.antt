@@ -18,7 +18,7 @@ joined parts = flat_map (λ part. part) parts
 abbrev pub is_source : Token → Bool
 is_source (token.Span span_kind.Verbatim s) = false
 is_source (token.Span kind s) = true
-is_source token.QuoteBreak = true
+is_source (token.QuoteBreak line) = true
 is_source _ = false
 
 -- faults

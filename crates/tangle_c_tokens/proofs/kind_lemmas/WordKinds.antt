@@ -1,8 +1,8 @@
--- Words and signs are texts of the kinds that the table gives them.
+-- Words, numbers and signs are texts of the kinds that the table gives them.
 use Rattle.std.proofs.Common.{rules}
 use Rattle.std.proofs.Common.{arith}
 use Rattle.std.proofs.Common.{◌≡◌, ℕ, ◌-◌, zero, suc, Bool, true, false, List, [], ◌∷◌, ◌++◌, refl, ap, ◌∙◌, take}
-use Rattle.std.specs.Prelude.{◌==◌, if◌then◌else◌}
+use Rattle.std.specs.Prelude.{◌==◌}
 use Rattle.std.specs.List.{list_any, list_all}
 use Rattle.std.proofs.lemmas.Bool.{and_parts, or_left, or_parts}
 use Rattle.c_tokens.specs.Bytes.{space, slash, backslash, is_digit, is_word_byte, is_quote}
@@ -11,6 +11,7 @@ use Rattle.c_tokens.specs.Grammar.{is_comment, is_element}
 use Rattle.c_tokens.specs.Reading.{spliced, longest, elements_from, ends_in_comment}
 use Rattle.c_tokens.specs.Touching.TextKind.{Plain, Other}
 use Rattle.tangle_c_tokens.specs.Kinds.{IsTextOfKind}
+use Rattle.tangle_c_tokens.proofs.kind_lemmas.NumberWords.{is_separated_byte, word-separated}
 use Rattle.std.proofs.lemmas.Bool.Decides.{nat_tests}
 
 abbrev is_open : List ℕ → Bool
@@ -30,45 +31,45 @@ no-comment zero (b ∷ a) h =
     front other zero = search rules
     front other (suc k) = search rules
 
--- a byte that is no word byte is none of the bytes of a word
-not-in-word : (other : ℕ) → is_word_byte other ≡ false → (a : List ℕ) → list_all is_word_byte a ≡ true
+-- a byte that is none of those of a number is none of its bytes
+not-in-number : (other : ℕ) → is_separated_byte other ≡ false → (a : List ℕ) → list_all is_separated_byte a ≡ true
     → list_any (λ b. b == other) a ≡ false
-not-in-word other none [] h = refl
-not-in-word other none (b ∷ a) h = grind (arith, nat_tests, not-in-word other none a)
+not-in-number other none [] h = refl
+not-in-number other none (b ∷ a) h = grind (arith, nat_tests, not-in-number other none a)
 
 no-splice : (a : List ℕ) → list_any (λ b. b == backslash) a ≡ false → spliced a ≡ a
 no-splice [] h = refl
 no-splice (b ∷ a) h = grind (arith, nat_tests, no-splice a)
 
+number-spliced : (a : List ℕ) → list_all is_separated_byte a ≡ true → spliced a ≡ a
+number-spliced a h = no-splice a (not-in-number backslash refl a h)
+
 word-spliced : (a : List ℕ) → list_all is_word_byte a ≡ true → spliced a ≡ a
-word-spliced a h = no-splice a (not-in-word backslash refl a h)
+word-spliced a h = number-spliced a (word-separated a h)
 
 word-last : (b : ℕ) (a : List ℕ) → list_all is_word_byte (b ∷ a) ≡ true → is_word_byte (last_byte b a) ≡ true
 word-last b [] h = (and_parts (is_word_byte b) true h).0
 word-last b (c ∷ a) h = word-last c a (and_parts (is_word_byte b) (list_all is_word_byte (c ∷ a)) h).1
 
--- a word that begins with a digit is of the other kind, and every other word is plain
-pub word-text : (b : ℕ) (a : List ℕ) → list_all is_word_byte (b ∷ a) ≡ true
-    → IsTextOfKind (if is_digit b then Other else Plain) (b ∷ a)
-word-text b a h = by (is_digit b) refl
-  where
-    word : List ℕ
-    word = b ∷ a
+-- a number is of the other kind, and a word that begins with no digit is plain
 
-    by : (digit : Bool) → is_digit b ≡ digit → IsTextOfKind (if digit then Other else Plain) word
-    by true digit = record {
-      is = ap (λ t. list_any is_open (elements_from 0 t)) (word-spliced word h)
-          ∙ no-comment 0 word (not-in-word slash refl word h);
-      bytes = refl;
-      begins = refl;
-      ends = refl;
-    }
-    by false digit = record {
-      is = search (rules, word-spliced);
-      bytes = refl;
-      begins = or_left (is_word_byte b) (is_quote b) (and_parts (is_word_byte b) (list_all is_word_byte a) h).0;
-      ends = or_left (is_word_byte (last_byte b a)) (is_quote (last_byte b a)) (word-last b a h);
-    }
+pub number-text : (b : ℕ) (a : List ℕ) → list_all is_separated_byte (b ∷ a) ≡ true → IsTextOfKind Other (b ∷ a)
+number-text b a h = record {
+  is = ap (λ t. list_any is_open (elements_from 0 t)) (number-spliced (b ∷ a) h)
+      ∙ no-comment 0 (b ∷ a) (not-in-number slash refl (b ∷ a) h);
+  bytes = refl;
+  begins = refl;
+  ends = refl;
+}
+
+pub plain-text : (b : ℕ) (a : List ℕ) → is_digit b ≡ false → list_all is_word_byte (b ∷ a) ≡ true
+    → IsTextOfKind Plain (b ∷ a)
+plain-text b a digit h = record {
+  is = search (rules, word-spliced);
+  bytes = refl;
+  begins = or_left (is_word_byte b) (is_quote b) (and_parts (is_word_byte b) (list_all is_word_byte a) h).0;
+  ends = or_left (is_word_byte (last_byte b a)) (is_quote (last_byte b a)) (word-last b a h);
+}
 
 one-closed : (b : ℕ) → ends_in_comment (b ∷ []) ≡ false
 one-closed b = grind (arith, nat_tests)

@@ -1,15 +1,22 @@
--- Worked webs: why the law of kinds names `''`, header names and quoted texts that do not end.
+-- Worked webs: why the law of kinds names `''`, header names and quoted texts that do not end; and
+-- numbers with apostrophes.
 use Rattle.std.proofs.Common.{rules}
-use Rattle.std.proofs.Common.{◌≡◌, ℕ, true, false, List, [], ◌∷◌, ◌++◌, codes, map, flat_map}
+use Rattle.std.proofs.Common.{◌≡◌, refl, ℕ, true, false, List, [], ◌∷◌, ◌++◌, codes, map, flat_map}
 use Rattle.tangle_lines.specs.Reading.{SourceLine}
 use Rattle.tangle_text.specs.Text.{texts_of}
+use Rattle.tangle_lexer.specs.declared.tokens.Token.{Token}
+use Rattle.tangle_lexer.specs.declared.tokens.Token.TheVariants as token
+use Rattle.tangle_lexer.specs.declared.tokens.SpanKind.{SpanKind}
+use Rattle.tangle_lexer.specs.declared.tokens.SpanKind.TheVariants as span_kind
 use Rattle.tangle_lexer.specs.Steps.{lexeme, tokens_from, all_tokens}
 use Rattle.tangle_scan.specs.MacroBytes.{macro_bytes}
 use Rattle.tangle_scan.specs.Web.{blocks, macro_of}
 use Rattle.tangle_scan.specs.ReadAsMeant.{token_bytes, all_macro_tokens}
 use Rattle.c_tokens.specs.Grammar.{is_element, is_token, is_punctuator}
 use Rattle.c_tokens.specs.Reading.{spliced, tokens}
+use Rattle.c_tokens.specs.Borders.{is_whole}
 use Rattle.c_tokens.specs.Touching.{is_plain}
+use Rattle.tangle_c_tokens.specs.Kinds.{is_header_name}
 
 abbrev line : List ℕ → SourceLine
 line bytes = record { bytes = bytes; origin = record { file = 0; line = 1 }; changed = false }
@@ -53,3 +60,39 @@ record Examples : Type 0 where
 examples : Examples
 unfolding lexeme tokens_from is_element is_token is_punctuator
 examples = search rules
+
+-- A header name ends at its first `>`.
+header_name_ends : (is_header_name (codes "<b>") ≡ true) × (is_header_name (codes "<b>c>") ≡ false)
+header_name_ends = (refl, refl)
+
+-- a span of the second line, on which the macro is
+abbrev span : SpanKind → ℕ → ℕ → Token
+span kind start end = token.Span kind (record { line = 1; start = start; end = end })
+
+-- apostrophes directly after numbers
+record Numbers : Type 0 where
+  -- A number goes on over an apostrophe between two of its digits, and not over one after a sign.
+  pub separator : items (codes "@d F 10'000+'x'" ∷ [])
+      ≡ codes "F" ∷ [] ∷ codes "10'000" ∷ codes "+" ∷ codes "'x'" ∷ [] ∷ []
+  -- White space is put between an ASCII constant and a character constant.
+  pub constants : all_macro_tokens (source (codes "@d F @'A''b'" ∷ []))
+      ≡ (span span_kind.Word 3 4 ∷ token.White ∷ token.AsciiConstant 65 1 ∷ token.White
+      ∷ span span_kind.Quoted 9 12 ∷ token.LineEnd 1 ∷ []) ∷ []
+  pub constants_read : tokens (codes "65 'b'") ≡ codes "65" ∷ codes "'b'" ∷ []
+  pub constants_together : tokens (codes "65'b'") ≡ codes "65'b" ∷ codes "'" ∷ []
+  -- A join puts a character constant directly after a number. Both are one group, which is not whole.
+  pub joined : written (codes "@d F 8@&'9'" ∷ []) ≡ codes "#define F 8'9'\n"
+  pub joined_read : tokens (codes "8'9'") ≡ codes "8'9" ∷ codes "'" ∷ []
+  pub joined_refused : is_whole (codes "8'9'") ≡ false
+
+numbers : Numbers
+unfolding lexeme tokens_from is_element is_token is_punctuator
+numbers = record {
+  separator = refl;
+  constants = refl;
+  constants_read = refl;
+  constants_together = refl;
+  joined = refl;
+  joined_read = refl;
+  joined_refused = refl;
+}

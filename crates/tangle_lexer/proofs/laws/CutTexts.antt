@@ -67,7 +67,7 @@ module _ (texts : List (List ℕ)) (r : Region) (cut : IsCut r) (ends : ℕ → 
     → start ≤ at.column → IsCellAt texts at c → IsCellAt texts (point_at c.line (c.column + 1)) d
     → IsByte c.byte → d.byte ≡ None → holds at_sign c.byte ≡ false
     → P (point_at (d.line + 1) 0) 0 ts n cs
-    → P at start (cut_range r c.line start (c.column + 1) ++ token.QuoteBreak ∷ ts) (suc (suc n)) (c ∷ d ∷ cs)) where
+    → P at start (cut_range r c.line start (c.column + 1) ++ token.QuoteBreak c.line ∷ ts) (suc (suc n)) (c ∷ d ∷ cs)) where
   abbrev Holds : ℕ → List Cell → Type 0
   Holds n text =
       (at : Point) (start : ℕ) → start ≤ at.column → IsTextAt texts at text

@@ -1,7 +1,7 @@
 -- The bytes of the segments that are kept are those in the spans of the tokens of C parts.
 use Rattle.std.proofs.Common.{rules}
 use Rattle.std.proofs.lemmas.Bool.Decides.{nat_tests}
-use Rattle.std.proofs.Common.{◌≡◌, ℕ, zero, suc, ◌+◌, ◌-◌, Bool, true, false, List, [], ◌∷◌, ◌++◌, take, drop}
+use Rattle.std.proofs.Common.{◌≡◌, ℕ, zero, suc, ◌+◌, Bool, true, false, List, [], ◌∷◌, ◌++◌, take, drop}
 use Rattle.std.proofs.Common.{flat_map, map, refl, ap, sym, ◌∙◌, arith, append_assoc, append-nil}
 use Rattle.std.proofs.Common.{if◌then◌else◌}
 use Rattle.std.proofs.lemmas.Grind.{flat_map-append}
@@ -18,9 +18,9 @@ use Rattle.tangle_lexer.specs.declared.lexeme_kinds.LexemeKind.{LexemeKind}
 use Rattle.tangle_lexer.specs.declared.lexeme_kinds.LexemeKind.TheVariants as lexeme_kind
 use Rattle.tangle_text.specs.declared.regions.Region.{Region}
 use Rattle.tangle_text.specs.declared.regions.Region.TheVariants as region
-use Rattle.tangle_lexer.specs.declared.constants.AsciiConstant.{AsciiConstant}
 use Rattle.tangle_text.specs.Text.{Cell, byte_at, span_at}
 use Rattle.tangle_text.specs.Regions.{count_before}
+use Rattle.tangle_text.specs.Words.{word_more}
 use Rattle.tangle_lexer.specs.Lexemes.{Lexeme, fault_if, is_c_part}
 use Rattle.tangle_lexer.specs.Comments.{line_ends, has_end_code}
 use Rattle.tangle_lexer.specs.LinesOfC.{inner_end_in}
@@ -35,7 +35,7 @@ use Rattle.tangle_lexer.proofs.lemmas.PlainLexemes.{kind-plain}
 use Rattle.tangle_lexer.proofs.lemmas.LexemeCases.{OpensLexeme, kind-opens, lexeme-by}
 use Rattle.tangle_lexer.proofs.lemmas.StepLemmas.{lexeme-here}
 use Rattle.tangle_lexer.proofs.laws.Points.{Point, after_cell, HoldsBytes, IsTextAt, text-after}
-use Rattle.tangle_lexer.proofs.laws.RegionOrder.{some-byte, code-bytes, more-bytes}
+use Rattle.tangle_lexer.proofs.laws.RegionOrder.{some-byte, code-bytes}
 use Rattle.tangle_lexer.proofs.laws.WhiteOrder.{word-bytes}
 use Rattle.tangle_lexer.proofs.laws.SegmentPoints.{token_points, fault-points, points-append, bytes-columns}
 use Rattle.tangle_lexer.proofs.laws.CutTexts.{double_quote-cut, apostrophe-cut, header_name-cut}
@@ -144,7 +144,7 @@ module _ (texts : List (List ℕ)) where
   kind-keeps lexeme_kind.HeaderName s at c cs is o =
       search (rules, quoted-keeps, header_name-cut)
   kind-keeps lexeme_kind.Word s at c cs is o =
-      search (rules, span-keeps, more-bytes, word-bytes)
+      span-keeps at (1 + word_more (c ∷ cs)) c cs is (word-bytes c cs (some-byte c.byte o.0))
   kind-keeps lexeme_kind.Other s at c cs is o = span-keeps at 1 c cs is (some-byte c.byte o.0, tt)
   kind-keeps _ s at c cs is o = refl
 

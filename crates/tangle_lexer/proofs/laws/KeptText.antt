@@ -1,7 +1,7 @@
 -- The ranges of quoted and verbatim texts have all bytes of these texts but the second @ of each @@.
 use Rattle.std.proofs.Common.{rules}
 use Rattle.std.proofs.lemmas.Bool.Decides.{nat_tests}
-use Rattle.std.proofs.Common.{◌≡◌, ℕ, suc, ◌+◌, ◌-◌, ◌≤◌, Bool, true, false, not, List, [], ◌∷◌, ◌++◌, take, drop}
+use Rattle.std.proofs.Common.{◌≡◌, ℕ, suc, ◌+◌, ◌≤◌, Bool, true, false, not, List, [], ◌∷◌, ◌++◌, take, drop}
 use Rattle.std.proofs.Common.{Option, inl, inr, refl, ap, ◌∙◌, arith, cond, ◌==◌, ◌&&◌}
 use Rattle.std.proofs.Common.{append_assoc, flat_map}
 use Rattle.std.proofs.Math.Seq.{take-add}
@@ -103,7 +103,7 @@ module _ (texts : List (List ℕ)) where
         (λ at start c d cs ts n h is cell byte none other kept.
         let gone : second_points false d ≡ [] = rw none refl in
         rw (two-points c d cs n false byte other (rw none refl), gone, ← is.line, ← is.column)
-        (cut-points r c.line start (c.column + 1) (token.QuoteBreak ∷ ts)
+        (cut-points r c.line start (c.column + 1) (token.QuoteBreak c.line ∷ ts)
         ∙ ap (λ ps. columns_to c.line start (c.column + 1) ++ ps) kept
         ∙ after-range c.line start c.column (kept_of n cs) (omega arith)))
       where

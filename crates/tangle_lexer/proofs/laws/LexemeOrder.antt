@@ -1,9 +1,8 @@
 -- The tokens of a source are in order. `texts` are the bytes of the source lines.
 use Rattle.tangle_lexer.proofs.laws.WhiteOrder.{line_comment-bytes}
 use Rattle.std.proofs.Common.{rules}
-use Rattle.std.proofs.lemmas.Bool.Decides.{nat_tests}
 use Rattle.std.proofs.Common.{arith}
-use Rattle.std.proofs.Common.{◌≡◌, ℕ, zero, suc, true, false, List, [], ◌∷◌, flat_map, drop}
+use Rattle.std.proofs.Common.{◌≡◌, ℕ, ◌+◌, zero, suc, true, false, List, [], ◌∷◌, flat_map, drop}
 use Rattle.std.proofs.Common.{refl, ap, sym, ◌∙◌, subst}
 use Rattle.tangle_faults.specs.declared.faults.FaultKind.TheVariants as fault
 use Rattle.tangle_lexer.specs.declared.modes.LexerState.{LexerState}
@@ -13,6 +12,7 @@ use Rattle.tangle_lexer.specs.declared.lexeme_kinds.LexemeKind.TheVariants as le
 use Rattle.tangle_text.specs.declared.regions.Region.TheVariants as region
 use Rattle.tangle_text.specs.Bytes.{asterisk, slash}
 use Rattle.tangle_text.specs.Text.{Cell}
+use Rattle.tangle_text.specs.Words.{word_more}
 use Rattle.tangle_lexer.specs.Lexemes.{Lexeme}
 use Rattle.tangle_lexer.specs.Names.{use_of_name}
 use Rattle.tangle_lexer.specs.Simple.{is_c_text}
@@ -72,7 +72,9 @@ module _ (texts : List (List ℕ)) where
   kind-in_order lexeme_kind.White s at c cs plain o is =
       search (rules, lexeme-line, more-bytes, white-bytes)
   kind-in_order lexeme_kind.Word s at c cs plain o is =
-      grind (arith, nat_tests, more-bytes, word-bytes cs, span-is, lexeme-line)
+      let n : ℕ = word_more (c ∷ cs) in
+      let all : HoldsBytes (1 + n) (c ∷ cs) = word-bytes c cs (some-byte c.byte o.0) in
+      (span-is texts at (1 + n) c cs is all, lexeme-line texts at n c cs is all)
   kind-in_order lexeme_kind.Other s at c cs plain o is =
       let one : HoldsBytes 1 (c ∷ cs) = (some-byte c.byte o.0, tt) in
       (span-is texts at 1 c cs is one, lexeme-line texts at 0 c cs is one)

@@ -3,7 +3,7 @@ use Rattle.std.proofs.Common.{rules}
 use Rattle.std.proofs.lemmas.Bool.Decides.{nat_tests}
 use Rattle.std.proofs.Common.{◌≡◌, ◌<◌, ◌≤◌, ℕ, zero, suc, ◌+◌, Bool, true, false, not, ◌&&◌, List, [], ◌∷◌, ◌++◌}
 use Rattle.std.proofs.Common.{take, drop, flat_map, Option, None, inl, inr, refl, ap, sym, ◌∙◌, arith, append-nil}
-use Rattle.std.proofs.Common.{if◌then◌else◌, ◌-◌, subst}
+use Rattle.std.proofs.Common.{if◌then◌else◌, subst}
 use Rattle.std.proofs.Math.Seq.{take-add}
 use Rattle.std.proofs.lemmas.Grind.{flat_map-append}
 use Rattle.std.proofs.lemmas.List.{take-append-drop, drop-drop, length-take}
@@ -17,12 +17,12 @@ use Rattle.tangle_lexer.specs.declared.lexeme_kinds.ControlCode.TheVariants as c
 use Rattle.tangle_lexer.specs.declared.lexeme_kinds.LexemeKind.{LexemeKind}
 use Rattle.tangle_lexer.specs.declared.lexeme_kinds.LexemeKind.TheVariants as lexeme_kind
 use Rattle.tangle_text.specs.declared.regions.Region.TheVariants as region
-use Rattle.tangle_lexer.specs.declared.constants.AsciiConstant.{AsciiConstant}
 use Rattle.tangle_text.specs.declared.regions.Unit.TheVariants as unit
 use Rattle.tangle_text.specs.Bytes.{asterisk, slash}
 use Rattle.tangle_text.specs.Bytes.{holds, are_bytes}
 use Rattle.tangle_text.specs.Text.{Cell, byte_at}
 use Rattle.tangle_text.specs.Regions.{count_before, unit_of}
+use Rattle.tangle_text.specs.Words.{word_more}
 use Rattle.tangle_lexer.specs.Lexemes.{Lexeme}
 use Rattle.tangle_lexer.specs.Comments.{has_end_code, two_if, ends_comment, block_comment, line_comment, control_text}
 use Rattle.tangle_lexer.specs.Constants.{ascii_constant}
@@ -33,7 +33,7 @@ use Rattle.tangle_lexer.specs.Steps.{lexeme}
 use Rattle.tangle_lexer.specs.Segments.{Segment, segment, ShowsKind, OpensWith, text_segments, verbatim_segments}
 use Rattle.tangle_lexer.specs.Segments.{code_segments, c_segments, segments_in, segments, HasNoSection, IsBlockComment}
 use Rattle.tangle_lexer.specs.Segments.{IsLineComment, IsControlText, IsSectionName, IsAsciiConstant}
-use Rattle.tangle_lexer.specs.Segments.SegmentKind.{Kept, LineEnd, WhiteSpace, ControlBytes}
+use Rattle.tangle_lexer.specs.Segments.SegmentKind.{Kept, WhiteSpace, ControlBytes}
 use Rattle.tangle_text.proofs.AheadLemmas.{byte_at-drop}
 use Rattle.tangle_lexer.proofs.laws.Points.{HoldsBytes}
 use Rattle.tangle_lexer.proofs.laws.RegionOrder.{some-byte, are_bytes-hold, more-bytes}
@@ -267,7 +267,8 @@ kind-shows lexeme_kind.White s c cs o =
     let n : ℕ = count_before region.White cs in
     let more : 1 + n ≡ suc n = omega arith in
     (rw more (o, white-shows cs), tt)
-kind-shows lexeme_kind.Word s c cs o = grind (arith, nat_tests, bytes-shows, more-bytes, word-bytes)
+kind-shows lexeme_kind.Word s c cs o =
+    (bytes-shows (1 + word_more (c ∷ cs)) (c ∷ cs) (word-bytes c cs (some-byte c.byte o.0)), tt)
 kind-shows lexeme_kind.Other s c cs o = (bytes-shows 1 (c ∷ cs) (some-byte c.byte o.0, tt), tt)
 kind-shows kind s c cs o = text-shows false (take (1 + (c_lexeme kind s (c ∷ cs)).more) (c ∷ cs))
 

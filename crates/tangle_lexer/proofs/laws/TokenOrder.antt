@@ -13,7 +13,7 @@ abbrev pub line_past : ℕ → Token → ℕ
 line_past line (token.UseOf at occurrence) = at
 line_past line (token.LineEnd at) = line + 1
 line_past line (token.InnerLineEnd at) = line + 1
-line_past line token.QuoteBreak = line + 1
+line_past line (token.QuoteBreak at) = line + 1
 line_past line _ = line
 
 -- the same of any token: a head leads to its own line
@@ -30,13 +30,15 @@ IsAtLine line (c ∷ cs) = c.line ≡ line
 
 module _ (texts : List (List ℕ)) where
   -- A token that has a line is on this line. The line of a source item is one of the source, and a span is a range of
-  -- it. A name may end on a later line.
+  -- it. A name may end on a later line. There are no runs.
   abbrev pub IsOnLine : ℕ → Token → Type 0
   IsOnLine line (token.Span kind s) = (s.line ≡ line) × IsSpan texts s
   IsOnLine line (token.AsciiConstant value at) = (at ≡ line) × (line < length texts)
   IsOnLine line (token.LineEnd at) = at ≡ line
   IsOnLine line (token.InnerLineEnd at) = at ≡ line
+  IsOnLine line (token.QuoteBreak at) = at ≡ line
   IsOnLine line (token.AllMacros at) = at ≡ line
+  IsOnLine line (token.Run s) = ⊥
   IsOnLine line _ = Unit {0}
 
   -- Each token is on the line to which the tokens before it lead from this line on, and `P` is true of the line after
@@ -49,10 +51,18 @@ module _ (texts : List (List ℕ)) where
   abbrev pub AreFromLine : ℕ → List Token → Type 0
   AreFromLine = AreInOrder (λ l. Unit {0})
 
+  -- such a token is no head
+  abbrev pub IsInPart : ℕ → Token → Type 0
+  IsInPart line token.Section = ⊥
+  IsInPart line (token.MacroStart at) = ⊥
+  IsInPart line (token.UnnamedPart at) = ⊥
+  IsInPart line (token.NamedPart at occurrence) = ⊥
+  IsInPart line t = IsOnLine line t
+
   -- tokens without heads are in order from this line on
   abbrev pub AreByLine : ℕ → List Token → Type 0
   AreByLine line [] = Unit {0}
-  AreByLine line (t ∷ ts) = IsOnLine line t × AreByLine (line_past line t) ts
+  AreByLine line (t ∷ ts) = IsInPart line t × AreByLine (line_past line t) ts
 
   -- the tokens are in order, and the text after them is on the line to which they lead
   abbrev pub AreBefore : List Cell → ℕ → List Token → Type 0

@@ -2,17 +2,18 @@
 -- source lines.
 use Rattle.std.proofs.Common.{rules}
 use Rattle.std.proofs.lemmas.Bool.Decides.{nat_tests}
-use Rattle.std.proofs.Common.{◌≡◌, ℕ, ◌+◌, Bool, true, not, List, ◌∷◌, drop, Option}
+use Rattle.std.proofs.Common.{◌≡◌, ℕ, ◌+◌, Bool, true, false, not, ◌&&◌, ◌||◌, List, ◌∷◌, drop, Option, Some, None}
 use Rattle.std.proofs.Common.{refl, ap, sym, ◌∙◌, arith, subst, if◌then◌else◌}
 use Rattle.tangle_faults.specs.declared.faults.FaultKind.{FaultKind}
 use Rattle.tangle_lexer.specs.declared.modes.LexerState.{LexerState}
 use Rattle.tangle_text.specs.declared.regions.Region.{Region}
 use Rattle.tangle_text.specs.declared.regions.Region.TheVariants as region
 use Rattle.tangle_text.specs.declared.regions.Unit.TheVariants as unit
-use Rattle.tangle_text.specs.Bytes.{apostrophe, holds}
+use Rattle.tangle_text.specs.Bytes.{apostrophe, is_digit, holds, holds_word_byte}
 use Rattle.std.proofs.lemmas.List.{drop-drop}
 use Rattle.tangle_text.specs.Text.{Cell, byte_at, front_line, span_at, IsSpan}
-use Rattle.tangle_text.specs.Regions.{unit_of, count_before}
+use Rattle.tangle_text.specs.Regions.{unit_by, unit_of, count_before}
+use Rattle.tangle_text.specs.Words.{word_region, word_more}
 use Rattle.tangle_lexer.specs.Lexemes.{Lexeme, is_in_directive}
 use Rattle.tangle_lexer.specs.Comments.{line_ends, two_if, ends_region, comment_or_control_text}
 use Rattle.tangle_lexer.specs.Constants.{bad_constant}
@@ -23,8 +24,29 @@ use Rattle.tangle_lexer.proofs.laws.TokenOrder.{in_order-weaker, AreBefore}
 use Rattle.tangle_lexer.proofs.laws.RegionOrder.{more-bytes, region-bytes}
 use Rattle.tangle_lexer.proofs.laws.RegionOrder.{end-line, line_ends-in_order}
 
-pub word-bytes : (text : List Cell) → HoldsBytes (count_before region.Word text) text
-word-bytes text = region-bytes region.Word (λ n. refl) (λ b n h. grind arith) text
+-- a number goes on over an apostrophe only before a byte
+number-stays : (b n : Option ℕ) → unit_of region.Number b n ≡ unit.Two → IsByte n
+number-stays b None h = absurd (none (holds_word_byte b) (holds apostrophe b) h)
+  where
+    none : (word separates : Bool)
+        → unit_by (not (word || separates && false)) (separates && false) ≡ unit.Two → ⊥
+    none true true e = cc
+    none true false e = cc
+    none false true e = cc
+    none false false e = cc
+number-stays b (Some c) h = tt
+
+-- the cells of a word after its first, which has the byte `b`
+word-cells : (b : Option ℕ) (text : List Cell) → HoldsBytes (count_before (word_region b) text) text
+word-cells None text = region-bytes region.Word (λ n. refl) (λ b n h. grind arith) text
+word-cells (Some b) text = by (is_digit b)
+  where
+    by : (digit : Bool) → HoldsBytes (count_before (if digit then region.Number else region.Word) text) text
+    by true = region-bytes region.Number (λ n. refl) number-stays text
+    by false = region-bytes region.Word (λ n. refl) (λ b n h. grind arith) text
+
+pub word-bytes : (c : Cell) (cs : List Cell) → IsByte c.byte → HoldsBytes (1 + word_more (c ∷ cs)) (c ∷ cs)
+word-bytes c cs byte = more-bytes 1 (word_more (c ∷ cs)) (c ∷ cs) (byte, tt) (word-cells c.byte cs)
 
 pub white-bytes : (text : List Cell) → HoldsBytes (count_before region.White text) text
 white-bytes text = region-bytes region.White (λ n. refl) (λ b n h. grind arith) text

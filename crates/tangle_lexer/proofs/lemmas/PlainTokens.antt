@@ -78,7 +78,7 @@ white-plain b ends faults h k = grind (arith, nat_tests, none-append, inner_ends
 -- a token that is no part of such a text
 abbrev pub is_not_text : Token → Bool
 is_not_text (token.Span kind s) = false
-is_not_text token.QuoteBreak = false
+is_not_text (token.QuoteBreak n) = false
 is_not_text (token.Fault kind line) = false
 is_not_text _ = true
 

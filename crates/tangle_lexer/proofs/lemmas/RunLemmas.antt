@@ -3,10 +3,12 @@ use Rattle.std.proofs.Common.{rules}
 use Rattle.std.proofs.Common.{if◌then◌else◌, nat_le, ◌==◌}
 use Rattle.std.proofs.lemmas.List.{get_or-drop}
 use Rattle.std.proofs.lemmas.Bool.Decides.{nat_tests}
-use Rattle.tangle_text.specs.Bytes.{backslash}
-use Rattle.std.proofs.Common.{◌≡◌, ◌<◌, ◌≤◌, ℕ, zero, suc, ◌+◌, ◌-◌, Bool, true, false, ◌&&◌, List, [], ◌∷◌, ◌++◌, length}
+use Rattle.tangle_text.specs.Bytes.{number_sign, backslash, holds}
+use Rattle.std.proofs.Common.{◌≡◌, ◌<◌, ◌≤◌, ℕ, zero, suc, ◌+◌, ◌-◌, Bool, true, false, ◌&&◌, not, List, [], ◌∷◌, ◌++◌, length}
 use Rattle.std.proofs.Common.{take, drop, map, get_or, slice_get, Option, IsSome, ◌⊎◌, inl, inr, refl, ap}
 use Rattle.std.proofs.Common.{sym, ◌∙◌, subst, arith, append_assoc, append-nil, length-drop}
+use Rattle.std.proofs.Common.{Some}
+use Rattle.std.proofs.lemmas.Option.{slice_get-get_or}
 use Rattle.std.specs.List.{All}
 use Rattle.std.proofs.lemmas.Bool.{and_parts}
 use Rattle.std.proofs.lemmas.List.Elements.{All-push}
@@ -14,8 +16,9 @@ use Rattle.tangle_lines.specs.Reading.{SourceLine}
 use Rattle.tangle_text.specs.declared.spans.Span.{Span}
 use Rattle.tangle_text.specs.Text.{Cell, line_text, text_from, byte_at, span_at, texts_of}
 use Rattle.tangle_text.specs.Text.{IsRestOf}
-use Rattle.tangle_text.specs.Runs.{holds_plain, run_count, run_size, chunks, parts_of, run_parts}
-use Rattle.tangle_text.proofs.RunPartLemmas.{run_count-line, run_size-fits}
+use Rattle.tangle_text.specs.Runs.{is_run_byte, holds_plain, run_count, run_size}
+use Rattle.tangle_text.specs.Runs.{chunks, parts_of, run_parts}
+use Rattle.tangle_text.proofs.RunPartLemmas.{run_count-line, run_size-fits, get-drop}
 use Rattle.tangle_lexer.specs.declared.modes.Mode.TheVariants as mode
 use Rattle.tangle_lexer.specs.declared.modes.LineOfC.{LineOfC}
 use Rattle.tangle_lexer.specs.declared.modes.LexerState.{LexerState}
@@ -30,7 +33,10 @@ use Rattle.tangle_lexer.specs.Simple.{IsSimple, simple_kind, is_c_text, is_word_
 use Rattle.tangle_lexer.specs.Steps.{c_lexeme, lexeme, tokens_from}
 use Rattle.tangle_lexer.specs.Steps.{occurrences_from}
 use Rattle.tangle_lexer.proofs.lemmas.BlockLemmas.{unfolded-append, rest-drop}
-use Rattle.tangle_lexer.proofs.lemmas.RunTokens.{in_part, front-byte, run-goes, BeginsRun, plain-begins}
+use Rattle.tangle_lexer.proofs.lemmas.RunTokens.{in_part, front-byte, run-goes, BeginsRun, run-begins}
+use Rattle.tangle_text.proofs.SeparatorLemmas.{IsInRun, in_run-is, run_size-first, run_size-in}
+use Rattle.tangle_lexer.specs.declared.modes.IncludeState.{IncludeState}
+use Rattle.tangle_lexer.specs.declared.modes.IncludeState.TheVariants as include
 use Rattle.tangle_lexer.proofs.lemmas.SimpleLemmas.{lexeme-simple}
 use Rattle.tangle_lexer.proofs.lemmas.StepLemmas.{tokens_from-step, occurrences_from-step}
 
@@ -117,10 +123,23 @@ parts-are texts line column n = grind (arith, nat_tests)
 
 -- a run does not end in a backslash
 
+run_byte-last : (b : ℕ) (next : Option ℕ) → is_run_byte b next ≡ true → (b == backslash) ≡ false
+run_byte-last b next h = grind (arith, nat_tests)
+
 run-last : (bs : List ℕ) (n : ℕ) → run_size bs ≡ suc n → (get_or bs n 0 == backslash) ≡ false
-run-last [] n h = grind arith
-run-last (b ∷ bs) zero h = grind (arith, nat_tests)
-run-last (b ∷ bs) (suc n) h = grind (arith, run-last bs n)
+run-last [] n h = absurd (omega arith)
+run-last (b ∷ bs) n h =
+    let first = in_run-is b bs (run_size-first b bs (omega arith)) in
+    by n first (run-last bs) (omega (arith, run_size-in b bs first))
+  where
+    by : (n : ℕ) → IsInRun b bs → ((k : ℕ) → run_size bs ≡ suc k → (get_or bs k 0 == backslash) ≡ false)
+        → run_size bs ≡ n → (get_or (b ∷ bs) n 0 == backslash) ≡ false
+    by zero first rest same = run_byte-last b (slice_get bs 0) first.byte
+    by (suc n) first rest same = rest n same
+
+begins-size : (bs : List ℕ) → BeginsRun bs → 0 < run_size bs
+begins-size [] h = absurd h
+begins-size (b ∷ bs) h = omega (arith, run_size-in b bs h.0)
 
 run-end : (bytes : List ℕ) (column : ℕ) → 0 < run_size (drop column bytes)
     → ((if nat_le (column + run_size (drop column bytes)) column then 0
@@ -131,9 +150,10 @@ line-run : (lines : List SourceLine) (l : LineOfC) (stays : (b : Bool) → with_
     (occurrences last line column : ℕ) (rest : List Cell)
     → line < length (texts_of lines) → column < length (get_or (texts_of lines) line [])
     → BeginsRun (drop column (get_or (texts_of lines) line []))
+    → (get_or (get_or (texts_of lines) line []) column 0 == number_sign) ≡ false
     → IsRunRead lines (in_part l occurrences last) (in_part l occurrences last)
     (line_text line column (drop column (get_or (texts_of lines) line [])) ++ rest)
-line-run lines l stays occurrences last line column rest real inside begins =
+line-run lines l stays occurrences last line column rest real inside begins sign =
     let texts = texts_of lines in
     let bytes = drop column (get_or texts line []) in
     let text = line_text line column bytes ++ rest in
@@ -145,7 +165,23 @@ line-run lines l stays occurrences last line column rest real inside begins =
     = ap (λ k. span_at k text) count ∙ span-line line column n bytes rest in
     let parts : run_parts texts span ≡ parts_of line column (chunks (take n bytes)) = parts-are texts line column n in
     let goes = run-goes l stays occurrences last line rest column bytes in
-    search (rules, run_size-fits, length-drop, run-end)
+    let some : 0 < n = begins-size bytes begins in
+    let run : IsRunOf texts span = record {
+      span = record {
+        line = real;
+        start = omega arith;
+        end = omega (arith, run_size-fits bytes, length-drop column (get_or texts line []));
+      };
+      spaces = rw parts (goes.1 true (λ e. begins));
+      begins = sign;
+      ends = run-end (get_or texts line []) column some;
+    } in
+    record {
+      some = omega (arith, count, some);
+      tokens = rw (span_is, count, parts) goes.0.tokens;
+      occurrences = rw count goes.0.occurrences;
+      run = rw span_is run;
+    }
 
 -- the first lexeme of a run is read as if an item were before it on its line
 
@@ -155,21 +191,35 @@ item-stays : (first b : Bool) (l : LineOfC) → with_item b (with_item first l) 
 item-stays first b x = grind arith
 
 kind-apart : (p : SimpleLexeme) (s : LexerState) (text : List Cell)
-    → is_word_or_sign p ≡ true → is_apart s.line.include s.line.line (byte_at 0 text) ≡ true
+    → is_word_or_sign p ≡ true → is_apart s.line.include (byte_at 0 text) ≡ true
     → c_lexeme (simple_kind p) s text ≡ c_lexeme (simple_kind p) (elsewhere s) text
 kind-apart x s text h apart = grind arith
 
 lexeme-apart : (s : LexerState) (text : List Cell) (p : SimpleLexeme)
     → IsSimple text p → is_c_text s.mode ≡ true → is_word_or_sign p ≡ true
-    → is_apart s.line.include s.line.line (byte_at 0 text) ≡ true → lexeme s text ≡ lexeme (elsewhere s) text
+    → is_apart s.line.include (byte_at 0 text) ≡ true → lexeme s text ≡ lexeme (elsewhere s) text
 lexeme-apart s text p here m h apart =
     grind (arith, nat_tests, kind-apart p s text h apart, lexeme-simple)
 
--- a run that may begin at a simple lexeme is read from there on
+-- a first byte that is apart is no #
+apart-sign : (inc : IncludeState) (b : Option ℕ) → is_apart inc b ≡ true → holds number_sign b ≡ false
+apart-sign include.AtStart b h = none (holds number_sign b) h
+  where
+    none : (t : Bool) → not t ≡ true → t ≡ false
+    none true e = cc
+    none false e = refl
+apart-sign include.Elsewhere b h = none (holds number_sign b) h
+  where
+    none : (t : Bool) → not t ≡ true → t ≡ false
+    none true e = cc
+    none false e = refl
+apart-sign _ b h = cc
+
+-- a run that may begin at a simple lexeme, and has bytes, is read from there on
 pub run-read : (lines : List SourceLine) (s : LexerState) (text : List Cell) (p : SimpleLexeme)
-    → IsSimple text p → begins_run s.mode s.line p (byte_at 0 text) ≡ true → IsRestOf lines text
-    → IsRunRead lines s (elsewhere s) text
-run-read lines s text p here begins ours =
+    → IsSimple text p → begins_run s.mode s.line.include p (byte_at 0 text) ≡ true → 0 < run_count text
+    → IsRestOf lines text → IsRunRead lines s (elsewhere s) text
+run-read lines s text p here begins some_bytes ours =
     let all = and_parts (is_c_part s.mode && is_word_or_sign p) _ begins in
     let both = and_parts (is_c_part s.mode) (is_word_or_sign p) all.0 in
     let m : s.mode ≡ mode.CPart = (grind arith) in
@@ -181,12 +231,21 @@ run-read lines s text p here begins ours =
     let line : 0 + place.line ≡ place.line = omega arith in
     let is : text ≡ line_text place.line place.column bytes ++ place.rest
     = ours.1 ∙ (place.is ∙ ap (λ n. line_text n place.column bytes ++ place.rest) line) in
-    let front : holds_plain (slice_get bytes 0) ≡ true
-    = ap holds_plain (sym (front-byte place.line place.column bytes place.rest) ∙ ap (byte_at 0) (sym is)) ∙ plain in
+    let byte : byte_at 0 text ≡ slice_get bytes 0
+    = ap (byte_at 0) is ∙ front-byte place.line place.column bytes place.rest in
+    let size : run_count text ≡ run_size bytes
+    = ap run_count is ∙ run_count-line place.line place.column bytes place.rest in
+    let begins_run : BeginsRun bytes = run-begins bytes (ap holds_plain (sym byte) ∙ plain) (omega (arith, size, some_bytes)) in
+    let of_line : List ℕ = get_or (texts_of lines) place.line [] in
+    let found : byte_at 0 text ≡ Some (get_or of_line place.column 0)
+    = byte ∙ (get-drop of_line place.column ∙ slice_get-get_or of_line place.column 0 place.inside) in
+    let sign : (get_or of_line place.column 0 == number_sign) ≡ false
+    = ap (holds number_sign) (sym found) ∙ apart-sign s.line.include (byte_at 0 text) all.1 in
     let part : LexerState = in_part (with_item false s.line.line) s.occurrences s.last_line in
     let run : IsRunRead lines part part text
     = subst (IsRunRead lines part part) (sym is)
-    (search (rules, line-run, item-stays, plain-begins)) in
+    (line-run lines (with_item false s.line.line) (λ b. item-stays false b s.line.line) s.occurrences s.last_line
+    place.line place.column place.rest place.real place.inside begins_run sign) in
     grind (arith, nat_tests, lexeme-apart s text p here, tokens_from-step, occurrences_from-step)
   where
     plain-some : (b : Option ℕ) → holds_plain b ≡ true → IsSome b

@@ -13,7 +13,11 @@ use Rattle.tangle_text.specs.Bytes.{apostrophe, slash, holds_white, holds_word_b
 use Rattle.tangle_text.specs.Bytes.{is_word_byte, number_sign, backslash}
 use Rattle.tangle_text.specs.Text.{Cell, line_text, byte_at, span_at}
 use Rattle.tangle_text.specs.Regions.{unit_at, count_before}
-use Rattle.tangle_text.specs.Runs.{is_plain, holds_plain, is_in_run, run_size, chunks, parts_of, has_single_spaces}
+use Rattle.tangle_text.specs.Runs.{is_plain, holds_plain, is_run_byte, is_before_separator, is_in_run, run_size}
+use Rattle.tangle_text.specs.Runs.{chunks, parts_of, has_single_spaces}
+use Rattle.tangle_text.proofs.SeparatorLemmas.{IsInRun, in_run-is, run_size-in, run_size-first, plain-in_run}
+use Rattle.tangle_text.proofs.SeparatorLemmas.{word-plain, plain-no_space, before-word}
+use Rattle.tangle_text.proofs.WordLemmas.{word_more-plain}
 use Rattle.tangle_text.proofs.RunChunks.{alone-chunk, front-chunk, alone-before, part-word}
 use Rattle.tangle_text.proofs.UnitLemmas.{count-one}
 use Rattle.tangle_lexer.specs.declared.modes.Mode.TheVariants as mode
@@ -34,9 +38,6 @@ use Rattle.tangle_lexer.specs.Steps.{lexeme, c_lexeme, tokens_from, occurrences_
 use Rattle.tangle_lexer.proofs.lemmas.StepLemmas.{lexeme-here, tokens_from-step, occurrences_from-step}
 
 -- bytes of a run
-
-pub word-plain : (b : ℕ) → is_word_byte b ≡ true → is_plain b ≡ true
-word-plain b h = grind (arith, nat_tests)
 
 -- the kind of the lexeme that begins with a byte of a run, where no #include was begun
 abbrev kind_of : ℕ → Option ℕ → LexemeKind
@@ -62,7 +63,7 @@ pub record ArePlainTests (b : ℕ) : Type 0 where
 plain-byte : (b : ℕ) (next : Option ℕ) → is_plain b ≡ true → IsRunByte b next
 plain-byte b next h = grind (arith, nat_tests)
 
-run-byte : (b : ℕ) (next : Option ℕ) → is_in_run b next ≡ true → IsRunByte b next
+run-byte : (b : ℕ) (next : Option ℕ) → is_run_byte b next ≡ true → IsRunByte b next
 run-byte b next h = grind (arith, nat_tests)
 
 -- the rest of a line
@@ -72,17 +73,9 @@ pub front-byte : (line column : ℕ) (bs : List ℕ) (rest : List Cell)
 front-byte line column [] rest = refl
 front-byte line column (b ∷ bs) rest = refl
 
-one-more : (n : ℕ) → 1 + n ≡ suc n
-one-more n = omega arith
-
 front-take : (n c : ℕ) (bs : List ℕ) → is_word_byte c ≡ false → holds_word_byte (slice_get (take n (c ∷ bs)) 0) ≡ false
 front-take zero c bs h = refl
 front-take (suc n) c bs h = h
-
--- the bytes of a run, one by one
-
-run-grows : (b : ℕ) (bs : List ℕ) → is_in_run b (slice_get bs 0) ≡ true → run_size (b ∷ bs) ≡ suc (run_size bs)
-run-grows b bs h = rw h (one-more (run_size bs))
 
 -- regions that end at once
 
@@ -129,7 +122,7 @@ more_of (t ∷ ts) = ts
 -- the first byte is in the run and is no space
 abbrev pub BeginsRun : List ℕ → Type 0
 BeginsRun [] = ⊥
-BeginsRun (b ∷ bs) = (is_in_run b (slice_get bs 0) ≡ true) × ((b == space) ≡ false)
+BeginsRun (b ∷ bs) = IsInRun b bs × ((b == space) ≡ false)
 
 -- the parts of the run have single spaces: before the first byte there is no space, unless that byte is no space
 abbrev HasSingle : ℕ → ℕ → List ℕ → List ℕ → Type 0
@@ -137,8 +130,14 @@ HasSingle line column bs xs =
     (before : Bool) → (before ≡ true → BeginsRun bs)
     → has_single_spaces before (parts_of line column (chunks xs)) ≡ true
 
-pub plain-begins : (bs : List ℕ) → holds_plain (slice_get bs 0) ≡ true → BeginsRun bs
-plain-begins x h = grind arith
+plain-begins : (bs : List ℕ) → holds_plain (slice_get bs 0) ≡ true → is_before_separator bs ≡ false → BeginsRun bs
+plain-begins [] h apart = cc
+plain-begins (b ∷ bs) h apart = (plain-in_run b bs h apart, plain-no_space b h)
+
+-- a run that has bytes begins with a plain one
+pub run-begins : (bs : List ℕ) → holds_plain (slice_get bs 0) ≡ true → 0 < run_size bs → BeginsRun bs
+run-begins [] h some = cc
+run-begins (b ∷ bs) h some = (in_run-is b bs (run_size-first b bs some), plain-no_space b h)
 
 module _ (l : LineOfC) (stays : (b : Bool) → with_item b l ≡ l) (occurrences last line : ℕ) (rest : List Cell) where
   abbrev here : LexerState
@@ -164,17 +163,20 @@ module _ (l : LineOfC) (stays : (b : Bool) → with_item b l ≡ l) (occurrences
   inside : (column b : ℕ) (bs : List ℕ) → 0 < length (at column (b ∷ bs))
   inside column b bs = omega arith
 
-  -- a word is read
-  word-reads : (column b : ℕ) (bs : List ℕ) → is_word_byte b ≡ true →
+  -- a word that no separator follows is read
+  word-reads : (column b : ℕ) (bs : List ℕ) → is_word_byte b ≡ true → is_before_separator (b ∷ bs) ≡ false →
       Reads here (at column (b ∷ bs))
       (token.Span span_kind.Word (span_at (1 + count_before region.Word (at (column + 1) bs)) (at column (b ∷ bs)))
       ∷ [])
       (drop (count_before region.Word (at (column + 1) bs)) (at (column + 1) bs))
-  word-reads column b bs word =
+  word-reads column b bs word apart =
       let text = at column (b ∷ bs) in
-      lexeme-reads here text (c_lexeme lexeme_kind.Word here text) (inside column b bs)
+      let next = at (column + 1) bs in
+      subst (λ n. Reads here text (token.Span span_kind.Word (span_at (1 + n) text) ∷ []) (drop n next))
+      (word_more-plain line column b bs rest (sym (before-word b bs word) ∙ apart))
+      (lexeme-reads here text (c_lexeme lexeme_kind.Word here text) (inside column b bs)
       (lexeme-here here text lexeme_kind.Word refl (kind-at column b bs ∙ (grind (arith, nat_tests)))) refl
-      (same-line false)
+      (same-line false))
 
   sign-continues : (column b : ℕ) (bs xs : List ℕ) (after : List Cell)
       → kind_of b (slice_get bs 0) ≡ lexeme_kind.Other → is_word_byte b ≡ false → (b == space) ≡ false
@@ -189,8 +191,9 @@ module _ (l : LineOfC) (stays : (b : Bool) → with_item b l ≡ l) (occurrences
       (rw no_backslash (same-line (b == number_sign))) in search (rules, alone-chunk)
 
   space-continues : (column : ℕ) (bs xs : List ℕ) (after : List Cell) → holds_plain (slice_get bs 0) ≡ true
+      → is_before_separator bs ≡ false
       → Goes (column + 1) bs xs after → Goes column (space ∷ bs) (space ∷ xs) after
-  space-continues column bs xs after plain more =
+  space-continues column bs xs after plain apart more =
       let text = at column (space ∷ bs) in
       let next = at (column + 1) bs in
       let none : count_before region.White next ≡ 0
@@ -201,28 +204,36 @@ module _ (l : LineOfC) (stays : (b : Bool) → with_item b l ≡ l) (occurrences
     where
       single : HasSingle line column (space ∷ bs) (space ∷ xs)
       single true h = let never = (h refl).1 in cc
-      single false h = rw (alone-chunk space (chunks xs) refl) (more.1 true (λ e. plain-begins bs plain))
+      single false h = rw (alone-chunk space (chunks xs) refl) (more.1 true (λ e. plain-begins bs plain apart))
 
   word-continues : (column b : ℕ) (bs xs : List ℕ) (after : List Cell) → is_word_byte b ≡ true
-      → holds_word_byte (slice_get bs 0) ≡ false → holds_word_byte (slice_get xs 0) ≡ false
+      → is_before_separator (b ∷ bs) ≡ false → holds_word_byte (slice_get bs 0) ≡ false → holds_word_byte (slice_get xs 0) ≡ false
       → Goes (column + 1) bs xs after → Goes column (b ∷ bs) (b ∷ xs) after
-  word-continues column b bs xs after word other first_other more =
-      grind (arith, nat_tests, word-stop, front-byte, word-reads column b bs word, alone-before b xs word first_other)
+  word-continues column b bs xs after word apart other first_other more =
+      grind (
+        arith,
+        nat_tests,
+        word-stop,
+        front-byte,
+        word-reads column b bs word apart,
+        alone-before b xs word first_other,
+      )
 
   -- a word byte before another belongs to the word of that
   word-joins : (column b c : ℕ) (bs xs : List ℕ) (after : List Cell)
-      → is_word_byte b ≡ true → is_word_byte c ≡ true
+      → is_word_byte b ≡ true → is_word_byte c ≡ true → is_before_separator (b ∷ c ∷ bs) ≡ false
       → Goes (column + 1) (c ∷ bs) (c ∷ xs) after → Goes column (b ∷ c ∷ bs) (b ∷ c ∷ xs) after
   unfolding end_of more_of
-  word-joins column b c bs xs after word next_word more =
+  word-joins column b c bs xs after word next_word apart more =
       let text = at column (b ∷ c ∷ bs) in
       let next = at (column + 1) (c ∷ bs) in
       let past = at (column + 1 + 1) bs in
       let n : ℕ = count_before region.Word past in
+      let one_more : 1 + n ≡ suc n = omega arith in
       let counts : count_before region.Word next ≡ 1 + n
       = count-one region.Word (record { line = line; column = column + 1; byte = Some c }) past (rw next_word refl) in
-      let first = word-reads column b (c ∷ bs) word in
-      let second = word-reads (column + 1) c bs next_word in
+      let first = word-reads column b (c ∷ bs) word apart in
+      let second = word-reads (column + 1) c bs next_word (sym (before-word b (c ∷ bs) word) ∙ apart) in
       let chunk = front-chunk c xs in
       let zs : List ℕ = chunk.0 in
       let others = map part_token (parts_of line (column + 1 + length (c ∷ zs)) chunk.1) in
@@ -240,51 +251,64 @@ module _ (l : LineOfC) (stays : (b : Bool) → with_item b l ≡ l) (occurrences
       = search rules in
       let size_is : 1 + count_before region.Word next ≡ length (b ∷ c ∷ zs) = omega arith in
       let past_is : drop (count_before region.Word next) next ≡ drop n past
-      = ap (λ k. drop k next) (counts ∙ one-more n) in
+      = ap (λ k. drop k next) (counts ∙ one_more) in
       let single : has_single_spaces false (parts_of line (column + 1 + length (c ∷ zs)) chunk.1) ≡ true
       = rw (chunk.2, part-word line (column + 1) c zs next_word) at (more.1 false (λ e. cc)) in search rules
 
   -- a word byte of a run
-  word-goes : (column b : ℕ) (bs : List ℕ) → is_word_byte b ≡ true
+  word-goes : (column b : ℕ) (bs : List ℕ) → is_word_byte b ≡ true → is_before_separator (b ∷ bs) ≡ false
       → Goes (column + 1) bs (take (run_size bs) bs) (drop (run_size bs) (at (column + 1) bs))
       → Goes column (b ∷ bs) (b ∷ take (run_size bs) bs) (drop (run_size bs) (at (column + 1) bs))
-  word-goes column b [] word more = word-continues column b [] [] (at (column + 1) []) word refl refl more
-  word-goes column b (c ∷ bs) word more = by (is_word_byte c) refl
+  word-goes column b [] word apart more =
+      word-continues column b [] [] (at (column + 1) []) word apart refl refl more
+  word-goes column b (c ∷ bs) word apart more = by (is_word_byte c) refl
     where
       after : List Cell
       after = drop (run_size (c ∷ bs)) (at (column + 1) (c ∷ bs))
 
       by : (w : Bool) → is_word_byte c ≡ w → Goes column (b ∷ c ∷ bs) (b ∷ take (run_size (c ∷ bs)) (c ∷ bs)) after
       by true next_word =
-          let xs = (ap (λ n. take n (c ∷ bs)) (run-grows c bs (rw (word-plain c next_word) refl))) in
+          let next_apart = sym (before-word b (c ∷ bs) word) ∙ apart in
+          let size = run_size-in c bs (plain-in_run c bs (word-plain c next_word) next_apart) in
+          let xs = (ap (λ n. take n (c ∷ bs)) size) in
           subst (λ ys. Goes column (b ∷ c ∷ bs) (b ∷ ys) after) (sym xs)
-          (word-joins column b c bs (take (run_size bs) bs) after word next_word
+          (word-joins column b c bs (take (run_size bs) bs) after word next_word apart
           (subst (λ ys. Goes (column + 1) (c ∷ bs) ys after) xs more))
       by false other =
-          search (rules, word-continues, front-take)
+          word-continues column b (c ∷ bs) (take (run_size (c ∷ bs)) (c ∷ bs)) after word apart other
+          (front-take (run_size (c ∷ bs)) c bs other) more
 
   -- the run at the front is read
   pub run-goes : (column : ℕ) (bs : List ℕ) → Goes column bs (take (run_size bs) bs) (drop (run_size bs) (at column bs))
   run-goes column [] = (record { tokens = refl; occurrences = refl }, (grind arith))
-  run-goes column (b ∷ bs) = by (is_in_run b (slice_get bs 0)) refl (run-goes (column + 1) bs)
+  run-goes column (b ∷ bs) = by (is_in_run b bs) refl (run-goes (column + 1) bs)
     where
       first : ℕ → Type 0
       first n = Goes column (b ∷ bs) (take n (b ∷ bs)) (drop n (at column (b ∷ bs)))
 
-      by : (r : Bool) → is_in_run b (slice_get bs 0) ≡ r
+      -- no part, and so no space, is in an empty run
+      stop : run_size (b ∷ bs) ≡ 0 → HasSingle line column (b ∷ bs) []
+      stop none true k = absurd (omega (arith, none, run_size-in b bs (k refl).0))
+      stop none false k = refl
+
+      by : (r : Bool) → is_in_run b bs ≡ r
           → Goes (column + 1) bs (take (run_size bs) bs) (drop (run_size bs) (at (column + 1) bs))
           → first (run_size (b ∷ bs))
       by false h more =
-          search rules
+          let none : run_size (b ∷ bs) ≡ 0 = rw h refl in
+          subst first (sym none) (record { tokens = refl; occurrences = refl }, stop none)
       by true h more =
-          subst first (sym (run-grows b bs h)) (elim (run-byte b (slice_get bs 0) h) [
-            | inl word ↦ word-goes column b bs word more
+          let in_run : IsInRun b bs = in_run-is b bs h in
+          subst first (sym (run_size-in b bs in_run)) (elim (run-byte b (slice_get bs 0) in_run.byte) [
+            | inl word ↦ word-goes column b bs word in_run.apart more
             | inr other ↦
                 elim other [
                   | inl sign ↦ sign-continues column b bs (take (run_size bs) bs) _ sign.0 sign.1 sign.2 sign.3 more
                   | inr spaces ↦
+                      let is : (b == space) ≡ true = ap (λ x. x == space) spaces.0 in
+                      let apart : is_before_separator bs ≡ false = (rw is at in_run.after) in
                       subst (λ x. Goes column (x ∷ bs) (x ∷ take (run_size bs) bs)
                       (drop (run_size bs) (at (column + 1) bs))) (sym spaces.0)
-                      (space-continues column bs (take (run_size bs) bs) _ spaces.1 more)
+                      (space-continues column bs (take (run_size bs) bs) _ spaces.1 apart more)
                 ]
           ])

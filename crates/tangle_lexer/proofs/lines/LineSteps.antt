@@ -127,7 +127,7 @@ module _ (texts : List (List ℕ)) (R : Judgement texts) where
   abbrev pub is_item : Token → Bool
   is_item (token.Span kind s) = true
   is_item (token.AsciiConstant value n) = true
-  is_item token.QuoteBreak = true
+  is_item (token.QuoteBreak n) = true
   is_item t = false
 
   pub item-step : {l : LineOfC} {e : AtLineEnd} (t : Token) → is_item t ≡ true
@@ -142,8 +142,8 @@ module _ (texts : List (List ℕ)) (R : Judgement texts) where
       one-step t refl refl
       (λ before us is. grown before t us is refl (λ h. cc)
       (ap (with_item false) is.kind ∙ item-settled false l (join_ahead us)) refl)
-  item-step {l} token.QuoteBreak h =
-      let t : Token = token.QuoteBreak in
+  item-step {l} (token.QuoteBreak n) h =
+      let t : Token = token.QuoteBreak n in
       one-step t refl refl
       (λ before us is. grown before t us is refl (λ h. cc)
       (ap (with_item false) is.kind ∙ item-settled false l (join_ahead us)) refl)

@@ -133,13 +133,13 @@ module _ (texts : List (List ℕ)) (R : Judgement texts) where
           (λ at start c d cs ts n h is cell byte none other next x f last same back done.
           let range : List Token = cut_range r c.line start (c.column + 1) in
           let b : Bool = holds backslash c.byte in
-          subst (λ y. Steps texts R x f (range ++ token.QuoteBreak ∷ ts) m (ending (last_cell y n cs)))
+          subst (λ y. Steps texts R x f (range ++ token.QuoteBreak c.line ∷ ts) m (ending (last_cell y n cs)))
           (sym (ap (holds backslash) none))
-          (steps-append texts R range (token.QuoteBreak ∷ ts)
+          (steps-append texts R range (token.QuoteBreak c.line ∷ ts)
           (range-step x f c.line start (c.column + 1) b same (omega arith) (after-byte-of at c byte is))
-          (steps-append texts R (token.QuoteBreak ∷ []) ts
-          (subst (λ y. Steps texts R m (ending b) (token.QuoteBreak ∷ []) y Ends) (same-item l)
-          (item-step texts R token.QuoteBreak refl))
+          (steps-append texts R (token.QuoteBreak c.line ∷ []) ts
+          (subst (λ y. Steps texts R m (ending b) (token.QuoteBreak c.line ∷ []) y Ends) (same-item l)
+          (item-step texts R (token.QuoteBreak c.line) refl))
           (next m Ends false (same-item l) (λ k. absurd (omega arith)) (λ k. inr (refl, plain))))))
 
   -- quoted texts: no line end after one of their ranges goes on

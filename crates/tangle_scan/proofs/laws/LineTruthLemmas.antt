@@ -1,43 +1,61 @@
 -- If tokens follow one another line by line, their items are at their own lines.
-use Rattle.std.proofs.Common.{rules}
 use Rattle.std.proofs.lemmas.Bool.Decides.{nat_tests}
 use Rattle.std.proofs.Common.{◌≡◌, ℕ, ◌+◌, ◌<◌, Bool, true, false, if◌then◌else◌, Option, Some}
 use Rattle.std.proofs.Common.{List, [], ◌∷◌, ◌++◌, length, refl, arith, append_assoc, append-nil}
 use Rattle.std.proofs.Common.{map}
 use Rattle.std.proofs.lemmas.List.{map-append, length-map}
-use Rattle.std.specs.List.{AllZip, list_all}
+use Rattle.std.specs.List.{list_all}
 use Rattle.std.proofs.lemmas.List.Folds.{list_all-append}
 use Rattle.tangle_lines.specs.declared.origin.Origin.{Origin}
 use Rattle.tangle_lexer.specs.declared.tokens.Token.{Token}
-use Rattle.tangle_text.specs.declared.spans.Span.{Span}
 use Rattle.tangle_lexer.specs.declared.tokens.Token.TheVariants as token
 use Rattle.tangle_scan.specs.declared.items.Item.{Item}
 use Rattle.tangle_lines.specs.Reading.{SourceLine, origin_at}
 use Rattle.tangle_scan.specs.Rules.{white_inner_end}
 use Rattle.tangle_scan.specs.Rules.{texts_of, without_faults, would_merge, with_spaces, is_gap, has_join, map_runs}
-use Rattle.tangle_scan.specs.Rules.{left_of_run, span_item}
+use Rattle.tangle_scan.specs.Rules.{left_of_run}
 use Rattle.tangle_scan.specs.Rules.{is_continued, at_line_front, blanks, next_line, part_items}
 use Rattle.tangle_scan.specs.LineTruth.{counted_after_line_end}
-use Rattle.tangle_scan.specs.LineTruth.{CountedItem, counted_items, has_line_end, left_or_join, locations}
-use Rattle.tangle_scan.specs.LineTruth.{part_locations, IsOwn, IsAtItsLine}
-use Rattle.tangle_scan.specs.Passes.{items_by_origin}
-use Rattle.tangle_lexer.proofs.laws.TokenOrder.{line_past, AreByLine}
-use Rattle.tangle_scan.proofs.lemmas.ItemsByOrigin.{part_items-by_origin}
+use Rattle.tangle_scan.specs.LineTruth.{has_line_end, left_or_join, locations, is_expected, with_line_end}
+use Rattle.tangle_scan.specs.LineTruth.{origin_after_mark, part_locations, Location, IsOwn, AreAtTheirLines, IsAtItsLine}
+use Rattle.tangle_scan.specs.Passes.{items_by_origin, items_after, line_item, turn_after_line_end, is_whole}
+use Rattle.tangle_lexer.proofs.laws.TokenOrder.{line_past, IsInPart, AreByLine}
+use Rattle.tangle_scan.proofs.lemmas.ItemsByOrigin.{part_items-by_origin, turn_of, turn-snoc, turn-is}
+use Rattle.std.proofs.Common.{◌≤◌, nat_le, None, is_some, ◌&&◌, ◌||◌, not, ap, sym, ◌∙◌}
+use Rattle.tangle_text.specs.Bytes.{backslash}
+use Rattle.tangle_lexer.specs.declared.tokens.SpanKind.TheVariants as span_kind
+use Rattle.tangle_scan.specs.declared.items.Item.TheVariants as item
+use Rattle.tangle_scan.specs.declared.turns.Turn.{Turn}
+use Rattle.tangle_scan.specs.declared.turns.Turn.TheVariants as turn
+use Rattle.tangle_scan.specs.Rules.{is_front_gap, same_origin}
+use Rattle.tangle_scan.specs.Directives.{ForEachChoice, SameRegion, GroupBegins, GroupTurns, border_after, goes_on, is_blank}
+use Rattle.tangle_scan.specs.Directives.{is_turn, begins_group, item_ends_in}
+use Rattle.tangle_scan.proofs.lemmas.RuleLemmas.{blanks-item}
 
 -- leaving out faults, or adding the white space of rule 1, does not change the lines
 
+-- tokens in order, with no fault among them
+
+abbrev IsClean : List (List ℕ) → ℕ → Token → Type 0
+IsClean texts line (token.Fault kind at) = ⊥
+IsClean texts line t = IsInPart texts line t
+
+abbrev AreClean : List (List ℕ) → ℕ → List Token → Type 0
+AreClean texts line [] = Unit {0}
+AreClean texts line (t ∷ ts) = IsClean texts line t × AreClean texts (line_past line t) ts
+
 without_faults-by_line : (texts : List (List ℕ)) (es : List Token) (line : ℕ)
-    → AreByLine texts line es → AreByLine texts line (without_faults es)
+    → AreByLine texts line es → AreClean texts line (without_faults es)
 without_faults-by_line texts [] line h = h
 without_faults-by_line texts (token.Fault kind at ∷ es) line h = without_faults-by_line texts es line h.1
 without_faults-by_line texts (e ∷ es) line h = (h.0, without_faults-by_line texts es (line_past line e) h.1)
 
-white-by_line : (texts : List (List ℕ)) (b : Bool) (line : ℕ) (es : List Token) → AreByLine texts line es
-    → AreByLine texts line ((if b then token.White ∷ [] else []) ++ es)
+white-by_line : (texts : List (List ℕ)) (b : Bool) (line : ℕ) (es : List Token) → AreClean texts line es
+    → AreClean texts line ((if b then token.White ∷ [] else []) ++ es)
 white-by_line texts x line es h = grind arith
 
 with_spaces-by_line : (texts : List (List ℕ)) (es : List Token) (line : ℕ)
-    → AreByLine texts line es → AreByLine texts line (with_spaces texts es)
+    → AreClean texts line es → AreClean texts line (with_spaces texts es)
 with_spaces-by_line texts [] line h = h
 with_spaces-by_line texts (e ∷ []) line h = h
 with_spaces-by_line texts (e ∷ g ∷ es) line h = (
@@ -88,103 +106,330 @@ line_after_tokens-same line (token.InnerLineEnd at ∷ run) g h = cc
 line_after_tokens-same line (_ ∷ run) g h = cc
 
 by_line-after : (texts : List (List ℕ)) (line : ℕ) (run es : List Token)
-    → AreByLine texts line (run ++ es) → AreByLine texts (line_after_tokens line run) es
+    → AreClean texts line (run ++ es) → AreClean texts (line_after_tokens line run) es
 by_line-after texts line [] es h = h
 by_line-after texts line (e ∷ run) es h = by_line-after texts (line_past line e) run es h.1
+
+-- the line after a run is not before it
+after-least : (line : ℕ) (run : List Token) → AreGaps run → line ≤ line_after_tokens line run
+after-least line [] g = omega arith
+after-least line (token.Join ∷ run) g = after-least line run g
+after-least line (token.White ∷ run) g = after-least line run g
+after-least line (token.LineEnd at ∷ run) g = omega (arith, after-least (line + 1) run g)
+after-least line (token.InnerLineEnd at ∷ run) g = omega (arith, after-least (line + 1) run g)
+after-least line (_ ∷ run) g = absurd cc
+
+goes-snoc : (texts : List (List ℕ)) (xs : List Item) (x : Item) → goes_on texts (xs ++ x ∷ [])
+    ≡ (if is_blank x then goes_on texts xs else item_ends_in backslash texts x)
+goes-snoc texts [] x = grind (arith, nat_tests)
+goes-snoc texts (y ∷ ys) x = grind (arith, nat_tests, list_all-append is_blank ys (x ∷ []), goes-snoc texts ys x)
+
+-- After a line that is no turn, a region that is read comes only after one that is read.
+each : (texts : List (List ℕ)) (line : List Item) (read : Bool) (P : Bool → Type 0)
+    → ((now : Bool) → (is_turn texts line ≡ false → now ≡ true → read ≡ true) → P now)
+    → ForEachChoice (border_after texts line) read P
+each texts line read P h = by (is_turn texts line) refl (begins_group texts line)
+  where
+    by : (t : Bool) → is_turn texts line ≡ t → (g : Bool)
+        → ForEachChoice (if t then GroupTurns else if g then GroupBegins else SameRegion) read P
+    by true e g = λ now. h now (λ f. cc)
+    by false e true = λ now allowed. h now (λ f. allowed)
+    by false e false = h read (λ f same. same)
 
 module _ (lines : List SourceLine) where
   abbrev texts : List (List ℕ)
   texts = texts_of lines
 
-  -- the source items that rules 4 and 5 make of tokens, and their origins
-  abbrev seen : Option Token → Origin → List Token → List CountedItem
-  seen before counted es = counted_items (Some counted) (items_by_origin lines before counted es)
+  -- What is known before the tokens from source line `number` on: outside of stretches the origin that rule 5 counts is
+  -- that of this line, and a compiler that reads the region counts the origin that rule 5 counts.
+  record Inv (before : Option Token) (at : Turn) (counted : Origin) (stretch : Bool) (number : ℕ) (read : Bool)
+      (origin : Option Origin) (line : List Item) : Type 0 where
+    counts : stretch ≡ false → number < length lines → counted ≡ origin_at lines number
+    obeys : read ≡ true → number < length lines → origin ≡ Some counted
+    turns : number < length lines → turn_of texts line ≡ at
+    goes : goes_on texts line ≡ is_continued texts before
 
-  abbrev counted_after : Option Token → Origin → ℕ → Origin
-  counted_after before counted line = counted_after_line_end lines (is_continued texts before) counted line
-
-  -- two lists of tokens have the same source items with the same counted origins, after any token and origin
-  abbrev AreSeenAlike : List Token → List Token → Type 0
-  AreSeenAlike es fs = (before : Option Token) (counted : Origin) → seen before counted es ≡ seen before counted fs
-
-  seen-first : (e : Token) (es fs : List Token) → AreSeenAlike es fs → AreSeenAlike (e ∷ es) (e ∷ fs)
-  seen-first e es fs h before counted = grind (arith, nat_tests)
-
-  -- rule 3 does not change the counted origin of a source item
-  blanks-seen : (left : Option Token) (white : Bool) (es : List Token) → AreSeenAlike (blanks texts left white es) es
-  blanks-seen left white [] before counted = grind (arith, nat_tests)
-  blanks-seen left white (token.White ∷ es) before counted = blanks-seen left true es before counted
-  blanks-seen left white (token.LineEnd line ∷ es) before counted =
-      grind (arith, nat_tests, seen-first (token.LineEnd line), blanks-seen (at_line_front texts left line) false es)
-  blanks-seen left white (e ∷ es) before counted =
-      grind (arith, blanks-seen (Some e) false es)
-
-  -- outside stretches the counted origin is that of this source line, if there is such a line
-  abbrev IsCounted : Origin → Bool → ℕ → Type 0
-  IsCounted counted stretch line = stretch ≡ false → line < length lines → counted ≡ origin_at lines line
-
-  -- From each line on from which the tokens `es` follow line by line, the source items that rules 4 and 5 make of `fs`
+  -- From each line on from which the tokens `es` follow line by line, the source items that rules 3 to 5 make of `fs`
   -- are at the locations of `gs`.
   abbrev AreTrue : List Token → List Token → List Token → Type 0
   AreTrue es fs gs =
-      (before : Option Token) (counted : Origin) (stretch : Bool) (line : ℕ)
-      → IsCounted counted stretch line → AreByLine texts line es
-      → AllZip (IsOwn lines) (seen before counted fs) (locations lines before counted stretch gs)
+      (before : Option Token) (at : Turn) (white : Bool) (counted : Origin) (stretch : Bool) (number : ℕ) (read : Bool)
+      (origin : Option Origin) (line : List Item)
+      → Inv before at counted stretch number read origin line → AreClean texts number es
+      → AreAtTheirLines lines read origin line (items_after lines before at counted white fs)
+      (locations lines before counted stretch gs)
 
-  own : (counted : Origin) (stretch : Bool) (line at : ℕ) (i : Item)
-      → at ≡ line → IsCounted counted stretch line → line < length texts
-      → IsOwn lines (record { item = i; origin = Some counted }) (record { item = i; line = at; in_stretch = stretch })
-  own counted stretch line at i e here real = grind (arith, nat_tests, length-map)
+  -- a blank
+  blank-known : (before : Option Token) (at : Turn) (counted : Origin) (stretch : Bool) (number : ℕ) (read : Bool)
+      (origin : Option Origin) (line : List Item) → Inv before at counted stretch number read origin line
+      → Inv before at counted stretch number read origin (line ++ item.Blank ∷ [])
+  blank-known before at counted stretch number read origin line h = record {
+    counts = h.counts;
+    obeys = h.obeys;
+    turns = λ real. turn-snoc texts line item.Blank ∙ h.turns real;
+    goes = goes-snoc texts line item.Blank ∙ h.goes;
+  }
+
+  -- the next source line, where there is one
+
+  not-out : (b : Bool) → not b ≡ false → b ≡ true
+  not-out b h = grind arith
+
+  not-last : (n number : ℕ) → n ≡ number → number + 1 < length lines → nat_le (length lines) (n + 1) ≡ false
+  not-last n number same real = grind (arith, nat_tests)
+
+  same-is : (p q : Origin) → same_origin p q ≡ true → p ≡ q
+  same-is p q h = grind (arith, nat_tests)
+
+  expected-is : (counted : Origin) (n number : ℕ) → n ≡ number → number + 1 < length lines
+      → is_expected lines counted n ≡ true → next_line counted ≡ origin_at lines (number + 1)
+  expected-is counted n number same real is =
+      grind (arith, nat_tests, same-is, not-last n number same real)
+
+  after-is : (counted : Origin) (n number : ℕ) → n ≡ number → number + 1 < length lines
+      → (if is_expected lines counted n then next_line counted else origin_at lines (n + 1)) ≡ origin_at lines (number + 1)
+  after-is counted n number same real = by (is_expected lines counted n) refl
+    where
+      by : (b : Bool) → is_expected lines counted n ≡ b
+          → (if b then next_line counted else origin_at lines (n + 1)) ≡ origin_at lines (number + 1)
+      by true is = expected-is counted n number same real is
+      by false is = ap (λ k. origin_at lines (k + 1)) same
+
+  -- a source item
+  own : (counted : Origin) (stretch : Bool) (number at : ℕ) (read : Bool) (origin : Option Origin) (x : Item)
+      → at ≡ number → number < length texts
+      → (stretch ≡ false → number < length lines → counted ≡ origin_at lines number)
+      → (read ≡ true → number < length lines → origin ≡ Some counted)
+      → IsOwn lines read origin x (record { item = x; line = at; in_stretch = stretch })
+  own counted stretch number at read origin x same inside counts obeys = record {
+    item = refl;
+    line = rw same real;
+    origin = λ is out. obeys is real ∙ ap Some (counts out real ∙ ap (origin_at lines) (sym same));
+  }
+    where
+      real : number < length lines
+      real = omega (arith, inside, length-map lines (λ l. l.bytes))
 
   -- one token other than a join, white space and a line end, before others
-  first-true : (e : Token) (es fs gs : List Token)
-      → is_gap e ≡ false → AreTrue es fs gs → AreTrue (e ∷ es) (e ∷ fs) (e ∷ gs)
-  first-true token.Join es fs gs gap next before counted stretch line here ordered = cc
-  first-true token.White es fs gs gap next before counted stretch line here ordered = cc
-  first-true (token.LineEnd at) es fs gs gap next before counted stretch line here ordered = cc
-  first-true (token.InnerLineEnd at) es fs gs gap next before counted stretch line here ordered = cc
-  first-true token.QuoteBreak es fs gs gap next before counted stretch line here ordered =
-      next (Some token.QuoteBreak) (next_line counted) true (line + 1) (λ e. absurd cc) ordered.1
-  first-true (token.UseOf at occurrence) es fs gs gap next before counted stretch line here ordered =
-      search rules
-  first-true (token.AllMacros at) es fs gs gap next before counted stretch line here ordered =
-      search rules
-  first-true (token.Span kind s) es fs gs gap next before counted stretch line here ordered =
-      grind (arith, nat_tests, own counted stretch line s.line (span_item kind s) ordered.0.0 here)
-  first-true (token.AsciiConstant b at) es fs gs gap next before counted stretch line here ordered =
-      search (rules, own)
-  first-true e es fs gs gap next before counted stretch line here ordered = grind (arith, nat_tests)
+  item-true : (e : Token) (es fs gs : List Token) → is_gap e ≡ false → AreTrue es fs gs
+      → (before : Option Token) (at : Turn) (counted : Origin) (stretch : Bool) (number : ℕ) (read : Bool)
+      (origin : Option Origin) (line : List Item)
+      → Inv before at counted stretch number read origin line → AreClean texts number (e ∷ es)
+      → AreAtTheirLines lines read origin line (items_by_origin lines before at counted (e ∷ blanks texts (Some e) false fs))
+      (locations lines before counted stretch (e ∷ gs))
+  item-true token.Join es fs gs gap next before at counted stretch number read origin line h ordered = cc
+  item-true token.White es fs gs gap next before at counted stretch number read origin line h ordered = cc
+  item-true (token.LineEnd n) es fs gs gap next before at counted stretch number read origin line h ordered = cc
+  item-true (token.InnerLineEnd n) es fs gs gap next before at counted stretch number read origin line h ordered = cc
+  item-true (token.QuoteBreak n) es fs gs gap next before at counted stretch number read origin line h ordered =
+      next (Some (token.QuoteBreak n)) _ false (next_line counted) (not (is_expected lines counted n)) (number + 1) read
+      (with_line_end origin) (line ++ item.QuoteBreak ∷ []) (record {
+        counts = λ out real. expected-is counted n number ordered.0 real (not-out (is_expected lines counted n) out);
+        obeys = λ is real. rw (h.obeys is (omega arith)) refl;
+        turns = λ real. turn-snoc texts line item.QuoteBreak ∙ rw (h.turns (omega arith)) refl;
+        goes = goes-snoc texts line item.QuoteBreak;
+      }) ordered.1
+  item-true (token.UseOf n occurrence) es fs gs gap next before at counted stretch number read origin line h ordered =
+      λ now from.
+      next (Some (token.UseOf n occurrence)) turn.NoItem false (origin_at lines n) false n now
+      (origin_after_mark now (origin_at lines n) from) []
+      (record { counts = λ out real. refl; obeys = λ is real. rw is refl; turns = λ real. refl; goes = refl }) ordered.1
+  item-true (token.AllMacros n) es fs gs gap next before at counted stretch number read origin line h ordered =
+      λ now from.
+      next (Some (token.AllMacros n)) turn.NoItem false (origin_at lines n) false number now
+      (origin_after_mark now (origin_at lines n) from) [] (record {
+        counts = λ out real. ap (origin_at lines) ordered.0;
+        obeys = λ is real. rw is refl;
+        turns = λ real. refl;
+        goes = refl;
+      }) ordered.1
+  item-true (token.Span span_kind.Word s) es fs gs gap next before at counted stretch number read origin line h ordered = (
+    own counted stretch number s.line read origin (item.Word s) ordered.0.0 (rw (← ordered.0.0) ordered.0.1.line) h.counts h.obeys,
+    next (Some (token.Span span_kind.Word s)) _ false counted stretch number read origin (line ++ item.Word s ∷ []) (record {
+      counts = h.counts;
+      obeys = h.obeys;
+      turns = λ real. turn-snoc texts line (item.Word s) ∙ rw (h.turns real) refl;
+      goes = goes-snoc texts line (item.Word s);
+    }) ordered.1,
+  )
+  item-true (token.Span span_kind.Sign s) es fs gs gap next before at counted stretch number read origin line h ordered = (
+    own counted stretch number s.line read origin (item.Sign s) ordered.0.0 (rw (← ordered.0.0) ordered.0.1.line) h.counts h.obeys,
+    next (Some (token.Span span_kind.Sign s)) _ false counted stretch number read origin (line ++ item.Sign s ∷ []) (record {
+      counts = h.counts;
+      obeys = h.obeys;
+      turns = λ real. turn-snoc texts line (item.Sign s) ∙ rw (h.turns real) refl;
+      goes = goes-snoc texts line (item.Sign s);
+    }) ordered.1,
+  )
+  item-true (token.Span span_kind.Quoted s) es fs gs gap next before at counted stretch number read origin line h ordered = (
+    own counted stretch number s.line read origin (item.Quoted s) ordered.0.0 (rw (← ordered.0.0) ordered.0.1.line) h.counts h.obeys,
+    next (Some (token.Span span_kind.Quoted s)) _ false counted stretch number read origin (line ++ item.Quoted s ∷ []) (record {
+      counts = h.counts;
+      obeys = h.obeys;
+      turns = λ real. turn-snoc texts line (item.Quoted s) ∙ rw (h.turns real) refl;
+      goes = goes-snoc texts line (item.Quoted s);
+    }) ordered.1,
+  )
+  item-true (token.Span span_kind.Verbatim s) es fs gs gap next before at counted stretch number read origin line h ordered = (
+    own counted stretch number s.line read origin (item.Verbatim s) ordered.0.0 (rw (← ordered.0.0) ordered.0.1.line) h.counts h.obeys,
+    next (Some (token.Span span_kind.Verbatim s)) _ false counted stretch number read origin (line ++ item.Verbatim s ∷ []) (record {
+      counts = h.counts;
+      obeys = h.obeys;
+      turns = λ real. turn-snoc texts line (item.Verbatim s) ∙ rw (h.turns real) refl;
+      goes = goes-snoc texts line (item.Verbatim s);
+    }) ordered.1,
+  )
+  item-true (token.AsciiConstant b n) es fs gs gap next before at counted stretch number read origin line h ordered = (
+    own counted stretch number n read origin (item.Code b) ordered.0.0 ordered.0.1 h.counts h.obeys,
+    next (Some (token.AsciiConstant b n)) _ false counted stretch number read origin (line ++ item.Code b ∷ []) (record {
+      counts = h.counts;
+      obeys = h.obeys;
+      turns = λ real. turn-snoc texts line (item.Code b) ∙ rw (h.turns real) refl;
+      goes = goes-snoc texts line (item.Code b);
+    }) ordered.1,
+  )
+  item-true e es fs gs gap next before at counted stretch number read origin line h ordered = absurd ordered.0
+
+  solid-item : (e : Token) → is_gap e ≡ false → is_front_gap e ≡ false
+  solid-item e gap = grind arith
+
+  -- such a token, and the blank that may be before it
+  first-true : (e : Token) (es fs gs : List Token) → is_gap e ≡ false → AreTrue es fs gs
+      → AreTrue (e ∷ es) (e ∷ fs) (e ∷ gs)
+  first-true e es fs gs gap next before at white counted stretch number read origin line h ordered =
+      rw (blanks-item texts before white e fs (solid-item e gap)) (by (is_some before && white))
+    where
+      by : (b : Bool) → AreAtTheirLines lines read origin line
+          (items_by_origin lines before at counted
+          ((if b then token.White ∷ [] else []) ++ e ∷ blanks texts (Some e) false fs))
+          (locations lines before counted stretch (e ∷ gs))
+      by true =
+          item-true e es fs gs gap next before at counted stretch number read origin (line ++ item.Blank ∷ [])
+          (blank-known before at counted stretch number read origin line h) ordered
+      by false = item-true e es fs gs gap next before at counted stretch number read origin line h ordered
+
+  -- the end of a line, with what is true of the rest
+  end-true : (n : ℕ) (rest : List Item) (ss : List Location) (before : Option Token) (at : Turn) (counted : Origin)
+      (stretch : Bool) (number : ℕ) (read : Bool) (origin : Option Origin) (line : List Item) →
+      let continued : Bool = is_continued texts before in
+      let after : Origin = counted_after_line_end lines continued counted n in
+      Inv before at counted stretch number read origin line → n ≡ number
+      → ((now : Bool) (from : Option Origin) (more : List Item)
+      → Inv (at_line_front texts before n) (turn_after_line_end lines continued n at) after
+      (continued && not (is_expected lines counted n)) (number + 1) now from more
+      → AreAtTheirLines lines now from more rest ss)
+      → AreAtTheirLines lines read origin line (line_item lines continued (is_whole at) counted n ∷ rest) ss
+  end-true n rest ss before at counted stretch number read origin line h same next =
+      by (is_continued texts before) refl next
+    where
+      last : Bool
+      last = nat_le (length lines) (n + 1)
+
+      expected : Bool
+      expected = is_expected lines counted n
+
+      mark : Origin
+      mark = origin_at lines (n + 1)
+
+      -- what is known of the rest, which is true
+      Rest : Bool → Type 0
+      Rest c =
+          (now : Bool) (from : Option Origin) (more : List Item)
+          → Inv (if c then Some (token.LineEnd n) else None) (if c || last then at else turn.NoItem)
+          (if c || expected then next_line counted else mark) (c && not expected) (number + 1) now from more
+          → AreAtTheirLines lines now from more rest ss
+
+      no-turn : number + 1 < length lines → (if is_whole at then last else expected) ≡ true
+          → (is_turn texts line ≡ false) × (expected ≡ true)
+      no-turn real is = by_kind (is_whole at) refl
+        where
+          by_kind : (t : Bool) → is_whole at ≡ t → (is_turn texts line ≡ false) × (expected ≡ true)
+          by_kind true e = grind (arith, nat_tests, not-last n number same real)
+          by_kind false e = (turn-is texts line ∙ ap is_whole (h.turns (omega arith)) ∙ e, rw e at is)
+
+      begins : number + 1 < length lines → turn.NoItem ≡ (if last then at else turn.NoItem)
+      begins real = rw (not-last n number same real) refl
+
+      ended : goes_on texts line ≡ false → Rest false → (u : Bool) → (if is_whole at then last else expected) ≡ u
+          → AreAtTheirLines lines read origin line ((if u then item.LineEnd else item.LineMark mark) ∷ rest) ss
+      ended stops next true is =
+          rw stops (each texts line read _ (λ now allowed. next now (with_line_end origin) [] (record {
+            counts = λ out real. after-is counted n number same real;
+            obeys = λ now_read real.
+                let plain = no-turn real is in
+                rw (h.obeys (allowed plain.0 now_read) (omega arith), plain.1) refl;
+            turns = λ real. begins real;
+            goes = refl;
+          })))
+      ended stops next false is =
+          each texts line read _ (λ now allowed. next now (origin_after_mark now mark origin) [] (record {
+            counts = λ out real. after-is counted n number same real;
+            obeys = λ now_read real.
+                rw now_read (ap Some (ap (λ k. origin_at lines (k + 1)) same ∙ sym (after-is counted n number same real)));
+            turns = λ real. begins real;
+            goes = refl;
+          }))
+
+      by : (c : Bool) → is_continued texts before ≡ c → Rest c
+          → AreAtTheirLines lines read origin line
+          ((if c || (if is_whole at then last else expected) then item.LineEnd else item.LineMark mark) ∷ rest) ss
+      by true e next =
+          rw (h.goes ∙ e) (next read (with_line_end origin) (line ++ item.LineEnd ∷ []) (record {
+            counts = λ out real. expected-is counted n number same real (not-out expected out);
+            obeys = λ is real. rw (h.obeys is (omega arith)) refl;
+            turns = λ real. turn-snoc texts line item.LineEnd ∙ h.turns (omega arith);
+            goes = goes-snoc texts line item.LineEnd;
+          }))
+      by false e next = ended (h.goes ∙ e) next (if is_whole at then last else expected) refl
 
   -- a run that rule 2 does not remove, before other tokens
   kept-true : (run es fs gs : List Token)
       → AreGaps run → has_join run ≡ false → AreTrue es fs gs
       → AreTrue (run ++ es) (map white_inner_end run ++ fs) (run ++ gs)
-  kept-true [] es fs gs gaps none next before counted stretch line here ordered = grind (arith, nat_tests)
-  kept-true (token.Join ∷ run) es fs gs gaps none next before counted stretch line here ordered = cc
-  kept-true (token.White ∷ run) es fs gs gaps none next before counted stretch line here ordered =
-      grind (arith, nat_tests, kept-true run es fs gs gaps none next before counted stretch line here ordered.1)
-  kept-true (token.InnerLineEnd at ∷ run) es fs gs gaps none next before counted stretch line here ordered =
-      kept-true run es fs gs gaps none next before counted true (line + 1) (λ e. absurd cc) ordered.1
-  kept-true (token.LineEnd at ∷ run) es fs gs gaps none next before counted stretch line here ordered =
-      grind (arith, kept-true run es fs gs gaps none next (at_line_front texts before at) (counted_after before counted at))
-  kept-true (_ ∷ run) es fs gs gaps none next before counted stretch line here ordered = absurd cc
+  kept-true [] es fs gs gaps none next before at white counted stretch number read origin line h ordered =
+      next before at white counted stretch number read origin line h ordered
+  kept-true (token.Join ∷ run) es fs gs gaps none next before at white counted stretch number read origin line h ordered = cc
+  kept-true (token.White ∷ run) es fs gs gaps none next before at white counted stretch number read origin line h ordered =
+      kept-true run es fs gs gaps none next before at true counted stretch number read origin line h ordered.1
+  kept-true (token.InnerLineEnd n ∷ run) es fs gs gaps none next before at white counted stretch number read origin line h ordered =
+      kept-true run es fs gs gaps none next before at true counted true (number + 1) read origin line (record {
+        counts = λ out real. cc;
+        obeys = λ is real. h.obeys is (omega arith);
+        turns = λ real. h.turns (omega arith);
+        goes = h.goes;
+      }) ordered.1
+  kept-true (token.LineEnd n ∷ run) es fs gs gaps none next before at white counted stretch number read origin line h ordered =
+      end-true n _ _ before at counted stretch number read origin line h ordered.0
+      (λ now from more known. kept-true run es fs gs gaps none next (at_line_front texts before n) _ false _ _ (number + 1)
+      now from more known ordered.1)
+  kept-true (_ ∷ run) es fs gs gaps none next before at white counted stretch number read origin line h ordered = absurd cc
 
   -- what rule 2 leaves of a run, before other tokens
   run-true : (run es fs gs : List Token)
       → AreGaps run → AreTrue es fs gs
       → AreTrue (run ++ es) (left_of_run (map white_inner_end run) ++ fs) (left_or_join run ++ gs)
-  run-true run es fs gs gaps next before counted stretch line here ordered =
+  run-true run es fs gs gaps next before at white counted stretch number read origin line h ordered =
       rw (inner-join run) (by (has_join run) refl (has_line_end run) refl)
     where
+      least : number ≤ line_after_tokens number run
+      least = after-least number run gaps
+
       by : (j : Bool) → has_join run ≡ j → (b : Bool) → has_line_end run ≡ b
-          → AllZip (IsOwn lines) (seen before counted ((if j then [] else map white_inner_end run) ++ fs))
+          → AreAtTheirLines lines read origin line
+          (items_after lines before at counted white ((if j then [] else map white_inner_end run) ++ fs))
           (locations lines before counted stretch ((if j then (if b then token.Join ∷ [] else []) else run) ++ gs))
       by true joined true ends =
-          next before counted true (line_after_tokens line run)
-          (λ e. absurd cc) (by_line-after texts line run es ordered)
+          next before at white counted true (line_after_tokens number run) read origin line (record {
+            counts = λ out real. cc;
+            obeys = λ is real. h.obeys is (omega (arith, least));
+            turns = λ real. h.turns (omega (arith, least));
+            goes = h.goes;
+          }) (by_line-after texts number run es ordered)
       by true joined false ends =
-          grind (arith, nat_tests, line_after_tokens-same line run gaps ends, by_line-after texts line run es ordered)
-      by false none b ends = search (rules, kept-true)
+          next before at white counted stretch number read origin line h
+          (rw (sym (line_after_tokens-same number run gaps ends)) (by_line-after texts number run es ordered))
+      by false none b ends =
+          kept-true run es fs gs gaps none next before at white counted stretch number read origin line h ordered
 
   -- rule 2 for all tokens of a part
   abbrev RunsAreTrue : List Token → List Token → Type 0
@@ -199,10 +444,13 @@ module _ (lines : List SourceLine) where
   run-pushed run e es h =
       grind (arith, nat_tests, append_assoc run (e ∷ []) es, map-append white_inner_end run (e ∷ []))
 
+  at-end : AreTrue [] [] []
+  at-end before at white counted stretch number read origin line h ordered = grind (arith, nat_tests)
+
   map_runs-true : (run es : List Token) → AreGaps run → RunsAreTrue run es
-  map_runs-true run [] gaps = λ before counted stretch line here ordered.
+  map_runs-true run [] gaps = λ before at white counted stretch number read origin line h ordered.
       rw (← append-nil (left_of_run (map white_inner_end run)), ← append-nil (left_or_join run))
-      (run-true run [] [] [] gaps (λ b c s l h f. tt) before counted stretch line here ordered)
+      (run-true run [] [] [] gaps at-end before at white counted stretch number read origin line h ordered)
   map_runs-true run (token.Join ∷ es) gaps =
       run-pushed run token.Join es (map_runs-true (run ++ token.Join ∷ []) es (gaps-push run token.Join gaps refl))
   map_runs-true run (token.White ∷ es) gaps =
@@ -221,7 +469,9 @@ module _ (lines : List SourceLine) where
   -- the items of a part are at their own lines if its tokens follow line by line from the opening mark on
   pub part-true : (line : ℕ) (es : List Token) → AreByLine texts line es
       → IsAtItsLine lines (origin_at lines line) (part_items lines line es) (part_locations lines line es)
-  part-true line es ordered =
+  part-true line es ordered read origin begins =
       let clean = without_faults es in
       let spaced = with_spaces-by_line texts clean line (without_faults-by_line texts es line ordered) in
-      search (rules, part_items-by_origin, blanks-seen, inner-spaced, map_runs-true)
+      rw (part_items-by_origin lines line es, inner-spaced texts clean)
+      (map_runs-true [] (with_spaces texts clean) refl None turn.NoItem false (origin_at lines line) false line read origin []
+      (record { counts = λ out real. refl; obeys = λ is real. begins is; turns = λ real. refl; goes = refl }) spaced)

@@ -17,7 +17,10 @@ use Rattle.tangle_scan.specs.declared.items.Item.{Item}
 use Rattle.tangle_scan.specs.Rules.{is_open, texts_of, is_continued, ends_line}
 use Rattle.tangle_lexer.specs.SpanBytes.{ends_in_backslash}
 use Rattle.tangle_scan.specs.Rules.{is_front_gap, blanks, next_line, part_tokens, part_items}
-use Rattle.tangle_scan.specs.LineTruth.{is_expected}
+use Rattle.tangle_scan.specs.LineTruth.{counted_after_line_end}
+use Rattle.tangle_scan.specs.Passes.{turn_after, turn_after_line_end, is_unmarked, is_whole}
+use Rattle.tangle_scan.specs.declared.turns.Turn.{Turn}
+use Rattle.tangle_scan.specs.declared.turns.Turn.TheVariants as turn
 use Rattle.tangle_scan.specs.Passes.{counted_after_token, items_by_origin}
 use Rattle.tangle_scan.specs.ItemBytes.{piece_item_bytes}
 use Rattle.tangle_scan.specs.ReadAsMeant.{Gap, Space, LineFeed, TakenOut, Mark, gap_bytes, as_read, is_empty}
@@ -36,9 +39,9 @@ module _ (lines : List SourceLine) (used : ℕ → List ℕ) (mark : Origin → 
   item_bytes x = piece_item_bytes texts used mark macros x
 
   -- The bytes that rules 3 to 5 make of tokens. The arguments before the tokens are those of the rules.
-  abbrev text_from : Option Token → Bool → Origin → List Token → List ℕ
-  text_from before white counted es =
-      flat_map item_bytes (items_by_origin lines before counted (blanks texts before white es))
+  abbrev text_from : Option Token → Bool → Turn → Origin → List Token → List ℕ
+  text_from before white at counted es =
+      flat_map item_bytes (items_by_origin lines before at counted (blanks texts before white es))
 
   abbrev bytes_of : Token → List ℕ
   bytes_of e = token_bytes texts (use_bytes lines used mark macros) e
@@ -46,23 +49,25 @@ module _ (lines : List SourceLine) (used : ℕ → List ℕ) (mark : Origin → 
   abbrev blank_bytes : Bool → List ℕ
   blank_bytes blank = gap_bytes mark (blank_before blank [])
 
-  text-blank : (before : Option Token) (counted : Origin) (blank : Bool) (es : List Token) →
-      flat_map item_bytes (items_by_origin lines before counted ((if blank then token.White ∷ [] else []) ++ es))
-      ≡ blank_bytes blank ++ flat_map item_bytes (items_by_origin lines before counted es)
-  text-blank before counted x es = grind arith
+  text-blank : (before : Option Token) (at : Turn) (counted : Origin) (blank : Bool) (es : List Token) →
+      flat_map item_bytes (items_by_origin lines before at counted ((if blank then token.White ∷ [] else []) ++ es))
+      ≡ blank_bytes blank ++ flat_map item_bytes (items_by_origin lines before at counted es)
+  text-blank before at counted x es = grind arith
 
-  item-text : (before : Option Token) (counted : Origin) (e : Token) (es : List Token) → is_front_gap e ≡ false →
-      flat_map item_bytes (items_by_origin lines before counted (e ∷ es))
-      ≡ bytes_of e ++ flat_map item_bytes (items_by_origin lines (Some e) (counted_after_token lines counted e) es)
-  item-text before counted e es item = grind (arith, nat_tests, append_assoc)
+  item-text : (before : Option Token) (at : Turn) (counted : Origin) (e : Token) (es : List Token)
+      → is_front_gap e ≡ false →
+      flat_map item_bytes (items_by_origin lines before at counted (e ∷ es))
+      ≡ bytes_of e
+      ++ flat_map item_bytes (items_by_origin lines (Some e) (turn_after texts at e) (counted_after_token lines counted e) es)
+  item-text before at counted e es item = grind (arith, nat_tests, append_assoc)
 
   -- the bytes of an item, and of a blank before it
-  text-item : (before : Option Token) (white : Bool) (counted : Origin) (e : Token) (es : List Token)
+  text-item : (before : Option Token) (white : Bool) (at : Turn) (counted : Origin) (e : Token) (es : List Token)
       → is_front_gap e ≡ false
-      → text_from before white counted (e ∷ es)
+      → text_from before white at counted (e ∷ es)
       ≡ blank_bytes (is_some before && white)
-      ++ (bytes_of e ++ text_from (Some e) false (counted_after_token lines counted e) es)
-  text-item before white counted e es item = grind (arith, nat_tests, blanks-item, item-text)
+      ++ (bytes_of e ++ text_from (Some e) false (turn_after texts at e) (counted_after_token lines counted e) es)
+  text-item before white at counted e es item = grind (arith, nat_tests, blanks-item, item-text)
 
   -- the tokens that the compiler reads, from an item on
   read-item : (continued : Bool) (e : Token) (es : List Token) → is_front_gap e ≡ false →
@@ -111,76 +116,87 @@ module _ (lines : List SourceLine) (used : ℕ → List ℕ) (mark : Origin → 
 
   -- the tokens that follow are read as meant, unless they are at the end of a line after a backslash
   abbrev ReadsPlain : List Token → Type 0
-  ReadsPlain es = (meant : List ℕ) (white : Bool) (last before : Option Token) (counted : Origin) (gap : List Gap) →
+  ReadsPlain es = (meant : List ℕ) (white : Bool) (last before : Option Token) (at : Turn) (counted : Origin)
+      (gap : List Gap) →
       IsGap meant white last before gap → (is_continued texts before && ends_line es) ≡ false →
-      AreRead meant last (read_tokens texts false es) (gap_bytes mark gap ++ text_from before white counted es)
+      AreRead meant last (read_tokens texts false es) (gap_bytes mark gap ++ text_from before white at counted es)
 
   -- The tokens that follow are read as meant after a backslash at the end of a continued line. `front` are the bytes
   -- since the last item, and `gap` is what they are with the line feed.
   abbrev ReadsContinued : List Token → Type 0
   ReadsContinued es =
-      (meant : List ℕ) (white : Bool) (last before : Option Token) (counted : Origin) (front : List ℕ) (gap : List Gap)
+      (meant : List ℕ) (white : Bool) (last before : Option Token) (at : Turn) (counted : Origin) (front : List ℕ)
+      (gap : List Gap)
       → gap_bytes mark gap ≡ front ++ line_feed ∷ []
       → ((line : ℕ) → IsGap meant false last (Some (token.LineEnd line)) gap)
       → is_continued texts before ≡ true → ends_line es ≡ true →
-      AreRead meant last (read_tokens texts true es) (front ++ text_from before white counted es)
+      AreRead meant last (read_tokens texts true es) (front ++ text_from before white at counted es)
 
   record Reads (es : List Token) : Type 0 where
     plain : ReadsPlain es
     continued : ReadsContinued es
 
   plain-end : ReadsPlain []
-  plain-end meant white last before counted gap is continued = by (is_open texts before) refl
+  plain-end meant white last before at counted gap is continued = by (is_open texts before) refl
     where
       by : (blank : Bool) → is_open texts before ≡ blank → EndsPiece texts mark last meant (gap_bytes mark gap
-          ++ flat_map item_bytes (items_by_origin lines before counted (if blank then token.White ∷ [] else [])))
+          ++ flat_map item_bytes (items_by_origin lines before at counted (if blank then token.White ∷ [] else [])))
       by true is_open_end =
           let all = read-append (is_continued texts last) gap (Space ∷ []) in
           grind (arith, nat_tests, bytes-append mark gap, spaces-append, append-nil)
       by false closed = search rules
 
   plain-line_end : (line : ℕ) (es : List Token) → ReadsPlain es → ReadsPlain (token.LineEnd line ∷ es)
-  plain-line_end line es next meant white last before counted gap is continued =
-      by (is_expected lines counted line) refl
+  plain-line_end line es next meant white last before turns counted gap is continued =
+      by (is_unmarked lines (is_whole turns) counted line) refl
     where
       ends : is_continued texts before ≡ false
       ends = grind (arith, nat_tests)
 
+      after_end : Turn
+      after_end = turn_after_line_end lines false line turns
+
       -- the line end is a line feed or a mark
       after : (end : Gap) (counted : Origin) → as_read false (end ∷ []) ≡ line_feed ∷ [] →
           AreRead (meant ++ line_feed ∷ []) last (read_tokens texts false es)
-          (gap_bytes mark gap ++ (gap_bytes mark (end ∷ []) ++ text_from None false counted es))
+          (gap_bytes mark gap ++ (gap_bytes mark (end ∷ []) ++ text_from None false after_end counted es))
       after end counted read =
           subst (AreRead (meant ++ line_feed ∷ []) last (read_tokens texts false es))
           (grind (arith, nat_tests, bytes-append, append_assoc))
-          (next (meant ++ line_feed ∷ []) false last None counted (gap ++ end ∷ [])
+          (next (meant ++ line_feed ∷ []) false last None after_end counted (gap ++ end ∷ [])
           (search (rules, read-append, some-append, spaces-append)) refl)
 
-      by : (b : Bool) → is_expected lines counted line ≡ b → AreRead (meant ++ line_feed ∷ []) last
-          (read_tokens texts false es) (gap_bytes mark gap ++ text_from before white counted (token.LineEnd line ∷ es))
-      by true at = rw (ends, at) (after LineFeed (next_line counted) refl)
+      counted_after : Origin
+      counted_after = counted_after_line_end lines false counted line
+
+      by : (b : Bool) → is_unmarked lines (is_whole turns) counted line ≡ b → AreRead (meant ++ line_feed ∷ []) last
+          (read_tokens texts false es) (gap_bytes mark gap ++ text_from before white turns counted (token.LineEnd line ∷ es))
+      by true at = rw (ends, at) (after LineFeed counted_after refl)
       by false at =
           let origin = origin_at lines (line + 1) in
-          rw (ends, at, sym (append-nil (mark origin))) (after (Mark origin) origin refl)
+          rw (ends, at, sym (append-nil (mark origin))) (after (Mark origin) counted_after refl)
 
   continued-line_end : (line : ℕ) (es : List Token) → ReadsPlain es → ReadsContinued (token.LineEnd line ∷ es)
-  continued-line_end line es next meant white last before counted front gap bytes is continued ends =
+  continued-line_end line es next meant white last before at counted front gap bytes is continued ends =
       rw continued (subst (AreRead meant last (read_tokens texts false es)) (search (rules, append_assoc))
-      (next meant false last (Some (token.LineEnd line)) (next_line counted) gap (is line) refl))
+      (next meant false last (Some (token.LineEnd line)) at (next_line counted) gap (is line) refl))
 
   plain-item : (e : Token) (es : List Token) → is_front_gap e ≡ false → Reads es → ReadsPlain (e ∷ es)
-  plain-item e es item next meant white last before counted gap is plain =
-      rw (read-item false e es item, text-item before white counted e es item)
+  plain-item e es item next meant white last before at counted gap is plain =
+      rw (read-item false e es item, text-item before white at counted e es item)
       (by (ends_in_backslash texts e && ends_line es) refl (is_backslash texts e) refl)
     where
       counted_after : Origin
       counted_after = counted_after_token lines counted e
 
+      turns : Turn
+      turns = turn_after texts at e
+
       blank : Bool
       blank = is_some before && white
 
       rest : List ℕ
-      rest = text_from (Some e) false counted_after es
+      rest = text_from (Some e) false turns counted_after es
 
       -- the bytes of the gap with the blank and more, before other bytes
       gap-bytes : (more : List Gap) → gap_bytes mark (gap ++ blank_before blank more)
@@ -204,7 +220,7 @@ module _ (lines : List SourceLine) (used : ℕ → List ℕ) (mark : Origin → 
           rw bytes
           (subst (AreRead meant last (read_tokens texts true es))
           (search (rules, append_assoc))
-          (next.continued meant false last (Some e) counted_after (gap_bytes mark gap ++ (blank_bytes blank ++ backslash ∷ []))
+          (next.continued meant false last (Some e) turns counted_after (gap_bytes mark gap ++ (blank_bytes blank ++ backslash ∷ []))
           (gap ++ blank_before blank (TakenOut ∷ []))
           (gap-bytes (TakenOut ∷ [])
           ∙ sym (search (rules, append_assoc)))
@@ -240,21 +256,21 @@ module _ (lines : List SourceLine) (used : ℕ → List ℕ) (mark : Origin → 
       by true both false other =
           let ends = and_parts _ _ both in
           kept (read_tokens texts true es)
-          (next.continued [] false (Some e) (Some e) counted_after [] (LineFeed ∷ []) refl (verbatim-gap ends.0)
+          (next.continued [] false (Some e) (Some e) turns counted_after [] (LineFeed ∷ []) refl (verbatim-gap ends.0)
           ends.0 ends.1)
       by false both is_sign sign =
           kept (read_tokens texts false es)
-          (next.plain [] false (Some e) (Some e) counted_after [] (no-gap (Some e)) both)
+          (next.plain [] false (Some e) (Some e) turns counted_after [] (no-gap (Some e)) both)
 
   reads : (es : List Token) → Reads es
   reads [] =
-      record { plain = plain-end; continued = λ meant white last before counted front gap bytes is continued ends. absurd cc }
+      record { plain = plain-end; continued = λ meant white last before at counted front gap bytes is continued ends. absurd cc }
   reads (token.White ∷ es) =
       let next = reads es in
       record {
-        plain = λ meant white last before counted gap is.
-            next.plain (meant ++ space ∷ []) true last before counted gap (search (rules, spaces-append));
-        continued = λ meant white last before counted. next.continued meant true last before counted;
+        plain = λ meant white last before at counted gap is.
+            next.plain (meant ++ space ∷ []) true last before at counted gap (search (rules, spaces-append));
+        continued = λ meant white last before at counted. next.continued meant true last before at counted;
       }
   reads (token.LineEnd line ∷ es) =
       let next = reads es in
@@ -267,4 +283,4 @@ module _ (lines : List SourceLine) (used : ℕ → List ℕ) (mark : Origin → 
       (flat_map item_bytes (part_items lines line tokens))
   piece-as-meant line tokens =
       rw (part_items-by_origin lines line tokens)
-      ((reads (part_tokens texts tokens)).plain [] false None None (origin_at lines line) [] (no-gap None) refl)
+      ((reads (part_tokens texts tokens)).plain [] false None None turn.NoItem (origin_at lines line) [] (no-gap None) refl)

@@ -38,9 +38,9 @@ module _ (lines : List SourceLine) where
       (flat_map (λ b. kind_locations lines b.kind b.tokens) (blocks n es))
   parts-true n line [] ordered = tt
   parts-true n line (token.UnnamedPart at ∷ es) ordered =
-      grind (arith, nat_tests, part-true, body-by_line, parts-true n at es ordered.1)
+      (part-true lines at (body es) (body-by_line (texts_of lines) at es ordered.1), parts-true n at es ordered.1)
   parts-true n line (token.NamedPart at occurrence ∷ es) ordered =
-      grind (arith, nat_tests, part-true, body-by_line, parts-true n at es ordered.1)
+      (part-true lines at (body es) (body-by_line (texts_of lines) at es ordered.1), parts-true n at es ordered.1)
   parts-true n line (e ∷ es) ordered = parts-true (section_after n e) (line_after line e) es ordered.1
 
 -- the source items of each piece are at their own origins, outside stretches

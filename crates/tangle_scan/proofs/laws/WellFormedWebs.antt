@@ -1,7 +1,7 @@
 -- The spans of the items of a web are ranges of source lines, and the numbers of its occurrences are below their count.
 use Rattle.std.proofs.Common.{rules}
 use Rattle.std.proofs.lemmas.Bool.Decides.{nat_tests}
-use Rattle.std.proofs.Common.{◌≡◌, length, map, arith, subst, ◌<◌, ℕ, ◌+◌}
+use Rattle.std.proofs.Common.{◌≡◌, length, map, arith, subst, ◌<◌, ℕ}
 use Rattle.std.proofs.Common.{true, false, Option, Some, None, List, [], ◌∷◌, ◌++◌, flat_map}
 use Rattle.std.specs.List.{AllByRecursion, All}
 use Rattle.std.specs.Option.{IfSome}
@@ -10,7 +10,6 @@ use Rattle.tangle_lines.specs.declared.origin.Origin.{Origin}
 use Rattle.tangle_lines.specs.Reading.{SourceLine, SourceRead}
 use Rattle.tangle_lexer.specs.declared.tokens.Token.{Token}
 use Rattle.tangle_lexer.specs.declared.tokens.SpanKind.TheVariants as span_kind
-use Rattle.tangle_text.specs.declared.spans.Span.{Span}
 use Rattle.tangle_lexer.specs.declared.tokens.Token.TheVariants as token
 use Rattle.tangle_scan.specs.declared.items.Item.{Item}
 use Rattle.tangle_scan.specs.Rules.{texts_of, part_tokens, macro_tokens}
@@ -18,6 +17,10 @@ use Rattle.tangle_scan.specs.Rules.{is_continued, at_line_front, blanks, macro_b
 use Rattle.tangle_scan.specs.Rules.{part_items, macro_items, without_backslashes}
 use Rattle.tangle_scan.specs.LineTruth.{counted_after_line_end}
 use Rattle.tangle_scan.specs.Passes.{items_at, counted_after_token, items_by_origin}
+use Rattle.tangle_scan.specs.Passes.{turn_after, turn_after_line_end, is_whole}
+use Rattle.tangle_scan.specs.declared.turns.Turn.{Turn}
+use Rattle.tangle_scan.specs.declared.turns.Turn.TheVariants as turn
+use Rattle.tangle_lines.specs.Reading.{origin_at}
 use Rattle.tangle_scan.proofs.lemmas.KeptTokens.{kept, part-kept, macro_blanks-kept, macro-kept}
 use Rattle.tangle_scan.proofs.lemmas.ItemsByOrigin.{by-line_item, part_items-by_origin}
 use Rattle.tangle_scan.specs.Web.{PieceRead, blocks, section_after, piece_of, macro_of, web_of}
@@ -83,25 +86,27 @@ module _ (lines : List SourceLine) (count : ℕ) where
   abbrev IsRightItem : ℕ → Item → Type 0
   IsRightItem n i = IsInRange texts i × IsUseBelow n i
 
-  items_by_origin-right : (before : Option Token) (origin : Origin) (es : List Token)
-      → AreRight es → AllByRecursion (IsRightItem count) (items_by_origin lines before origin es)
-  items_by_origin-right before origin [] h = tt
-  items_by_origin-right before origin (token.White ∷ es) h = ((tt, tt), items_by_origin-right before origin es h.1)
-  items_by_origin-right before origin (token.LineEnd line ∷ es) h =
+  items_by_origin-right : (before : Option Token) (at : Turn) (origin : Origin) (es : List Token)
+      → AreRight es → AllByRecursion (IsRightItem count) (items_by_origin lines before at origin es)
+  items_by_origin-right before at origin [] h = tt
+  items_by_origin-right before at origin (token.White ∷ es) h = ((tt, tt), items_by_origin-right before at origin es h.1)
+  items_by_origin-right before at origin (token.LineEnd line ∷ es) h =
       let continued = is_continued texts before in (
-        by-line_item (IsRightItem count) lines continued origin line (tt, tt) (λ p. (tt, tt)),
-        items_by_origin-right (at_line_front texts before line)
+        by-line_item (IsRightItem count) lines continued (is_whole at) origin line (tt, tt) (λ p. (tt, tt)),
+        items_by_origin-right (at_line_front texts before line) (turn_after_line_end lines continued line at)
             (counted_after_line_end lines continued origin line) es h.1,
       )
-  items_by_origin-right before origin (e ∷ es) h =
+  items_by_origin-right before at origin (e ∷ es) h =
       let after = counted_after_token lines origin e in
-      all-append (IsRightItem count) (items_at lines e) (items_by_origin lines (Some e) after es)
-      (grind arith) (items_by_origin-right (Some e) after es h.1)
+      let turns = turn_after texts at e in
+      all-append (IsRightItem count) (items_at lines e) (items_by_origin lines (Some e) turns after es)
+      (grind arith) (items_by_origin-right (Some e) turns after es h.1)
 
   part-right : (line : ℕ) (es : List Token) → AreRight es → All (IsRightItem count) (part_items lines line es)
   part-right line es h =
       let ruled = blanks texts None false (part_tokens texts es) in
-      All-from_recursion (IsRightItem count) _ (search (rules, part_items-by_origin, items_by_origin-right, same-right, part-kept))
+      All-from_recursion (IsRightItem count) _ (rw (part_items-by_origin lines line es)
+      (items_by_origin-right None turn.NoItem (origin_at lines line) ruled (same-right ruled es (part-kept texts es) h)))
 
   -- a macro has no uses
   unmarked-right : (es : List Token) → AreRight es → AllByRecursion (IsRightItem 0) (unmarked_items es)

@@ -1,7 +1,7 @@
 -- The items of a C part, token by token.
 use Rattle.std.proofs.Common.{rules}
 use Rattle.std.proofs.lemmas.Bool.Decides.{nat_tests}
-use Rattle.std.proofs.Common.{◌≡◌, ℕ, ◌-◌, length, slice_get, arith, Bool, true, false, ◌||◌, List, []}
+use Rattle.std.proofs.Common.{◌≡◌, ℕ, length, slice_get, arith, Bool, true, false, ◌||◌, List, []}
 use Rattle.std.proofs.Common.{◌∷◌, ◌++◌, refl, ap, ◌∙◌, if◌then◌else◌, Some, append_assoc}
 use Rattle.std.proofs.Common.{append-nil, length-append, map}
 use Rattle.tangle_lexer.specs.declared.tokens.Token.{Token}
@@ -17,7 +17,8 @@ use Rattle.tangle_scan.specs.Rules.{texts_of, would_merge}
 use Rattle.tangle_lexer.specs.SpanBytes.{ends_in}
 use Rattle.std.specs.List.{list_any, All}
 use Rattle.std.proofs.lemmas.List.Elements.{All-append, All-map, All-push}
-use Rattle.std.proofs.lemmas.List.{take-append-le}
+use Rattle.std.proofs.lemmas.List.{take_all, take-append-le}
+use Rattle.std.proofs.Math.Bool.{or-false}
 use Rattle.std.proofs.lemmas.List.Concat.{flat_map-append}
 use Rattle.std.proofs.lemmas.List.Folds.{list_any-append}
 use Rattle.tangle_scan.specs.Web.{is_line_mark}
@@ -26,7 +27,7 @@ use Rattle.tangle_text.specs.declared.runs.RunPart.TheVariants as part
 use Rattle.tangle_lexer.specs.Heads.{is_head}
 use Rattle.tangle_scan.specs.Entries.{entry_items, items_of, entry_is_mark, part_item, IsEntryInRange}
 use Rattle.tangle_scan.specs.Passes.{items_at, entry_ends_in, entries_end_in, last_ends_in}
-use Rattle.tangle_scan.specs.Passes.{last_entry, entries_merge, blank_if, IsMarked}
+use Rattle.tangle_scan.specs.Passes.{last_entry, entries_merge, blank_if, IsMarked, start_of_gap, is_after_line_end}
 use Rattle.tangle_scan.proofs.lemmas.RuleLemmas.{is_solid}
 
 -- the items of entries that were added
@@ -111,6 +112,21 @@ marked-item old new at next blank items h is start mark =
     marked-more old new at next (map entry.Item (blank_if blank) ++ map entry.Item items) h
     (is ∙ append_assoc old (map entry.Item (blank_if blank)) (map entry.Item items)) start
     (rw (list_any-append entry_is_mark (map entry.Item (blank_if blank)), blank-unmarked blank, marks-of-items items) mark)
+
+pub marked-end : (old new : List Entry) (at next : PartState) (x : Item) → IsMarked old at
+    → new ≡ old ++ entry.Item x ∷ [] → next.start ≡ start_of_gap old at
+    → next.counted.has_mark ≡ (is_line_mark x || at.counted.has_mark) → IsMarked new next
+marked-end old new at next x h is start mark =
+    by (is_after_line_end at.last) start
+  where
+    added : next.counted.has_mark ≡ (list_any entry_is_mark (entry.Item x ∷ []) || at.counted.has_mark)
+    added = rw (or-false (is_line_mark x)) mark
+
+    by : (b : Bool)
+        → next.start ≡ (if b then at.start else record { entries = length old; turn = at.turn; counted = at.counted })
+        → IsMarked new next
+    by true same = marked-more old new at next (entry.Item x ∷ []) h is same added
+    by false same = search (rules, length-append, list_any-append, take-append-le, take_all)
 
 -- the runs among the entries are ranges of lines
 

@@ -13,83 +13,206 @@ use Rattle.tangle_scan.specs.declared.items.Item.{Item}
 use Rattle.tangle_scan.specs.declared.items.Item.TheVariants as item
 use Rattle.tangle_scan.specs.Rules.{texts_of, is_continued, at_line_front, blanks, next_line, same_origin}
 use Rattle.tangle_scan.specs.Rules.{with_all_marks, with_needed_marks, part_tokens, part_items}
+use Rattle.tangle_scan.specs.Directives.{is_turn, is_turn_word, first_word}
+use Rattle.tangle_scan.specs.declared.turns.Turn.{Turn}
+use Rattle.tangle_scan.specs.declared.turns.Turn.TheVariants as turn
 use Rattle.tangle_scan.specs.LineTruth.{counted_after_line_end}
 use Rattle.tangle_scan.specs.Passes.{line_item, items_by_origin}
+use Rattle.tangle_scan.specs.Passes.{turn_after_line_end, turn_after_item, is_number_sign, is_turn_item, is_whole}
+use Rattle.tangle_scan.specs.Rules.{is_front_gap}
 
 -- what is true of a line end and of each mark is true of the item for the end of a line
-pub by-line_item : (P : Item → Type 0) (lines : List SourceLine) (continued : Bool) (counted : Origin) (line : ℕ)
-    → P item.LineEnd → ((p : Origin) → P (item.LineMark p)) → P (line_item lines continued counted line)
-by-line_item x lines continued counted line end mark = grind arith
+pub by-line_item : (P : Item → Type 0) (lines : List SourceLine) (continued turn : Bool) (counted : Origin) (line : ℕ)
+    → P item.LineEnd → ((p : Origin) → P (item.LineMark p)) → P (line_item lines continued turn counted line)
+by-line_item x lines continued turn counted line end mark = grind arith
+
+-- how much of a turn is on a line of C with these items
+
+abbrev pub is_gap_item : Item → Bool
+is_gap_item item.Blank = true
+is_gap_item item.LineEnd = true
+is_gap_item x = false
+
+module _ (texts : List (List ℕ)) where
+  abbrev after_sign : List Item → Turn
+  after_sign [] = turn.NumberSign
+  after_sign (x ∷ xs) =
+      if is_gap_item x then after_sign xs else if is_turn_item texts x then turn.Whole else turn.Other
+
+  abbrev pub turn_of : List Item → Turn
+  turn_of [] = turn.NoItem
+  turn_of (x ∷ xs) =
+      if is_gap_item x then turn_of xs else if is_number_sign texts x then after_sign xs else turn.Other
+
+  abbrev step : Turn → Item → Turn
+  step at x = if is_gap_item x then at else turn_after_item texts at (Some x)
+
+  after_sign-snoc : (xs : List Item) (x : Item) → after_sign (xs ++ x ∷ []) ≡ step (after_sign xs) x
+  after_sign-snoc [] x = grind arith
+  after_sign-snoc (y ∷ ys) x = grind (arith, after_sign-snoc ys x)
+
+  pub turn-snoc : (xs : List Item) (x : Item) → turn_of (xs ++ x ∷ []) ≡ step (turn_of xs) x
+  turn-snoc [] x = grind arith
+  turn-snoc (y ∷ ys) x = grind (arith, turn-snoc ys x, after_sign-snoc ys x)
+
+  word-is : (xs : List Item) → is_turn_word (first_word texts xs) ≡ is_whole (after_sign xs)
+  word-is [] = refl
+  word-is (item.Blank ∷ xs) = word-is xs
+  word-is (item.LineEnd ∷ xs) = word-is xs
+  word-is (x ∷ xs) = grind arith
+
+  pub turn-is : (xs : List Item) → is_turn texts xs ≡ is_whole (turn_of xs)
+  turn-is [] = refl
+  turn-is (item.Blank ∷ xs) = turn-is xs
+  turn-is (item.LineEnd ∷ xs) = turn-is xs
+  turn-is (item.Sign s ∷ xs) = grind (arith, word-is xs)
+  turn-is (x ∷ xs) = grind arith
 
 module _ (lines : List SourceLine) where
   abbrev texts : List (List ℕ)
   texts = texts_of lines
 
   -- the items that rules 4 and 5 give for these tokens
-  abbrev made : Option Token → Origin → List Token → List Item
-  made before counted es = with_needed_marks counted (with_all_marks lines before es)
+  abbrev made : Option Token → List Item → Origin → List Token → List Item
+  made before line counted es = with_needed_marks texts line counted (with_all_marks lines before es)
 
   -- a line end with no mark after it stays
-  line_end-alone : (before : Option Token) (counted : Origin) (es : List Token)
-      → with_needed_marks counted (item.LineEnd ∷ with_all_marks lines before es)
-      ≡ item.LineEnd ∷ made before (next_line counted) es
-  line_end-alone before counted [] = refl
-  line_end-alone before counted (token.Span span_kind.Word s ∷ es) = refl
-  line_end-alone before counted (e ∷ es) = cc (line_end-alone (Some e) counted es)
+  line_end-alone : (before : Option Token) (line : List Item) (counted : Origin) (es : List Token)
+      → with_needed_marks texts line counted (item.LineEnd ∷ with_all_marks lines before es)
+      ≡ item.LineEnd ∷ made before (line ++ item.LineEnd ∷ []) (next_line counted) es
+  line_end-alone before line counted [] = refl
+  line_end-alone before line counted (token.Span span_kind.Word s ∷ es) = refl
+  line_end-alone before line counted (e ∷ es) = cc (line_end-alone (Some e) line counted es)
 
-  made-line_end : (before : Option Token) (counted : Origin) (line : ℕ) (es : List Token) →
+  -- the items of the line of C after a line end
+  abbrev line_after : Bool → List Item → List Item
+  line_after stays line = if stays then line ++ item.LineEnd ∷ [] else []
+
+  made-line_end : (before : Option Token) (line : List Item) (counted : Origin) (number : ℕ) (es : List Token) →
       let continued : Bool = is_continued texts before in
-      made before counted (token.LineEnd line ∷ es)
-      ≡ line_item lines continued counted line
-      ∷ made (Some (token.LineEnd line)) (counted_after_line_end lines continued counted line) es
-  made-line_end before counted line es = by (is_continued texts before) (nat_le (length lines) (line + 1))
+      made before line counted (token.LineEnd number ∷ es)
+      ≡ line_item lines continued (is_turn texts line) counted number
+      ∷ made (Some (token.LineEnd number)) (line_after (continued || nat_le (length lines) (number + 1)) line)
+      (counted_after_line_end lines continued counted number) es
+  made-line_end before line counted number es =
+      by (is_continued texts before) (nat_le (length lines) (number + 1)) (is_turn texts line)
+      (same_origin (origin_at lines (number + 1)) (next_line counted)) refl refl
     where
       next : Origin
-      next = origin_at lines (line + 1)
+      next = origin_at lines (number + 1)
 
       rest : List Item
-      rest = with_all_marks lines (Some (token.LineEnd line)) es
+      rest = with_all_marks lines (Some (token.LineEnd number)) es
 
-      by : (continued last : Bool) →
-          let same = same_origin next (next_line counted) in
-          with_needed_marks counted
+      same-is : (p q : Origin) → same_origin p q ≡ true → p ≡ q
+      same-is p q h = grind (arith, nat_tests)
+
+      by : (continued last turns same : Bool) → is_turn texts line ≡ turns → same_origin next (next_line counted) ≡ same →
+          with_needed_marks texts line counted
           (item.LineEnd ∷ ((if continued || last then [] else item.LineMark next ∷ []) ++ rest))
-          ≡ (if continued || (last || same) then item.LineEnd else item.LineMark next)
-          ∷ with_needed_marks (if continued || (last || same) then next_line counted else next) rest
-      by true last = search (rules, line_end-alone)
-      by false true = search (rules, line_end-alone)
-      by false false = search rules
+          ≡ (if continued || (if turns then last else (last || same)) then item.LineEnd else item.LineMark next)
+          ∷ with_needed_marks texts (line_after (continued || last) line)
+          (if continued || (last || same) then next_line counted else next) rest
+      by true last turns same e is = search (rules, line_end-alone)
+      by false true true same e is = search (rules, line_end-alone)
+      by false true false same e is = search (rules, line_end-alone)
+      by false false true true e is =
+          rw (e, is) (ap (λ p. item.LineMark next ∷ with_needed_marks texts [] p rest) (same-is next (next_line counted) is))
+      by false false true false e is = rw (e, is) refl
+      by false false false true e is =
+          rw (e, is) (ap (λ p. item.LineEnd ∷ with_needed_marks texts [] p rest) (same-is next (next_line counted) is))
+      by false false false false e is = rw (e, is) refl
+
+  -- how much of a turn is on the line of C after a line end
+  ended : (stays : Bool) (line : List Item) (at : Turn) → turn_of texts line ≡ at
+      → turn_of texts (line_after stays line) ≡ (if stays then at else turn.NoItem)
+  ended true line at turns = turn-snoc texts line item.LineEnd ∙ turns
+  ended false line at turns = refl
+
+  -- what is made after this token, whatever is before it
+  abbrev IsMade : Token → List Token → Type 0
+  IsMade e rest =
+      (line : List Item) (at : Turn) (counted : Origin) → turn_of texts line ≡ at
+      → made (Some e) line counted rest ≡ items_by_origin lines (Some e) at counted rest
+
+  -- an item, and what is made of the tokens after it
+  made-one : (e : Token) (x : Item) (line : List Item) (at : Turn) (counted : Origin) (rest : List Token)
+      → is_gap_item x ≡ false → turn_of texts line ≡ at → IsMade e rest
+      → made (Some e) (line ++ x ∷ []) counted rest
+      ≡ items_by_origin lines (Some e) (turn_after_item texts at (Some x)) counted rest
+  made-one e x line at counted rest solid turns next =
+      next (line ++ x ∷ []) (turn_after_item texts at (Some x)) counted
+      (turn-snoc texts line x ∙ rw (solid, turns) refl)
+
+  made-item : (e : Token) (left before : Option Token) (line : List Item) (at : Turn)
+      (counted : Origin) (rest : List Token) → is_front_gap e ≡ false → turn_of texts line ≡ at → IsMade e rest
+      → made left line counted (e ∷ rest) ≡ items_by_origin lines before at counted (e ∷ rest)
+  made-item token.White left before line at counted rest solid turns next = cc
+  made-item (token.LineEnd number) left before line at counted rest solid turns next = cc
+  made-item (token.UseOf number occurrence) left before line at counted rest solid turns next =
+      ap (λ t. item.UseOf occurrence ∷ item.LineMark (origin_at lines number) ∷ t)
+      (next [] turn.NoItem (origin_at lines number) refl)
+  made-item (token.AllMacros number) left before line at counted rest solid turns next =
+      ap (λ t. item.Defs ∷ item.LineMark (origin_at lines number) ∷ t)
+      (next [] turn.NoItem (origin_at lines number) refl)
+  made-item (token.QuoteBreak number) left before line at counted rest solid turns next =
+      ap (λ t. item.QuoteBreak ∷ t)
+      (made-one (token.QuoteBreak number) item.QuoteBreak line at (next_line counted) rest refl turns next)
+  made-item (token.AsciiConstant value number) left before line at counted rest solid turns next =
+      ap (λ t. item.Code value ∷ t)
+      (made-one (token.AsciiConstant value number) (item.Code value) line at counted rest refl turns next)
+  made-item (token.Span span_kind.Word s) left before line at counted rest solid turns next =
+      ap (λ t. item.Word s ∷ t) (made-one (token.Span span_kind.Word s) (item.Word s) line at counted rest refl turns next)
+  made-item (token.Span span_kind.Sign s) left before line at counted rest solid turns next =
+      ap (λ t. item.Sign s ∷ t) (made-one (token.Span span_kind.Sign s) (item.Sign s) line at counted rest refl turns next)
+  made-item (token.Span span_kind.Quoted s) left before line at counted rest solid turns next =
+      ap (λ t. item.Quoted s ∷ t)
+      (made-one (token.Span span_kind.Quoted s) (item.Quoted s) line at counted rest refl turns next)
+  made-item (token.Span span_kind.Verbatim s) left before line at counted rest solid turns next =
+      ap (λ t. item.Verbatim s ∷ t)
+      (made-one (token.Span span_kind.Verbatim s) (item.Verbatim s) line at counted rest refl turns next)
+  made-item e left before line at counted rest solid turns next = next line at counted turns
+
+  -- an item, with a blank before it or not
+  made-blank : (blank : Bool) (e : Token) (left before : Option Token) (line : List Item) (at : Turn)
+      (counted : Origin) (rest : List Token) → is_front_gap e ≡ false → turn_of texts line ≡ at → IsMade e rest →
+      let tokens : List Token = (if blank then token.White ∷ [] else []) ++ e ∷ rest in
+      made left line counted tokens ≡ items_by_origin lines before at counted tokens
+  made-blank true e left before line at counted rest solid turns next =
+      ap (λ t. item.Blank ∷ t) (made-item e (Some token.White) before (line ++ item.Blank ∷ []) at counted rest solid
+      (turn-snoc texts line item.Blank ∙ turns) next)
+  made-blank false e left before line at counted rest solid turns next =
+      made-item e left before line at counted rest solid turns next
 
   -- Rule 3 leaves no white space before a line end, so the token
   -- directly before a line end is the last one on the line.
-  made-blanks : (left before : Option Token) (white : Bool) (counted : Origin) (es : List Token)
-      → is_continued texts left ≡ is_continued texts before
-      → made left counted (blanks texts before white es)
-      ≡ items_by_origin lines before counted (blanks texts before white es)
-  made-blanks left before white counted [] alike = grind (arith, nat_tests)
-  made-blanks left before white counted (token.White ∷ es) alike = made-blanks left before true counted es alike
-  made-blanks left before white counted (token.LineEnd line ∷ es) alike =
-      let front : Option Token = at_line_front texts before line in
-      let after : Origin = counted_after_line_end lines (is_continued texts before) counted line in
-      made-line_end left counted line (blanks texts front false es)
-      ∙ rw alike (ap (λ t. line_item lines (is_continued texts before) counted line ∷ t)
-      (made-blanks (Some (token.LineEnd line)) front false after es (ends (is_continued texts before))))
+  made-blanks : (left before : Option Token) (line : List Item) (at : Turn) (white : Bool) (counted : Origin)
+      (es : List Token) → is_continued texts left ≡ is_continued texts before → turn_of texts line ≡ at
+      → made left line counted (blanks texts before white es)
+      ≡ items_by_origin lines before at counted (blanks texts before white es)
+  made-blanks left before line at white counted [] alike turns = grind (arith, nat_tests)
+  made-blanks left before line at white counted (token.White ∷ es) alike turns =
+      made-blanks left before line at true counted es alike turns
+  made-blanks left before line at white counted (token.LineEnd number ∷ es) alike turns =
+      let front : Option Token = at_line_front texts before number in
+      let continued : Bool = is_continued texts before in
+      let stays : Bool = continued || nat_le (length lines) (number + 1) in
+      let after : Origin = counted_after_line_end lines continued counted number in
+      made-line_end left line counted number (blanks texts front false es)
+      ∙ rw (alike, turn-is texts line, turns)
+      (ap (λ t. line_item lines continued (is_whole at) counted number ∷ t)
+      (made-blanks (Some (token.LineEnd number)) front (line_after stays line) (turn_after_line_end lines continued number at)
+      false after es (ends (is_continued texts before)) (ended stays line at turns)))
     where
-      ends : (b : Bool) → false ≡ is_continued texts (if b then Some (token.LineEnd line) else None)
+      ends : (b : Bool) → false ≡ is_continued texts (if b then Some (token.LineEnd number) else None)
       ends x = search rules
-  made-blanks left before white counted (e ∷ es) alike =
-      by (is_some before && white) (λ after. made-blanks (Some e) (Some e) false after es refl)
-    where
-      rest : List Token
-      rest = blanks texts (Some e) false es
-
-      by : (blank : Bool) → ((after : Origin) → made (Some e) after rest ≡ items_by_origin lines (Some e) after rest) →
-          let tokens : List Token = (if blank then token.White ∷ [] else []) ++ e ∷ rest in
-          made left counted tokens ≡ items_by_origin lines before counted tokens
-      by x h = search rules
+  made-blanks left before line at white counted (e ∷ es) alike turns =
+      made-blank (is_some before && white) e left before line at counted (blanks texts (Some e) false es) refl turns
+      (λ line at counted turns. made-blanks (Some e) (Some e) line at false counted es refl turns)
 
   -- rules 4 and 5, one after the other, give the same items of a C part as the one pass
   pub part_items-by_origin : (line : ℕ) (es : List Token)
       → part_items lines line es
-      ≡ items_by_origin lines None (origin_at lines line) (blanks texts None false (part_tokens texts es))
-  part_items-by_origin line es = made-blanks None None false (origin_at lines line) (part_tokens texts es) refl
+      ≡ items_by_origin lines None turn.NoItem (origin_at lines line) (blanks texts None false (part_tokens texts es))
+  part_items-by_origin line es =
+      made-blanks None None [] turn.NoItem false (origin_at lines line) (part_tokens texts es) refl refl

@@ -39,13 +39,22 @@ use Rattle.tangle_scan.specs.LineTruth.{counted_after_line_end}
 use Rattle.tangle_scan.specs.Passes.{IsPassed, from_gap, start_of_gap, items_after, spaced_after, blank_before, blank_before_run}
 use Rattle.tangle_scan.specs.Passes.{is_joined, is_item, is_after_line_end, keeps_white, last_after_line_end}
 use Rattle.tangle_scan.specs.Passes.{line_item, items_at, counted_after_token, blank_if}
-use Rattle.tangle_scan.specs.Passes.{item_ends_in, entries_end_in, entries_continue, are_open, entries_merge, is_code, last_entry, origin_of}
+use Rattle.tangle_scan.specs.Directives.{item_ends_in}
+use Rattle.tangle_scan.specs.declared.turns.Turn.{Turn}
+use Rattle.tangle_scan.specs.declared.turns.Turn.TheVariants as turn
+use Rattle.tangle_scan.specs.Passes.{turn_after, turn_by, turn_after_run, turn_after_line_end, is_whole}
+use Rattle.tangle_scan.specs.Passes.{is_number_sign}
+use Rattle.tangle_scan.specs.Directives.{is_turn_word}
+use Rattle.tangle_scan.specs.Rules.{span_text}
+use Rattle.tangle_text.specs.Bytes.{number_sign}
+use Rattle.tangle_lexer.specs.SpanBytes.{first_byte}
+use Rattle.tangle_scan.specs.Passes.{entries_end_in, entries_continue, are_open, entries_merge, is_code, last_entry, origin_of}
 use Rattle.tangle_scan.proofs.lemmas.ItemsByOrigin.{part_items-by_origin, by-line_item}
 use Rattle.tangle_scan.proofs.lemmas.RuleLemmas.{has_join-push, is_solid}
 use Rattle.tangle_scan.proofs.lemmas.SpacingLemmas.{spaced-inside}
 use Rattle.tangle_scan.proofs.lemmas.EntryLemmas.{items-push, items-more, last-ends}
 use Rattle.tangle_scan.proofs.lemmas.EntryLemmas.{last-of-push, item-ends, item-merges}
-use Rattle.tangle_scan.proofs.lemmas.RunItems.{last_token, run-front, run-ends, run-merges}
+use Rattle.tangle_scan.proofs.lemmas.RunItems.{last_token, run-front, run-number, run-ends, run-merges}
 
 abbrev white_if : Bool → List Token
 white_if b = if b then token.White ∷ [] else []
@@ -150,10 +159,11 @@ pub passed-end : (lines : List SourceLine) (whole : List Item) (entries : List E
     let continued : Bool = entries_continue (texts_of lines) entries in
     origin_of counted ≡ counted_after_line_end lines continued (origin_of at.counted) line
     → IsPassed lines whole entries at (token.LineEnd line ∷ es)
-    → IsPassed lines whole (entries ++ entry.Item (line_item lines continued (origin_of at.counted) line) ∷ [])
+    → IsPassed lines whole (entries ++ entry.Item (line_item lines continued (is_whole at.turn) (origin_of at.counted) line) ∷ [])
     (record at {
       last = last_after_line_end continued;
       has_white = false;
+      turn = turn_after_line_end lines continued line at.turn;
       start = start_of_gap entries at;
       counted = counted;
     }) es
@@ -192,7 +202,7 @@ passed-end lines whole entries at line counted es other is h = record {
     continued = entries_continue texts entries
 
     made : Item
-    made = line_item lines continued (origin_of at.counted) line
+    made = line_item lines continued (is_whole at.turn) (origin_of at.counted) line
 
     none : has_join gap ≡ false
     none = search rules
@@ -202,7 +212,7 @@ passed-end lines whole entries at line counted es other is h = record {
 
     ends_in_none : (b : ℕ) → entries_end_in b texts (entries ++ entry.Item made ∷ []) ≡ false
     ends_in_none b = last-ends b texts entries (entry.Item made)
-        ∙ by-line_item (λ x. item_ends_in b texts x ≡ false) lines continued (origin_of at.counted) line
+        ∙ by-line_item (λ x. item_ends_in b texts x ≡ false) lines continued (is_whole at.turn) (origin_of at.counted) line
         refl (λ p. refl)
 
     opened : (xs : List Token) → left_of_run (gap ++ token.LineEnd line ∷ []) ++ xs ≡ gap ++ token.LineEnd line ∷ xs
@@ -215,6 +225,7 @@ passed-end lines whole entries at line counted es other is h = record {
     next = record at {
       last = last_after_line_end continued;
       has_white = false;
+      turn = turn_after_line_end lines continued line at.turn;
       start = start_of_gap entries at;
       counted = counted;
     }
@@ -229,7 +240,11 @@ passed-end lines whole entries at line counted es other is h = record {
 pub passed-join : (lines : List SourceLine) (whole : List Item) (entries : List Entry) (at : PartState) (es : List Token)
     → IsPassed lines whole entries at (token.Join ∷ es)
     → IsPassed lines whole (take (start_of_gap entries at).entries entries)
-    (record at { last = last.Joined; counted = (start_of_gap entries at).counted }) es
+    (record at {
+      last = last.Joined;
+      turn = (start_of_gap entries at).turn;
+      counted = (start_of_gap entries at).counted;
+    }) es
 passed-join lines whole entries at es h =
     let left = take (start_of_gap entries at).entries entries in
     let all : take (length left) left ≡ left = take_all (length left) left (omega arith) in
@@ -253,15 +268,15 @@ passed-join lines whole entries at es h =
     }
   where
     within : (b : Bool) → at.start.entries
-        ≤ length (take (if b then at.start else record { entries = length entries; counted = at.counted }).entries entries)
+        ≤ length (take (if b then at.start else record { entries = length entries; turn = at.turn; counted = at.counted }).entries entries)
     within true = search rules
     within false = search rules
 
 -- an item
 
 -- the items of the tokens after an item
-abbrev ahead : List SourceLine → Token → Origin → List Token → List Item
-ahead lines e counted es = items_after lines (Some e) counted false (without_joins [] (spaced_after (texts_of lines) e es))
+abbrev ahead : List SourceLine → Token → Turn → Origin → List Token → List Item
+ahead lines e at counted es = items_after lines (Some e) at counted false (without_joins [] (spaced_after (texts_of lines) e es))
 
 abbrev is_end : Token → Bool
 is_end (token.LineEnd line) = true
@@ -282,7 +297,8 @@ item-ahead : (lines : List SourceLine) (whole : List Item) (entries : List Entry
     (es : List Token) → is_solid e ≡ true → IsPassed lines whole entries at (e ∷ es)
     → whole ≡ items_of (texts_of lines) entries
     ++ (blank_if (blank_before lines entries at e)
-    ++ (items_at lines e ++ ahead lines e (counted_after_token lines (origin_of at.counted) e) es))
+    ++ (items_at lines e
+    ++ ahead lines e (turn_after (texts_of lines) at.turn e) (counted_after_token lines (origin_of at.counted) e) es))
 item-ahead lines whole entries at e es solid h =
     grind (arith, has_join-push, append_assoc, item-blanks)
 
@@ -292,7 +308,7 @@ item-passed : (lines : List SourceLine) (whole : List Item) (new : List Entry) (
     → is_end e ≡ false → ((b : ℕ) → is_word_byte b ≡ false → (b == space) ≡ false
     → ends_in b (texts_of lines) e ≡ entries_end_in b (texts_of lines) new)
     → ((f : Token) → would_merge (texts_of lines) e f ≡ entries_merge (texts_of lines) new f)
-    → whole ≡ items_of (texts_of lines) new ++ ahead lines e (origin_of next.counted) es
+    → whole ≡ items_of (texts_of lines) new ++ ahead lines e next.turn (origin_of next.counted) es
     → IsPassed lines whole new next es
 item-passed lines whole new next e es item white within solid ends merges left =
     let all : take (length new) new ≡ new = take_all (length new) new (omega arith) in
@@ -320,9 +336,10 @@ pub passed-item : (lines : List SourceLine) (whole : List Item) (entries new : L
     → is_solid e ≡ true → is_head e ≡ false → ((s : Span) → e ≡ token.Run s → ⊥)
     → new ≡ (entries ++ map entry.Item (blank_if (blank_before lines entries at e))) ++ map entry.Item (items_at lines e)
     → next.last ≡ last.Item → next.has_white ≡ false → next.start ≡ at.start
+    → next.turn ≡ turn_after (texts_of lines) at.turn e
     → origin_of next.counted ≡ counted_after_token lines (origin_of at.counted) e
     → IsPassed lines whole entries at (e ∷ es) → IsPassed lines whole new next es
-passed-item lines whole entries new at next e es solid head run is_new item white start is h =
+passed-item lines whole entries new at next e es solid head run is_new item white start turns is h =
     let blank = blank_if (blank_before lines entries at e) in
     let middle = entries ++ map entry.Item blank in
     rw is_new (item-passed lines whole _ next e es item white
@@ -332,6 +349,7 @@ passed-item lines whole entries new at next e es solid head run is_new item whit
     (item-ahead lines whole entries at e es solid h
     ∙ rw (
       is,
+      turns,
       items-more (texts_of lines) middle (items_at lines e),
       items-more (texts_of lines) entries blank,
       append_assoc,
@@ -354,36 +372,73 @@ last-plain : (e : Token) (ps : List RunPart) → is_constant e ≡ false → is_
 last-plain e [] plain = plain
 last-plain e (p ∷ ps) plain = last-plain (part_token p) ps (plain-part p)
 
+-- how much of a turn is on the line after the first part of a run, and after the others
+
+abbrev is_settled : Turn → Bool
+is_settled turn.NoItem = false
+is_settled turn.NumberSign = false
+is_settled at = true
+
+stays : (at : Turn) (sign word : Bool) → is_settled at ≡ true → turn_by at sign word ≡ at
+stays at sign word h = grind arith
+
+run-settled : (texts : List (List ℕ)) (at : Turn) (s : Span) → is_settled (turn_after_run texts at s) ≡ true
+run-settled texts at s = grind arith
+
+first-turn : (texts : List (List ℕ)) (at : Turn) (s : Span) (p : RunPart) (ps : List RunPart)
+    → run_parts texts s ≡ p ∷ ps → is_number_sign texts (part_item p) ≡ false → has_single_spaces true (p ∷ ps) ≡ true
+    → turn_after texts at (part_token p) ≡ turn_after_run texts at s
+first-turn texts at s part.Space ps is number spaces = cc
+first-turn texts turn.NoItem s (part.Word w) ps is number spaces = refl
+first-turn texts turn.NumberSign s (part.Word w) ps is number spaces = rw is refl
+first-turn texts turn.Whole s (part.Word w) ps is number spaces = refl
+first-turn texts turn.Other s (part.Word w) ps is number spaces = refl
+first-turn texts turn.NoItem s (part.Sign w) ps is number spaces = rw number refl
+first-turn texts turn.NumberSign s (part.Sign w) ps is number spaces = rw is refl
+first-turn texts turn.Whole s (part.Sign w) ps is number spaces = refl
+first-turn texts turn.Other s (part.Sign w) ps is number spaces = refl
+
 -- the parts of a run after the first one
-parts-ahead : (lines : List SourceLine) (e : Token) (counted : Origin) (ps : List RunPart) (es : List Token)
-    → is_constant e ≡ false → has_single_spaces false ps ≡ true
-    → ahead lines e counted (map part_token ps ++ es)
-    ≡ map part_item ps ++ ahead lines (last_token e ps) counted es
-parts-ahead lines e counted [] es plain h = refl
-parts-ahead lines e counted (part.Word s ∷ ps) es plain h =
-    rw (plain, and-false (may_merge (texts_of lines) e))
-    (ap (λ t. item.Word s ∷ t) (parts-ahead lines (token.Span span_kind.Word s) counted ps es refl h))
-parts-ahead lines e counted (part.Sign s ∷ ps) es plain h =
-    rw (plain, and-false (may_merge (texts_of lines) e))
-    (ap (λ t. item.Sign s ∷ t) (parts-ahead lines (token.Span span_kind.Sign s) counted ps es refl h))
-parts-ahead lines e counted (part.Space ∷ []) es plain h = cc
-parts-ahead lines e counted (part.Space ∷ part.Space ∷ ps) es plain h = cc
-parts-ahead lines e counted (part.Space ∷ part.Word s ∷ ps) es plain h =
-    rw (plain, and-false (may_merge (texts_of lines) e))
-    (ap (λ t. item.Blank ∷ item.Word s ∷ t) (parts-ahead lines (token.Span span_kind.Word s) counted ps es refl h))
-parts-ahead lines e counted (part.Space ∷ part.Sign s ∷ ps) es plain h =
-    rw (plain, and-false (may_merge (texts_of lines) e))
-    (ap (λ t. item.Blank ∷ item.Sign s ∷ t) (parts-ahead lines (token.Span span_kind.Sign s) counted ps es refl h))
+parts-ahead : (lines : List SourceLine) (e : Token) (at : Turn) (counted : Origin) (ps : List RunPart) (es : List Token)
+    → is_settled at ≡ true → is_constant e ≡ false → has_single_spaces false ps ≡ true
+    → ahead lines e at counted (map part_token ps ++ es)
+    ≡ map part_item ps ++ ahead lines (last_token e ps) at counted es
+parts-ahead lines e at counted [] es settled plain h = refl
+parts-ahead lines e at counted (part.Word s ∷ ps) es settled plain h =
+    rw (plain, and-false (may_merge (texts_of lines) e), stays at false (is_turn_word (span_text (texts_of lines) s)) settled)
+    (ap (λ t. item.Word s ∷ t) (parts-ahead lines (token.Span span_kind.Word s) at counted ps es settled refl h))
+parts-ahead lines e at counted (part.Sign s ∷ ps) es settled plain h =
+    rw (plain, and-false (may_merge (texts_of lines) e), stays at (first_byte (texts_of lines) s == number_sign) false settled)
+    (ap (λ t. item.Sign s ∷ t) (parts-ahead lines (token.Span span_kind.Sign s) at counted ps es settled refl h))
+parts-ahead lines e at counted (part.Space ∷ []) es settled plain h = cc
+parts-ahead lines e at counted (part.Space ∷ part.Space ∷ ps) es settled plain h = cc
+parts-ahead lines e at counted (part.Space ∷ part.Word s ∷ ps) es settled plain h =
+    rw (plain, and-false (may_merge (texts_of lines) e), stays at false (is_turn_word (span_text (texts_of lines) s)) settled)
+    (ap (λ t. item.Blank ∷ item.Word s ∷ t)
+    (parts-ahead lines (token.Span span_kind.Word s) at counted ps es settled refl h))
+parts-ahead lines e at counted (part.Space ∷ part.Sign s ∷ ps) es settled plain h =
+    rw (plain, and-false (may_merge (texts_of lines) e), stays at (first_byte (texts_of lines) s == number_sign) false settled)
+    (ap (λ t. item.Blank ∷ item.Sign s ∷ t)
+    (parts-ahead lines (token.Span span_kind.Sign s) at counted ps es settled refl h))
 
 -- a part that is no space, before others
-part-ahead : (lines : List SourceLine) (whole : List Item) (entries : List Entry) (at : PartState) (p : RunPart)
-    (ps : List RunPart) (es : List Token) → has_single_spaces true (p ∷ ps) ≡ true
+part-ahead : (lines : List SourceLine) (whole : List Item) (entries : List Entry) (at : PartState) (s : Span) (p : RunPart)
+    (ps : List RunPart) (es : List Token) → run_parts (texts_of lines) s ≡ p ∷ ps
+    → is_number_sign (texts_of lines) (part_item p) ≡ false → has_single_spaces true (p ∷ ps) ≡ true
     → IsPassed lines whole entries at (map part_token (p ∷ ps) ++ es)
     → whole ≡ items_of (texts_of lines) entries
     ++ (blank_if (blank_before lines entries at (part_token p))
-    ++ (map part_item (p ∷ ps) ++ ahead lines (last_token (part_token p) ps) (origin_of at.counted) es))
-part-ahead lines whole entries at p ps es spaces h =
-    grind (arith, nat_tests, item-ahead lines whole entries at, parts-ahead lines)
+    ++ (map part_item (p ∷ ps)
+    ++ ahead lines (last_token (part_token p) ps) (turn_after_run (texts_of lines) at.turn s) (origin_of at.counted) es))
+part-ahead lines whole entries at s p ps es is number spaces h =
+    grind (
+      arith,
+      nat_tests,
+      item-ahead lines whole entries at,
+      parts-ahead lines,
+      first-turn (texts_of lines) at.turn s p ps is number spaces,
+      run-settled (texts_of lines) at.turn s,
+    )
 
 -- an item after which no run is written as one with it, and a word or a sign before
 front-merges : (texts : List (List ℕ)) (entries : List Entry) (p : RunPart)
@@ -394,7 +449,7 @@ run-passed : (lines : List SourceLine) (whole : List Item) (entries : List Entry
     (parts : List RunPart) (es : List Token) → run_parts (texts_of lines) s ≡ parts → IsRunOf (texts_of lines) s
     → has_single_spaces true parts ≡ true → IsPassed lines whole entries at (map part_token parts ++ es)
     → IsPassed lines whole ((entries ++ map entry.Item (blank_if (blank_before_run lines entries at s))) ++ entry.Run s ∷ [])
-    (record at { last = last.Item; has_white = false }) es
+    (record at { last = last.Item; has_white = false; turn = turn_after_run (texts_of lines) at.turn s }) es
 run-passed lines whole entries at s [] es is run spaces h = cc
 run-passed lines whole entries at s (p ∷ ps) es is run spaces h =
     let texts = texts_of lines in
@@ -407,38 +462,45 @@ run-passed lines whole entries at s (p ∷ ps) es is run spaces h =
     (last-solid (part_token p) ps (part-solid p))
     (λ b word white. run-ends b texts word white s p ps is run ∙ sym (last-ends b texts middle (entry.Run s)))
     (search (rules, last-of-push, last-plain, run-merges))
-    (part-ahead lines whole entries at p ps es spaces h
+    (part-ahead lines whole entries at s p ps es is (run-number texts s p ps is run.begins) spaces h
     ∙ rw (first, items-push texts middle (entry.Run s), items-more texts entries blank, append_assoc, append_assoc, is) refl)
 
 pub passed-run : (lines : List SourceLine) (whole : List Item) (entries : List Entry) (at : PartState) (s : Span)
     (es : List Token) → IsRunOf (texts_of lines) s
     → IsPassed lines whole entries at (unfolded_token (texts_of lines) (token.Run s) ++ es)
     → IsPassed lines whole ((entries ++ map entry.Item (blank_if (blank_before_run lines entries at s))) ++ entry.Run s ∷ [])
-    (record at { last = last.Item; has_white = false }) es
+    (record at { last = last.Item; has_white = false; turn = turn_after_run (texts_of lines) at.turn s }) es
 passed-run lines whole entries at s es run h = search (rules, run-passed)
 
 -- the beginning and the end of a part
 
-pub passed-begin : (lines : List SourceLine) (line : ℕ) (at : PartState) (es : List Token)
-    → at.last ≡ last.Front → at.start.entries ≡ 0 → origin_of at.start.counted ≡ origin_at lines line
-    → origin_of at.counted ≡ origin_at lines line → IsPassed lines (part_items lines line es) [] at es
-passed-begin lines line at es front start is_start is = record {
+pub passed-begin : (lines : List SourceLine) (line : ℕ) (counted : CountedOrigin) (has_all_macros : Bool)
+    (entries : List Entry) (es : List Token) → entries ≡ [] → origin_of counted ≡ origin_at lines line
+    → IsPassed lines (part_items lines line es) entries (record {
+      last = last.Front;
+      has_white = false;
+      turn = turn.NoItem;
+      counted = counted;
+      start = record { entries = 0; turn = turn.NoItem; counted = counted };
+      has_all_macros = has_all_macros;
+    }) es
+passed-begin lines line counted has_all_macros entries es none is = rw none (record {
   read = record {
     gap = [];
     front = None;
     before = None;
     prev = token.White;
     start = omega arith;
-    joined = rw front refl;
-    made = λ xs. rw (front, start, is_start, is) refl;
-    keeps = λ _. rw front refl;
+    joined = refl;
+    made = λ xs. rw is refl;
+    keeps = λ _. refl;
     continues = λ _. refl;
-    front_open = rw (front, start) refl;
-    before_open = rw front refl;
-    merges = λ e. rw front refl;
+    front_open = refl;
+    before_open = refl;
+    merges = λ e. refl;
   };
-  left = search (rules, part_items-by_origin, spaced-inside);
-}
+  left = rw is (search (rules, part_items-by_origin, spaced-inside));
+})
 
 pub passed-whole : (lines : List SourceLine) (whole : List Item) (entries : List Entry) (at : PartState) (es : List Token)
     → es ≡ [] → IsPassed lines whole entries at es

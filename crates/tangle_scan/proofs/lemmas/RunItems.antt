@@ -18,7 +18,10 @@ use Rattle.tangle_lexer.specs.declared.tokens.Token.TheVariants as token
 use Rattle.tangle_lexer.specs.Runs.{part_token, unfolded_token, IsRunOf}
 use Rattle.tangle_scan.specs.Rules.{may_merge}
 use Rattle.tangle_lexer.specs.SpanBytes.{first_byte, last_byte, ends_in}
-use Rattle.tangle_scan.specs.Passes.{is_merging_byte}
+use Rattle.std.proofs.Common.{subst}
+use Rattle.tangle_text.specs.Bytes.{number_sign}
+use Rattle.tangle_scan.specs.Entries.{part_item}
+use Rattle.tangle_scan.specs.Passes.{is_merging_byte, is_number_sign}
 
 -- a token other than a run stands for itself
 pub unfolded-one : (texts : List (List ℕ)) (e : Token) → ((s : Span) → e ≡ token.Run s → ⊥)
@@ -149,6 +152,30 @@ pub run-front : (texts : List (List ℕ)) (s : Span) (p : RunPart) (ps : List Ru
     → may_merge texts (part_token p) ≡ is_merging_byte (first_byte texts s)
 unfolding run_parts
 run-front texts s p ps is = search (rules, front-merges, chunks_are, span_chunks)
+
+-- a run that does not begin with the sign #
+
+front-number : (texts : List (List ℕ)) (s : Span) (cs : List (List ℕ)) (p : RunPart) (ps : List RunPart)
+    → parts_of s.line s.start cs ≡ p ∷ ps → (first_byte texts s == number_sign) ≡ false
+    → is_number_sign texts (part_item p) ≡ false
+front-number texts s [] p ps parts other = cc
+front-number texts s (c ∷ cs) p ps parts other =
+    subst (λ q. is_number_sign texts (part_item q) ≡ false) (first c parts) (of c)
+  where
+    first : (c : List ℕ) → part_of s.line s.start c ∷ parts_of s.line (s.start + length c) cs ≡ p ∷ ps
+        → part_of s.line s.start c ≡ p
+    first c is = cc
+
+    of : (c : List ℕ) → is_number_sign texts (part_item (part_of s.line s.start c)) ≡ false
+    of [] = refl
+    of (b ∷ bs) =
+        part-by (λ q. is_number_sign texts (part_item q) ≡ false) s.line s.start b bs
+        (λ h. refl) (λ h word. refl) (λ h word. other)
+
+pub run-number : (texts : List (List ℕ)) (s : Span) (p : RunPart) (ps : List RunPart) → run_parts texts s ≡ p ∷ ps
+    → (first_byte texts s == number_sign) ≡ false → is_number_sign texts (part_item p) ≡ false
+unfolding run_parts
+run-number texts s p ps is other = front-number texts s (chunks (span_text texts s)) p ps is other
 
 -- the last token of a run that begins with this one
 

@@ -1,9 +1,8 @@
 -- The tokens of runs are no heads, no faults and no @h.
 use Rattle.std.proofs.lemmas.Bool.Decides.{nat_tests}
 use Rattle.std.proofs.Common.{arith}
-use Rattle.std.proofs.Common.{◌≡◌, ℕ, Bool, false, List, [], ◌∷◌, map, refl, sym, ◌∙◌}
-use Rattle.std.specs.List.{list_any, flat_map}
-use Rattle.std.proofs.lemmas.Grind.{flat_map-append}
+use Rattle.std.proofs.Common.{◌≡◌, Bool, false, List, [], ◌∷◌, map, refl, sym, ◌∙◌}
+use Rattle.std.specs.List.{list_any}
 use Rattle.std.proofs.lemmas.List.Folds.{list_any-append}
 use Rattle.std.proofs.Math.Bool.{or-false}
 use Rattle.tangle_files.specs.Lines.{FileTable}
@@ -19,7 +18,12 @@ use Rattle.tangle_lexer.specs.declared.tokens.SpanKind.TheVariants as span_kind
 use Rattle.tangle_lexer.specs.Heads.{is_head}
 use Rattle.tangle_lexer.specs.Runs.{part_token, unfolded_token, unfolded, HasNoRun}
 use Rattle.tangle_scan.specs.Web.{is_all_macros}
-use Rattle.tangle_scan.specs.WebBuilder.{own_fault}
+use Rattle.std.proofs.Common.{ℕ, suc, true, ◌++◌, ap, Option, Some, None}
+use Rattle.std.specs.List.{All}
+use Rattle.tangle_text.specs.Runs.{has_single_spaces}
+use Rattle.tangle_lexer.specs.Runs.{IsRunIn}
+use Rattle.tangle_scan.specs.Rules.{texts_of}
+use Rattle.tangle_scan.specs.Web.{own_fault, raw_fault, token_faults, quoted_ahead, last_word, word_at_end}
 
 -- a test that neither a run nor a part of one passes: the parts are white space, words and signs
 
@@ -48,24 +52,64 @@ pub all_macros-unfolded : (texts : List (List ℕ)) (ts : List Token)
     → list_any is_all_macros (unfolded texts ts) ≡ list_any is_all_macros ts
 all_macros-unfolded texts ts = any-unfolded is_all_macros texts refl (λ kind s. refl) (λ s. refl) ts
 
--- no part of a run is a fault
+-- no part of a run is a fault or a quoted text
 
-parts-faults : (files : FileTable) (lines : List SourceLine) (xs : List RunPart)
-    → flat_map (own_fault files lines) (map part_token xs) ≡ []
-parts-faults files lines [] = refl
-parts-faults files lines (part.Space ∷ xs) = parts-faults files lines xs
-parts-faults files lines (_ ∷ xs) = parts-faults files lines xs
+parts-faults : (files : FileTable) (lines : List SourceLine) (word : Option Span) (xs : List RunPart) (ts : List Token)
+    → token_faults files lines word (map part_token xs ++ ts) ≡ token_faults files lines (last_word word xs) ts
+parts-faults files lines word [] ts = refl
+parts-faults files lines None (part.Word s ∷ xs) ts = parts-faults files lines (Some s) xs ts
+parts-faults files lines (Some w) (part.Word s ∷ xs) ts = parts-faults files lines (Some s) xs ts
+parts-faults files lines None (part.Sign s ∷ xs) ts = parts-faults files lines None xs ts
+parts-faults files lines (Some w) (part.Sign s ∷ xs) ts = parts-faults files lines None xs ts
+parts-faults files lines None (part.Space ∷ xs) ts = parts-faults files lines None xs ts
+parts-faults files lines (Some w) (part.Space ∷ xs) ts = parts-faults files lines None xs ts
 
-token-faults : (texts : List (List ℕ)) (files : FileTable) (lines : List SourceLine) (t : Token)
-    → flat_map (own_fault files lines) (unfolded_token texts t) ≡ own_fault files lines t
-token-faults texts files lines (token.Run s) = parts-faults files lines (run_parts texts s)
-token-faults texts files lines t = refl
+-- a run has parts
+first-word : (word : Option Span) (xs : List RunPart) → has_single_spaces true xs ≡ true
+    → last_word word xs ≡ last_word None xs
+first-word word [] h = cc
+first-word word (part.Word s ∷ xs) h = refl
+first-word word (part.Sign s ∷ xs) h = refl
+first-word word (part.Space ∷ xs) h = refl
 
-pub faults-unfolded : (texts : List (List ℕ)) (files : FileTable) (lines : List SourceLine) (ts : List Token)
-    → flat_map (own_fault files lines) (unfolded texts ts) ≡ flat_map (own_fault files lines) ts
-faults-unfolded texts files lines [] = refl
-faults-unfolded texts files lines (t ∷ ts) =
-    rw (flat_map-append, token-faults texts files lines t, faults-unfolded texts files lines ts) refl
+run-faults : (files : FileTable) (lines : List SourceLine) (word : Option Span) (s : Span) (ts : List Token)
+    → token_faults files lines word (token.Run s ∷ ts)
+    ≡ token_faults files lines (last_word None (run_parts (texts_of lines) s)) ts
+run-faults files lines None s ts = refl
+run-faults files lines (Some w) s ts = refl
+
+-- a run begins with no quoted text, nor do its parts
+ahead-parts : (xs : List RunPart) (ts : List Token) → has_single_spaces true xs ≡ true
+    → quoted_ahead (map part_token xs ++ ts) ≡ None
+ahead-parts [] ts h = cc
+ahead-parts (part.Word s ∷ xs) ts h = refl
+ahead-parts (part.Sign s ∷ xs) ts h = refl
+ahead-parts (part.Space ∷ xs) ts h = refl
+
+ahead-unfolded : (lines : List SourceLine) (ts : List Token) → All (IsRunIn (texts_of lines)) ts
+    → quoted_ahead (unfolded (texts_of lines) ts) ≡ quoted_ahead ts
+ahead-unfolded lines [] runs = refl
+ahead-unfolded lines (token.Run s ∷ ts) runs =
+    ahead-parts (run_parts (texts_of lines) s) (unfolded (texts_of lines) ts) (runs 0 (token.Run s) (omega arith)).spaces
+ahead-unfolded lines (token.Fault kind line ∷ ts) runs = ahead-unfolded lines ts (λ k d low. runs (suc k) d (omega arith))
+ahead-unfolded lines (token.Span span_kind.Quoted s ∷ ts) runs = refl
+ahead-unfolded lines (t ∷ ts) runs = grind arith
+
+pub faults-unfolded : (files : FileTable) (lines : List SourceLine) (word : Option Span) (ts : List Token)
+    → All (IsRunIn (texts_of lines)) ts
+    → token_faults files lines word (unfolded (texts_of lines) ts) ≡ token_faults files lines word ts
+faults-unfolded files lines word [] runs = refl
+faults-unfolded files lines word (token.Run s ∷ ts) runs =
+    let run = runs 0 (token.Run s) (omega arith) in
+    parts-faults files lines word (run_parts (texts_of lines) s) (unfolded (texts_of lines) ts)
+    ∙ (ap (λ w. token_faults files lines w (unfolded (texts_of lines) ts)) (first-word word (run_parts (texts_of lines) s) run.spaces)
+    ∙ (faults-unfolded files lines (last_word None (run_parts (texts_of lines) s)) ts (λ k d low. runs (suc k) d (omega arith))
+    ∙ sym (run-faults files lines word s ts)))
+faults-unfolded files lines word (t ∷ ts) runs =
+    ap (λ q. (raw_fault files lines word q ++ own_fault files lines t)
+    ++ token_faults files lines (word_at_end (texts_of lines) t) (unfolded (texts_of lines) ts)) (ahead-unfolded lines (t ∷ ts) runs)
+    ∙ ap (λ fs. (raw_fault files lines word (quoted_ahead (t ∷ ts)) ++ own_fault files lines t) ++ fs)
+    (faults-unfolded files lines (word_at_end (texts_of lines) t) ts (λ k d low. runs (suc k) d (omega arith)))
 
 -- tokens without a head
 

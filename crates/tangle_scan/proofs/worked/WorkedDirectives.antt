@@ -10,7 +10,7 @@ pub directives :
     ∷ codes "y@> b \\" ∷ codes "  c" ∷ codes "#endif" ∷ codes "x /* c" ∷ codes "d */ y" ∷ codes "#/* e"
     ∷ codes "f */include/* g" ∷ codes "h */<p\"q>" ∷ codes "z" ∷ [])
     ≡ record plain {
-      pieces = codes "1:2\n#if a && b\n#5\n#define M a b \\\n c\n#8\n#endif\nx\ny\n# include <p\"q>\n#14\nz\n\n";
+      pieces = codes "1:2\n#if a && b\n#5\n#define M a b \\\n c\n#8\n#endif\n#9\nx\ny\n# include <p\"q>\n#14\nz\n\n";
     }
 unfolding lexeme tokens_from occurrences_from
 directives = refl

@@ -1,6 +1,6 @@
 -- Stretches and the counted origin, on small lists.
 use Rattle.std.proofs.Common.{rules}
-use Rattle.std.proofs.Common.{◌≡◌, ℕ, Bool, true, false, List, [], ◌∷◌, None, Some, codes}
+use Rattle.std.proofs.Common.{◌≡◌, ℕ, Bool, true, false, List, [], ◌∷◌, None, codes}
 use Rattle.tangle_lines.specs.declared.origin.Origin.{Origin}
 use Rattle.tangle_text.specs.declared.spans.Span.{Span}
 use Rattle.tangle_lines.specs.Reading.{SourceLine}
@@ -8,8 +8,8 @@ use Rattle.tangle_scan.specs.declared.items.Item.TheVariants as item
 use Rattle.tangle_lexer.specs.declared.tokens.Token.{Token}
 use Rattle.tangle_lexer.specs.declared.tokens.SpanKind.TheVariants as span_kind
 use Rattle.tangle_lexer.specs.declared.tokens.Token.TheVariants as token
-use Rattle.tangle_scan.specs.Rules.{with_all_marks, with_needed_marks, part_items}
-use Rattle.tangle_scan.specs.LineTruth.{counted_items, Location, tokens_and_joins, locations, part_locations}
+use Rattle.tangle_scan.specs.Rules.{with_all_marks, with_needed_marks}
+use Rattle.tangle_scan.specs.LineTruth.{Location, tokens_and_joins, locations, part_locations}
 
 abbrev origin : ℕ → Origin
 origin line = record { file = 0; line = line }
@@ -65,7 +65,7 @@ record Examples : Type 0 where
       ≡ word_location 1 false ∷ word_location 2 true ∷ word_location 2 true ∷ word_location 3 false ∷ []
   -- the items after a line end in a quoted text are in a stretch, up to a mark
   pub quote_break :
-      locations (source (origin 2)) None (origin 0) false (token.QuoteBreak ∷ word 2 ∷ token.UseOf 2 0 ∷ word 2 ∷ [])
+      locations (source (origin 2)) None (origin 0) false (token.QuoteBreak 1 ∷ word 2 ∷ token.UseOf 2 0 ∷ word 2 ∷ [])
       ≡ word_location 2 true ∷ word_location 2 false ∷ []
   -- a line end inside a comment of a directive begins a stretch, and one of a run with a join is removed with the run
   pub inner_line_ends :
@@ -80,29 +80,14 @@ record Examples : Type 0 where
       ≡ sign_location 1 false ∷ word_location 2 false ∷ word_location 3 false ∷ []
   pub other_line : part_locations (source other) 1 continued
       ≡ sign_location 1 false ∷ word_location 2 true ∷ word_location 3 false ∷ []
-  pub other_line_counted :
-      counted_items (Some (origin 1)) (part_items (source other) 1 continued)
-      ≡ record { item = item.Sign (at 1); origin = Some (origin 1) }
-      ∷ record { item = item.Word (at 2); origin = Some (origin 2) }
-      ∷ record { item = item.Word (at 3); origin = Some (origin 3) }
-      ∷ []
-  -- the end of a continued line ends a stretch, if the next source line is the one that the count expects
+  -- a line end in a quoted text begins no stretch, if the next source line is the one that the count expects
   pub expected_after_break :
-      locations (source (origin 2)) None (origin 0) false (token.QuoteBreak ∷ sign 1 ∷ token.LineEnd 1 ∷ word 2 ∷ [])
-      ≡ sign_location 1 true ∷ word_location 2 false ∷ []
+      locations (source (origin 2)) None (origin 0) false (token.QuoteBreak 0 ∷ sign 1 ∷ token.LineEnd 1 ∷ word 2 ∷ [])
+      ≡ sign_location 1 false ∷ word_location 2 false ∷ []
   -- an ASCII constant has its line
   pub constant_line :
       locations (source (origin 2)) None (origin 0) false (token.AsciiConstant 65 7 ∷ [])
       ≡ record { item = item.Code 65; line = 7; in_stretch = false } ∷ []
-  -- the counted origin: each line end adds a line, a mark sets it, and after a use it is not known
-  pub counted_lines :
-      counted_items (Some (origin 4))
-      (item.LineEnd ∷ item.Word (at 1) ∷ item.UseOf 0 ∷ item.Word (at 2)
-      ∷ item.LineMark (origin 9) ∷ item.QuoteBreak ∷ item.Word (at 3) ∷ [])
-      ≡ record { item = item.Word (at 1); origin = Some (origin 5) }
-      ∷ record { item = item.Word (at 2); origin = None }
-      ∷ record { item = item.Word (at 3); origin = Some (origin 10) }
-      ∷ []
   -- a mark follows the end of a line that is not continued
   pub all_marks :
       with_all_marks (source other) None (sign 1 ∷ token.LineEnd 1 ∷ word 2 ∷ token.LineEnd 2 ∷ word 3 ∷ [])
@@ -111,7 +96,7 @@ record Examples : Type 0 where
       ∷ []
   -- the first mark has the origin that is counted, the second has not
   pub needed_marks :
-      with_needed_marks (origin 1)
+      with_needed_marks [] [] (origin 1)
       (item.LineEnd ∷ item.LineMark (origin 2) ∷ item.Word (at 1) ∷ item.LineEnd ∷ item.LineMark other
       ∷ item.Word (at 2)
       ∷ [])

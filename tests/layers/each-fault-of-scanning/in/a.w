@@ -2,7 +2,7 @@
 @d M @h 1
 @d 2@<v@>
 @c
-x @d @'ab' "p@q
+x @d @'ab' R"p@q
 @=r@s
 #@<v@>= @^t@,
 /* u @

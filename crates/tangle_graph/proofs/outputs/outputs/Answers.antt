@@ -1,11 +1,12 @@
 use Rattle.std.proofs.Common.{rules}
 use Rattle.std.proofs.Common.{◌≡◌, ◌∙◌, ◌<◌, ◌++◌, ◌∷◌, [], length, map, suc, take, filter, get_or, ap, append_assoc}
-use Rattle.std.proofs.Common.{sym, arith, true}
+use Rattle.std.proofs.Common.{sym, arith, ◌||◌}
 use Rattle.std.specs.Prelude.{All, if◌then◌else◌}
 use Rattle.tangle_plans.specs.Shapes.{Named, Program}
 use Rattle.tangle_plans.specs.WebShapes.{name_at, shapes}
 use Rattle.tangle_graph.specs.Measures.{measure_of}
 use Rattle.tangle_graph.specs.Outputs.{main_file, named_file, is_written, is_expandable}
+use Rattle.tangle_graph.specs.Outputs.{is_earlier_file, is_main_file}
 use Rattle.tangle_graph.proofs.ListLemmas.{mapped_more}
 use Rattle.tangle_graph.proofs.NodeLemmas.{title_inside}
 use Rattle.tangle_graph.proofs.StoreLemmas.{piece_by_measure}
@@ -35,6 +36,10 @@ loop-id-preserved c =
     let flag : c.entry-measure.result.is_expandable
     ≡ is_expandable (shapes web table) (Named (name_at table id)) =
     search (rules, title_inside) in
+    let flagged = c.in_ok-named.ensures (shapes web table) c.requires.measures in
+    let other : c.has_other_name-is_other.result
+    ≡ (is_main_file (shapes web table) table out id || is_earlier_file (shapes web table) table out id) =
+    c.has_other_name-is_other.ensures ∙ (λ i. flagged.main id low i || flagged.earlier id low i) in
     c.in_ok-add_named_file.ensures
     ∙ (search rules)
     ∙ ap (λ l. l ++ (if is_written web table out id then named_file table id ∷ [] else [])) c.loop-id.invariant

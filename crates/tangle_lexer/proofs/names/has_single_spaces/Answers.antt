@@ -1,5 +1,5 @@
 use Rattle.std.proofs.Common.{rules}
-use Rattle.std.proofs.Common.{◌≡◌, ◌++◌, ◌∷◌, [], ◌+◌, take, true≢false, false, ap, sym, subst, ◌∙◌}
+use Rattle.std.proofs.Common.{◌≡◌, ◌++◌, ◌∷◌, [], ◌+◌, take, true≢false, ap, sym, subst, ◌∙◌}
 use Rattle.std.proofs.Common.{take-suc, add-one, ltb-false}
 use Rattle.std.specs.Prelude.{slice_index_or}
 use Rattle.tangle_lexer.proofs.lemmas.NameWords.{IsPlainSoFar, past-space, plain-space, plain-byte}

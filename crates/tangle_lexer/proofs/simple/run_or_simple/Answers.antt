@@ -1,41 +1,63 @@
 use Rattle.std.proofs.Common.{rules}
-use Rattle.std.proofs.Common.{◌≡◌, true, length, drop, ap, arith, length-drop}
+use Rattle.std.proofs.Common.{◌≡◌, true, length, drop, ap, sym, ◌∙◌, subst, arith, length-drop}
 use Rattle.tangle_text.specs.Text.{byte_at}
+use Rattle.tangle_text.proofs.TakenLemmas.{run_at-is, run_at-empty}
 use Rattle.tangle_lexer.specs.Lexemes.{with_line}
+use Rattle.tangle_lexer.specs.Reads.{IsRead}
 use Rattle.tangle_lexer.specs.Simple.{begins_run, simple_kind}
 use Rattle.tangle_lexer.specs.Steps.{c_lexeme}
 use Rattle.tangle_lexer.proofs.lemmas.BlockLemmas.{no-run, plain-reads-on}
 use Rattle.tangle_lexer.proofs.lemmas.RunLemmas.{run-read, run-reads-on}
 use Rattle.tangle_lexer.proofs.lemmas.SimpleLemmas.{simple-again, simple-read, simple-occurrences_from, simple-special}
 use Rattle.tangle_lexer.proofs.simple.run_or_simple.Goals as goal
+use Rattle.tangle_lexer.proofs.simple.run_or_simple.Goals.{then-begins_run+in_default, else-begins_run}
 
-pub returns-then-begins_run-clause-read : goal.returns-then-begins_run-clause-read
-returns-then-begins_run-clause-read c = λ lines ours.
+pub returns-in-Some-clause-read : goal.returns-in-Some-clause-read
+returns-in-Some-clause-read c = λ lines ours.
+    let text = c.args.reader.now in
     let state = with_line c.args.line.now c.args.from in
-    let begins : begins_run state.mode state.line c.args.simple (byte_at 0 c.args.reader.now) ≡ true
+    let begins : begins_run state.mode state.line.include c.args.simple (byte_at 0 text) ≡ true
     = search rules in
+    let run = run_at-is text c.in-Some.run' (sym c.take_run.ensures.span ∙ c.in-Some.is) in
     rw (c.set.ensures, c.elsewhere.ensures, c.with_line-state.ensures)
-    (run-reads-on lines _ _ state c.args.reader.now _ c.take_run-run.result
-    c.in_ok-push.ensures.items c.take_run-run.ensures.span c.take_run-run.ensures.ahead ours
-    (run-read lines state c.args.reader.now c.args.simple c.requires.simple begins ours))
+    (run-reads-on lines _ _ state text _ c.in-Some.run'
+    c.in_ok-push.ensures.items run.span c.take_run.ensures.ahead ours
+    (run-read lines state text c.args.simple c.requires.simple begins run.some ours))
+
+-- where no run was read, the reader is where it was
+same-place : (c : goal.After-set-2) → c.if-begins_run.reader ≡ c.args.reader.now
+same-place c =
+    let text = c.args.reader.now in
+    elim c.if-begins_run.branch [
+      | then-begins_run+in_default w ↦
+          let none = run_at-empty text (sym w.take_run.ensures.span ∙ w.in_default.is) in
+          w.reader-is ∙ (w.take_run.ensures.ahead ∙ ap (λ n. drop n text) none)
+      | else-begins_run w ↦ w.reader-is
+    ]
 
 pub returns-clause-read : goal.returns-clause-read
 returns-clause-read c = λ lines ours.
+    let text = c.args.reader.now in
     let state = with_line c.args.line.now c.args.from in
-    let again = simple-again _ _ c.args.line.now c.args.from _ _ c.args.reader.now _ c.args.simple
-    c.with_line-state.ensures c.in_ok-after.ensures in
-    let read = simple-read _ _ state _ c.args.reader.now _ c.args.simple c.requires.simple c.requires.mode again in
+    let here : IsRead c.args.tokens.now.items c.simple_step.new.tokens.items text c.simple_step.new.reader
+    c.in_ok-after.after (c_lexeme (simple_kind c.args.simple) c.with_line-state.result text)
+    = subst (λ t. IsRead c.args.tokens.now.items c.simple_step.new.tokens.items t c.simple_step.new.reader
+    c.in_ok-after.after (c_lexeme (simple_kind c.args.simple) c.with_line-state.result t)) (same-place c)
+    c.in_ok-after.ensures in
+    let again = simple-again _ _ c.args.line.now c.args.from _ _ text _ c.args.simple c.with_line-state.ensures here in
+    let read = simple-read _ _ state _ text _ c.args.simple c.requires.simple c.requires.mode again in
     rw c.set-2.ensures
     (search (rules, plain-reads-on, no-run, simple-special, simple-occurrences_from))
 
 pub returns-clause-shorter : goal.returns-clause-shorter
 returns-clause-shorter c =
     let text = c.args.reader.now in
-    let here = c_lexeme (simple_kind c.args.simple) c.with_line-state.result text in
+    let here = c_lexeme (simple_kind c.args.simple) c.with_line-state.result c.if-begins_run.reader in
     omega (
       arith,
       c.requires.simple.inside,
       ap length c.in_ok-after.ensures.ahead,
-      length-drop here.more (drop 1 text),
-      length-drop 1 text,
+      length-drop here.more (drop 1 c.if-begins_run.reader),
+      length-drop 1 c.if-begins_run.reader,
+      ap length (same-place c),
     )

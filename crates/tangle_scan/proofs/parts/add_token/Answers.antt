@@ -1,11 +1,9 @@
-use Rattle.std.proofs.Common.{arith}
-use Rattle.std.proofs.lemmas.Grind.{common_steps}
 use Rattle.std.proofs.Common.{ap, refl, subst}
 use Rattle.tangle_lexer.specs.Runs.{IsRunIn}
 use Rattle.tangle_scan.specs.declared.items.Entry.TheVariants as entry
 use Rattle.tangle_scan.specs.declared.parts.PartState.{PartState}
 use Rattle.tangle_scan.specs.Rules.{texts_of}
-use Rattle.tangle_scan.proofs.lemmas.EntryLemmas.{marked-item, range-items, range-push}
+use Rattle.tangle_scan.proofs.lemmas.EntryLemmas.{marked-item, marked-end, range-items, range-push}
 use Rattle.tangle_scan.proofs.lemmas.PartLemmas.{passed-white, passed-inner_end, passed-fault, passed-joined-end, passed-end}
 use Rattle.tangle_scan.proofs.lemmas.PartLemmas.{passed-join, passed-item, passed-run}
 use Rattle.tangle_scan.proofs.lemmas.RuleLemmas.{solid}
@@ -35,7 +33,10 @@ returns-in_ok-add_line_end-in-LineEnd-clause-passed c = λ whole es h.
     c.add_line_end.new.at.counted es c.in_default-last.not-Joined made.counted (rw c.in-LineEnd.is at h))
 
 pub returns-in_ok-add_line_end-in-LineEnd-clause-mark : goal.returns-in_ok-add_line_end-in-LineEnd-clause-mark
-returns-in_ok-add_line_end-in-LineEnd-clause-mark c = grind (arith, common_steps)
+returns-in_ok-add_line_end-in-LineEnd-clause-mark c = λ h.
+    let made = c.in_ok-add_line_end-in-LineEnd.ensures in
+    marked-end c.args.entries.now.items _ c.args.at.now _ _ h made.entries
+    (ap (λ (s : PartState). s.start) made.at) made.mark
 
 pub returns-in_ok-add_line_end-in-LineEnd-clause-runs : goal.returns-in_ok-add_line_end-in-LineEnd-clause-runs
 returns-in_ok-add_line_end-in-LineEnd-clause-runs c =
@@ -74,7 +75,7 @@ returns-in_ok-add_item-in_default-clause-passed c = λ whole es h.
     passed-item c.args.source.now.lines whole c.args.entries.now.items _ c.args.at.now _ e es
     (solid e other.not-White other.not-LineEnd other.not-InnerLineEnd other.not-Join other.not-Fault) c.requires.no_head other.not-Run
     made.entries (ap (λ (s : PartState). s.last) made.at) (ap (λ (s : PartState). s.has_white) made.at)
-    (ap (λ (s : PartState). s.start) made.at) made.counted
+    (ap (λ (s : PartState). s.start) made.at) (ap (λ (s : PartState). s.turn) made.at) made.counted
     (rw (unfolded-one (texts_of c.args.source.now.lines) e other.not-Run) at h)
 
 pub returns-in_ok-add_item-in_default-clause-mark : goal.returns-in_ok-add_item-in_default-clause-mark

@@ -1,46 +1,11 @@
-use Rattle.std.proofs.Common.{◌+◌, sym, ◌∙◌, arith}
-use Rattle.tangle_text.proofs.RunPartLemmas.{run_size-over, run_size-end}
+use Rattle.std.proofs.Common.{false, sym, ◌∙◌}
+use Rattle.tangle_text.proofs.SeparatorLemmas.{separates-at, column-longest}
 use Rattle.tangle_text.proofs.runs.run_end.Goals as goal
 
-pub returns-then-not-goes_over-3-clause-end : goal.returns-then-not-goes_over-3-clause-end
-returns-then-not-goes_over-3-clause-end c =
+pub returns-else-is_separator-clause-end : goal.returns-else-is_separator-clause-end
+returns-else-is_separator-clause-end c =
     let bytes = c.args.bytes.now in
-    let end = c.loop-end.end in
-    let first = run_size-over bytes end (end + 1) (omega (arith, c.loop-end-test.true)) (omega arith)
-    (sym c.goes_over.ensures ∙ c.if-not-goes_over.false) in
-    let second = run_size-over bytes (end + 1) (end + 2) (omega (arith, c.loop-end-test.true)) (omega arith)
-    (sym c.goes_over-in-loop-end.ensures ∙ c.if-not-goes_over-2.false) in
-    let last = run_size-end bytes (end + 2) (omega (arith, c.loop-end-test.true))
-    (sym c.goes_over-in-loop-end-2.ensures ∙ c.if-not-goes_over-3.true) in
-    omega (arith, first, second, last, c.loop-end.invariant.same)
-
-pub returns-then-not-goes_over-4-clause-end : goal.returns-then-not-goes_over-4-clause-end
-returns-then-not-goes_over-4-clause-end c =
-    let bytes = c.args.bytes.now in
-    let end = c.loop-end.end in
-    let first = run_size-over bytes end (end + 1) (omega (arith, c.loop-end-test.true)) (omega arith)
-    (sym c.goes_over.ensures ∙ c.if-not-goes_over.false) in
-    let second = run_size-over bytes (end + 1) (end + 2) (omega (arith, c.loop-end-test.true)) (omega arith)
-    (sym c.goes_over-in-loop-end.ensures ∙ c.if-not-goes_over-2.false) in
-    let third = run_size-over bytes (end + 2) (end + 3) (omega (arith, c.loop-end-test.true)) (omega arith)
-    (sym c.goes_over-in-loop-end-2.ensures ∙ c.if-not-goes_over-3.false) in
-    let last = run_size-end bytes (end + 3) (omega (arith, c.loop-end-test.true))
-    (sym c.goes_over-in-loop-end-3.ensures ∙ c.if-not-goes_over-4.true) in
-    omega (arith, first, second, third, last, c.loop-end.invariant.same)
-
-pub loop-end-preserved : goal.loop-end-preserved
-loop-end-preserved c =
-    let bytes = c.args.bytes.now in
-    let end = c.loop-end.end in
-    let first = run_size-over bytes end (end + 1) (omega (arith, c.loop-end-test.true)) (omega arith)
-    (sym c.goes_over.ensures ∙ c.if-not-goes_over.false) in
-    let second = run_size-over bytes (end + 1) (end + 2) (omega (arith, c.loop-end-test.true)) (omega arith)
-    (sym c.goes_over-in-loop-end.ensures ∙ c.if-not-goes_over-2.false) in
-    let third = run_size-over bytes (end + 2) (end + 3) (omega (arith, c.loop-end-test.true)) (omega arith)
-    (sym c.goes_over-in-loop-end-2.ensures ∙ c.if-not-goes_over-3.false) in
-    let fourth = run_size-over bytes (end + 3) (end + 4) (omega (arith, c.loop-end-test.true)) (omega arith)
-    (sym c.goes_over-in-loop-end-3.ensures ∙ c.if-not-goes_over-4.false) in
-    record {
-      same = omega (arith, first, second, third, fourth, c.loop-end.invariant.same);
-      inside = omega (arith, c.loop-end-test.true);
-    }
+    let end = c.longest_run_end-end.result in
+    column-longest bytes c.args.from end c.longest_run_end-end.ensures.end
+    (separates-at bytes end c.byte_of.result c.byte_of-2.result false c.byte_of.ensures c.byte_of-2.ensures
+    (sym c.is_separator.ensures ∙ c.if-is_separator.false))

@@ -18,7 +18,7 @@ returns-in-Section-clause-builder c =
     on_ok_weaker c.add_section.result (λ added.
     ap (builder_read texts) added
     ∙ (ap (λ faults. record before { sections = before.sections + 1; faults = before.faults ++ faults })
-    (sym (faults-unfolded texts source.files source.lines tokens))
+    (sym (faults-unfolded source.files source.lines None tokens c.requires.runs))
     ∙ (section-gathered source before (unfolded texts tokens) (unfolded-no_head texts tokens c.requires.no_head)
     ∙ ap (λ head. builder_with source before (head ∷ unfolded texts tokens)) (sym c.in-Section.is))))
     c.add_section.ensures

@@ -1,13 +1,14 @@
 use Rattle.std.proofs.Common.{rules}
 use Rattle.std.proofs.Common.{◌||◌, ◌++◌, ◌∷◌, [], ◌∙◌, ap}
-use Rattle.std.specs.List.{list_any, flat_map}
+use Rattle.std.specs.List.{list_any}
+use Rattle.std.proofs.Common.{None}
 use Rattle.tangle_lines.specs.declared.origin.Origin.{Origin}
 use Rattle.tangle_lines.specs.Reading.{origin_at}
 use Rattle.tangle_lexer.specs.Runs.{unfolded}
 use Rattle.tangle_scan.specs.Entries.{StoredPiece}
 use Rattle.tangle_scan.specs.Rules.{texts_of, part_items}
-use Rattle.tangle_scan.specs.Web.{is_all_macros}
-use Rattle.tangle_scan.specs.WebBuilder.{StoredBuilder, WebBuilderRead, builder_read, own_fault}
+use Rattle.tangle_scan.specs.Web.{is_all_macros, token_faults}
+use Rattle.tangle_scan.specs.WebBuilder.{StoredBuilder, WebBuilderRead, builder_read}
 use Rattle.tangle_scan.proofs.lemmas.UnfoldedTokens.{all_macros-unfolded, faults-unfolded}
 use Rattle.tangle_scan.proofs.lemmas.StoredPieces.{piece-added}
 use Rattle.tangle_scan.proofs.web_builder.WebBuilder.add_piece.Goals as goal
@@ -39,14 +40,14 @@ returns-clause-piece c =
         items = items;
       } ∷ [];
       has_all_macros = g.has_all_macros || list_any is_all_macros (unfolded texts tokens);
-      faults = g.faults ++ flat_map (own_fault source.files lines) (unfolded texts tokens);
+      faults = g.faults ++ token_faults source.files lines None (unfolded texts tokens);
     } in
     rw (
       read,
       c.in_ok-entries.ensures.all_macros,
       ← (all_macros-unfolded texts tokens),
       c.in_ok-entries.ensures.faults,
-      ← (faults-unfolded texts source.files lines tokens),
+      ← (faults-unfolded source.files lines None tokens c.requires.runs),
     ) (ap added c.self.view_is)
 
 pub returns-clause-kept : goal.returns-clause-kept

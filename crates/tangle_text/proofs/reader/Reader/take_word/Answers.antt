@@ -1,11 +1,12 @@
-use Rattle.std.proofs.lemmas.Bool.Decides.{nat_tests}
-use Rattle.std.proofs.Common.{arith}
-use Rattle.tangle_text.proofs.AheadLemmas.{at-byte}
-use Rattle.tangle_text.proofs.RunLemmas.{word-run, count-run, rest_of-further}
+use Rattle.tangle_text.proofs.WordLemmas.{takes-word}
 use Rattle.tangle_text.proofs.reader.Reader.take_word.Goals as goal
 
 pub returns-clause-span : goal.returns-clause-span
-returns-clause-span c = grind (arith, nat_tests, at-byte, count-run, word-run)
+returns-clause-span c =
+    (takes-word c.self.inside c.args.self.now c.whole_word_end-end.result c.self.view_is c.requires
+    c.whole_word_end-end.ensures.end c.whole_word_end-end.ensures.inside).span
 
 pub returns-clause-ahead : goal.returns-clause-ahead
-returns-clause-ahead c = grind (arith, nat_tests, at-byte, count-run, word-run, rest_of-further)
+returns-clause-ahead c =
+    (takes-word c.self.inside c.args.self.now c.whole_word_end-end.result c.self.view_is c.requires
+    c.whole_word_end-end.ensures.end c.whole_word_end-end.ensures.inside).ahead

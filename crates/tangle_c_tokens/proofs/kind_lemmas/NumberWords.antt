@@ -1,0 +1,71 @@
+-- A word of a web that begins with a digit is one number, with apostrophes between its digits and letters.
+use Rattle.std.proofs.Common.{rules}
+use Rattle.std.proofs.Common.{arith}
+use Rattle.std.proofs.Common.{◌≡◌, ℕ, Bool, true, false, List, [], ◌∷◌, refl, ap}
+use Rattle.std.specs.Prelude.{◌&&◌, ◌||◌, ◌==◌, not}
+use Rattle.std.proofs.lemmas.Bool.{and_parts, and_from, or_left, or_right}
+use Rattle.std.specs.List.{list_all}
+use Rattle.c_tokens.specs.Bytes.{apostrophe, is_digit, is_word_byte, is_sign, is_exponent}
+use Rattle.c_tokens.specs.Grammar.{is_number_byte, signs_follow_exponents, begins_with_sign, apostrophes_separate, has_universal_names, is_number, begins_number}
+use Rattle.c_tokens.proofs.GrammarLemmas.{number-from}
+use Rattle.std.proofs.lemmas.Bool.Decides.{nat_tests}
+
+-- a byte of a word, or an apostrophe
+abbrev pub is_separated_byte : ℕ → Bool
+is_separated_byte b = is_word_byte b || b == apostrophe
+
+separated-bytes : (a : List ℕ) → list_all is_separated_byte a ≡ true → list_all is_number_byte a ≡ true
+separated-bytes [] h = refl
+separated-bytes (b ∷ a) h = grind (arith, nat_tests, separated-bytes a)
+
+separated-unsigned : (b : ℕ) → is_separated_byte b ≡ true → not (is_sign b) ≡ true
+separated-unsigned b h = grind (arith, nat_tests)
+
+separated-signs : (a : List ℕ) → list_all is_separated_byte a ≡ true → signs_follow_exponents a ≡ true
+separated-signs [] h = refl
+separated-signs (b ∷ []) h = refl
+separated-signs (b ∷ c ∷ a) h =
+    let rest = (and_parts (is_separated_byte b) (list_all is_separated_byte (c ∷ a)) h).1 in
+    let first = (and_parts (is_separated_byte c) (list_all is_separated_byte a) rest).0 in
+    and_from (is_exponent b || not (is_sign c)) (signs_follow_exponents (c ∷ a))
+    (or_right (is_exponent b) (not (is_sign c)) (separated-unsigned c first)) (separated-signs (c ∷ a) rest)
+
+separated-names : (a : List ℕ) → list_all is_separated_byte a ≡ true → has_universal_names a ≡ true
+separated-names [] h = refl
+separated-names (b ∷ a) h = grind (arith, nat_tests, separated-names a)
+
+digit-begins : (b : ℕ) (a : List ℕ) → is_digit b ≡ true → begins_number (b ∷ a) ≡ true
+digit-begins b [] h = h
+digit-begins b (c ∷ a) h = grind (arith, nat_tests)
+
+pub separated-number : (b : ℕ) (a : List ℕ) → is_digit b ≡ true → list_all is_separated_byte (b ∷ a) ≡ true →
+    apostrophes_separate (b ∷ a) ≡ true → is_number (b ∷ a) ≡ true
+separated-number b a digit all separate =
+    number-from (b ∷ a) (digit-begins b a digit) (separated-bytes (b ∷ a) all) (separated-signs (b ∷ a) all) separate
+    (separated-names (b ∷ a) all)
+
+-- a word has no apostrophes
+
+pub word-separated : (a : List ℕ) → list_all is_word_byte a ≡ true → list_all is_separated_byte a ≡ true
+word-separated [] h = refl
+word-separated (b ∷ a) h = grind (arith, nat_tests, word-separated a)
+
+word-unquoted : (b : ℕ) → is_word_byte b ≡ true → (b == apostrophe) ≡ false
+word-unquoted b h = grind (arith, nat_tests)
+
+-- an apostrophe before a byte of a word separates, if what follows goes on as a number of a word does
+pub separates-more : (c : ℕ) (a : List ℕ) → is_word_byte c ≡ true → list_all is_separated_byte a ≡ true →
+    apostrophes_separate (c ∷ a) ≡ true → apostrophes_separate (apostrophe ∷ c ∷ a) ≡ true
+separates-more c [] word all h = search (rules, and_from, or_right)
+separates-more c (d ∷ a) word all h =
+    let unsigned = separated-unsigned d (and_parts (is_separated_byte d) (list_all is_separated_byte a) all).0 in
+    and_from (not (apostrophe == apostrophe) || is_word_byte c && not (is_sign d)) (apostrophes_separate (c ∷ d ∷ a))
+    (and_from (is_word_byte c) (not (is_sign d)) word unsigned) h
+
+-- a byte of a word before what goes on as a number of a word does
+pub separates-word : (b : ℕ) (a : List ℕ) → is_word_byte b ≡ true → apostrophes_separate a ≡ true →
+    apostrophes_separate (b ∷ a) ≡ true
+separates-word b [] word h = ap not (word-unquoted b word)
+separates-word b (c ∷ a) word h =
+    and_from (not (b == apostrophe) || is_word_byte c && not (begins_with_sign a)) (apostrophes_separate (c ∷ a))
+    (or_left (not (b == apostrophe)) (is_word_byte c && not (begins_with_sign a)) (ap not (word-unquoted b word))) h

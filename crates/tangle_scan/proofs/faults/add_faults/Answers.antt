@@ -1,0 +1,23 @@
+use Rattle.std.proofs.lemmas.Bool.Decides.{nat_tests}
+use Rattle.std.proofs.Common.{arith, append_assoc}
+use Rattle.tangle_lexer.specs.Runs.{IsRunIn}
+use Rattle.tangle_lexer.specs.declared.tokens.Token.TheVariants as token
+use Rattle.tangle_scan.specs.Rules.{texts_of}
+use Rattle.tangle_scan.specs.Web.{word_at_end}
+use Rattle.tangle_scan.proofs.lemmas.RestLemmas.{faults-step, all-rest}
+use Rattle.tangle_scan.proofs.faults.add_faults.Goals as goal
+
+pub loop-left-preserved : goal.loop-left-preserved
+loop-left-preserved c =
+    let source = c.args.source.now in
+    let texts = texts_of source.lines in
+    let left = c.loop-left.left.now in
+    let runs = c.loop-left.invariant.runs in
+    grind (
+      arith,
+      nat_tests,
+      append_assoc,
+      faults-step source.files source.lines (word_at_end texts c.loop-left.before) left (omega arith),
+      all-rest (IsRunIn texts) left (omega arith) runs,
+      runs 0 token.Section (omega arith),
+    )

@@ -1,0 +1,197 @@
+//! Raw strings of C++. CWEB has none: it reads each as a quoted text, which may end elsewhere.
+ghost use Rattle.std.specs.Prelude.{◌≡◌, ◌≤◌, ◌++◌, length, true, None, OnOk};
+ghost use Rattle.std.specs.List.{list_all, prefix_len};
+ghost use Rattle.tangle_text.specs.Runs.{run_parts};
+ghost use Rattle.tangle_text.specs.Text.{IsSpan};
+ghost use Rattle.tangle_lexer.specs.Runs.{IsRunIn};
+ghost use Rattle.tangle_scan.specs.RawStrings as raw;
+ghost use Rattle.tangle_scan.specs.Rules.{texts_of};
+ghost use Rattle.tangle_scan.specs.Web as web;
+
+use crate::faults::add_fault;
+use crate::touching::{bytes_from, first_byte, source_byte, span_bytes};
+use crate::views::parts_of_run;
+use std::alloc::Global;
+use tangle_lexer::{SpanKind, Token};
+use tangle_lines::{Fault, FaultKind, NoMemory, Source};
+use tangle_text::{Region, RunPart, Span, Unit, is_white, unit_of};
+
+/// Whether a word makes a raw string of the quoted text directly after it.
+fn is_raw_prefix(word: &[u8]) -> bool
+    ensures { result ≡ raw.is_raw_prefix word.now }
+{
+    word == b"R".as_slice()
+        || word == b"LR".as_slice()
+        || word == b"uR".as_slice()
+        || word == b"UR".as_slice()
+        || word == b"u8R".as_slice()
+}
+
+/// The number of bytes of a quoted text from here on to its closing byte or to the end of the line,
+/// which a backslash at that end goes past.
+#[tactic(auto, using(crate::proofs::lemmas::RawLemmas::size_step))]
+fn quoted_size(bytes: &[u8]) -> usize
+    ensures { result ≡ raw.quoted_size bytes.now }
+{
+    let mut end = 0;
+    while end < bytes.len() {
+        let next = bytes.get(end + 1).copied();
+        match unit_of(Region::DoubleQuote, Some(bytes[end]), next) {
+            Unit::Stop => return end,
+            Unit::One => end += 1,
+            Unit::Two => end += 2,
+        }
+    }
+    end
+}
+
+/// Whether a byte may be in the delimiter of a raw string.
+fn is_in_delimiter(byte: u8) -> bool
+    ensures { result ≡ raw.is_in_delimiter byte }
+{
+    !(is_white(byte) || byte == b')' || byte == b'\\')
+}
+
+/// Whether these bytes may be the delimiter of a raw string, if they are not too many.
+fn is_delimiter(bytes: &[u8]) -> bool
+    ensures { result ≡ list_all raw.is_in_delimiter bytes.now }
+{
+    let mut left = bytes;
+    while let [byte, rest @ ..] = left {
+        if !is_in_delimiter(*byte) {
+            return false;
+        }
+        left = rest;
+    }
+    true
+}
+
+/// The number of bytes before the first opening parenthesis.
+fn size_before_parenthesis(bytes: &[u8]) -> usize
+    ensures size { result ≡ prefix_len raw.is_before_parenthesis bytes.now }
+    ensures inside { result ≤ length bytes.now }
+{
+    let mut end = 0;
+    while end < bytes.len() && bytes[end] != b'(' {
+        end += 1;
+    }
+    end
+}
+
+/// Whether these bytes, which are between two quotes, are as those of a raw string.
+fn is_delimited(bytes: &[u8]) -> bool
+    ensures { result ≡ raw.is_delimited bytes.now }
+{
+    let size = size_before_parenthesis(bytes);
+    if size > 16 || bytes.len() < 2 * size + 2 {
+        return false;
+    }
+    let end = bytes.len() - size;
+    if bytes[end - 1] != b')' {
+        return false;
+    }
+    is_delimiter(&bytes[..size]) && &bytes[end..] == &bytes[..size]
+}
+
+/// Whether the raw string whose opening quote is before these bytes ends where C++ ends it.
+fn is_whole(bytes: &[u8]) -> bool
+    ensures { result ≡ raw.is_whole bytes.now }
+{
+    let size = quoted_size(bytes);
+    bytes.get(size).copied() == Some(b'"') && is_delimited(&bytes[..size])
+}
+
+/// Whether a double quote begins a quoted text directly after an R, as in a raw string.
+#[inline(always)]
+fn follows_r(source: &Source, quoted: Span) -> bool
+    ensures { result ≡ raw.follows_r (texts_of source.now.lines) quoted }
+{
+    let column = (quoted.start as usize).saturating_sub(1);
+    first_byte(source, quoted) == b'"' && source_byte(source, quoted.line, column) == b'R'
+}
+
+/// Whether a quoted text that follows an R is a raw string that is not whole, if this word is before
+/// it.
+fn is_cut(source: &Source, word: Span, quoted: Span) -> bool
+    requires { raw.follows_r (texts_of source.now.lines) quoted ≡ true }
+    ensures { result ≡ raw.is_cut (texts_of source.now.lines) word quoted }
+{
+    if word.line != quoted.line || word.end != quoted.start {
+        return false;
+    }
+    if !is_raw_prefix(span_bytes(source, word)) {
+        return false;
+    }
+    !is_whole(bytes_from(source, quoted.line, quoted.start as usize + 1))
+}
+
+/// The last part of a run, if it is a word.
+fn last_word(source: &Source, run: Span) -> Option<Span>
+    requires { IsSpan (texts_of source.now.lines) run }
+    ensures { result ≡ web.last_word None (run_parts (texts_of source.now.lines) run) }
+{
+    let mut parts = parts_of_run(source, run);
+    let mut word = None;
+    while let Some(part) = parts.next() {
+        word = match part {
+            RunPart::Word(span) => Some(span),
+            _ => None,
+        };
+    }
+    word
+}
+
+/// The word with which a token ends, if it ends with one.
+fn word_at_end(source: &Source, token: Token) -> Option<Span>
+    requires { IsRunIn (texts_of source.now.lines) token }
+    ensures { result ≡ web.word_at_end (texts_of source.now.lines) token }
+{
+    match token {
+        Token::Span(SpanKind::Word, span) => Some(span),
+        Token::Run(span) => last_word(source, span),
+        _ => None,
+    }
+}
+
+/// The quoted text that begins with these tokens, or its first part; its own faults may be before it.
+#[inline(always)]
+fn quoted_ahead(tokens: &[Token]) -> Option<Span>
+    ensures { result ≡ web.quoted_ahead tokens.now }
+{
+    let mut left = tokens;
+    while let [token, rest @ ..] = left {
+        match *token {
+            Token::Span(SpanKind::Quoted, quoted) => return Some(quoted),
+            Token::Fault(..) => left = rest,
+            _ => return None,
+        }
+    }
+    None
+}
+
+/// Adds the fault of the quoted text that begins with these tokens, if it is a raw string that is not
+/// whole. `before` is the token before them.
+#[inline(always)]
+pub(crate) fn add_raw_fault(
+    alloc: Global,
+    source: &Source,
+    faults: &mut Vec<Fault>,
+    before: Token,
+    tokens: &[Token],
+) -> Result<(), NoMemory>
+    requires { IsRunIn (texts_of source.now.lines) before }
+    ensures { OnOk result (faults.new.items ≡ faults.old.items
+        ++ web.raw_fault source.now.files source.now.lines
+        (web.word_at_end (texts_of source.now.lines) before) (web.quoted_ahead tokens.now)) }
+{
+    if let Some(quoted) = quoted_ahead(tokens) {
+        if follows_r(source, quoted) {
+            if let Some(word) = word_at_end(source, before) {
+                if is_cut(source, word, quoted) {
+                    add_fault(alloc, source, faults, FaultKind::RawString, quoted.line)?;
+                }
+            }
+        }
+    }
+    Ok(())
+}

@@ -1,0 +1,129 @@
+//! Turns: lines of C that turn or end a group of lines, which a compiler may leave out.
+ghost use Rattle.std.specs.Prelude.{◌≡◌};
+ghost use Rattle.tangle_lexer.specs.Runs.{IsRunOf};
+ghost use Rattle.tangle_text.specs.Runs.{run_parts};
+ghost use Rattle.tangle_scan.specs.Directives as directives;
+ghost use Rattle.tangle_scan.specs.Passes as passes;
+ghost use Rattle.tangle_scan.specs.Rules.{texts_of};
+
+use crate::items::Item;
+use crate::parts::item_of;
+use crate::touching::{first_byte, span_bytes};
+use crate::views::{item_of_part, parts_of_run};
+use tangle_lexer::Token;
+use tangle_lines::Source;
+use tangle_text::Span;
+
+/// How much of a turn is on a line of C.
+#[derive(Clone, Copy)]
+pub(crate) enum Turn {
+    /// No item.
+    NoItem,
+    /// The sign `#`.
+    NumberSign,
+    /// The sign `#` and a word that turns or ends a group: the line is a turn.
+    Whole,
+    /// Other items: the line is no turn.
+    Other,
+}
+
+/// Whether the line is a turn.
+#[inline(always)]
+pub(crate) fn is_whole(at: Turn) -> bool
+    ensures { result ≡ passes.is_whole at }
+{
+    matches!(at, Turn::Whole)
+}
+
+/// Whether a word, directly after the sign `#` of a directive, turns or ends a group.
+fn is_turn_word(word: &[u8]) -> bool
+    ensures { result ≡ directives.is_turn_word word.now }
+{
+    word == b"else".as_slice()
+        || word == b"elif".as_slice()
+        || word == b"endif".as_slice()
+        || word == b"elifdef".as_slice()
+        || word == b"elifndef".as_slice()
+}
+
+fn is_number_sign(source: &Source, item: Item) -> bool
+    ensures { result ≡ passes.is_number_sign (texts_of source.now.lines) item }
+{
+    match item {
+        Item::Sign(span) => first_byte(source, span) == b'#',
+        _ => false,
+    }
+}
+
+fn is_turn_item(source: &Source, item: Item) -> bool
+    ensures { result ≡ passes.is_turn_item (texts_of source.now.lines) item }
+{
+    match item {
+        Item::Word(span) => is_turn_word(span_bytes(source, span)),
+        _ => false,
+    }
+}
+
+/// How much of a turn is on the line after one more item, which is no white space, or after none.
+#[inline(always)]
+fn turn_after_item(source: &Source, at: Turn, item: Option<Item>) -> Turn
+    ensures { result ≡ passes.turn_after_item (texts_of source.now.lines) at item }
+{
+    match (at, item) {
+        (Turn::NoItem, Some(item)) if is_number_sign(source, item) => Turn::NumberSign,
+        (Turn::NumberSign, Some(item)) if is_turn_item(source, item) => Turn::Whole,
+        (Turn::NoItem | Turn::NumberSign, Some(_)) => Turn::Other,
+        _ => at,
+    }
+}
+
+/// How much of a turn is on the line after a token that is no line end. After a use or `@h` a line
+/// of C begins.
+#[inline(always)]
+pub(crate) fn turn_after(source: &Source, at: Turn, token: Token) -> Turn
+    ensures { result ≡ passes.turn_after (texts_of source.now.lines) at token }
+{
+    match token {
+        Token::UseOf(..) | Token::AllMacros(_) => Turn::NoItem,
+        _ => turn_after_item(source, at, item_of(token)),
+    }
+}
+
+/// How much of a turn is on the line after a run, which does not begin with the sign `#`.
+#[inline(always)]
+pub(crate) fn turn_after_run(source: &Source, at: Turn, span: Span) -> Turn
+    requires { IsRunOf (texts_of source.now.lines) span }
+    ensures { result ≡ passes.turn_after_run (texts_of source.now.lines) at span }
+{
+    match at {
+        Turn::NoItem => Turn::Other,
+        Turn::NumberSign if begins_turn(source, span) => Turn::Whole,
+        Turn::NumberSign => Turn::Other,
+        at => at,
+    }
+}
+
+/// Whether the first part of a run is a word that turns or ends a group.
+fn begins_turn(source: &Source, span: Span) -> bool
+    requires { IsRunOf (texts_of source.now.lines) span }
+    ensures { result ≡ passes.parts_begin_turn (texts_of source.now.lines)
+        (run_parts (texts_of source.now.lines) span) }
+{
+    match parts_of_run(source, span).next() {
+        Some(part) => is_turn_item(source, item_of_part(part)),
+        None => false,
+    }
+}
+
+/// How much of a turn is on the line after the end of a source line. A line of C begins there, unless
+/// the source line is continued or is the last one.
+#[inline(always)]
+pub(crate) fn turn_after_line_end(source: &Source, is_continued: bool, line: u32, at: Turn) -> Turn
+    ensures { result ≡ passes.turn_after_line_end source.now.lines is_continued line at }
+{
+    if is_continued || line as usize + 1 >= source.count() {
+        at
+    } else {
+        Turn::NoItem
+    }
+}

@@ -1,0 +1,7 @@
+@x
+x
+x
+@y
+@i z.w
+@i no.w
+@z

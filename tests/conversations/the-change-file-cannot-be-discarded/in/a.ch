@@ -1,0 +1,5 @@
+@x
+int x;
+@y
+int z;
+@z
