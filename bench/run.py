@@ -2,7 +2,7 @@
 passes or fails nothing.
 
 usage: bench/run.py CTANGLE RETANGLE [PART..]
-parts: cutting, reading, scanning, names, whole, files, session, edits, marks, lists
+parts: cutting, reading, scanning, names, whole, kinds, files, session, edits, marks, lists
 
 Where WEBS names a folder, whole runs over each web in it are measured too. Another ctangle on the
 path is measured beside ours, in turn with it. Seconds are those of the processor, the least of
@@ -30,6 +30,7 @@ import tempfile
 
 import webs
 from dense import dense_webs
+from kinds import KINDS, Kind
 from measuring import HERE, RUNS, UNREPORTED, Bench, Command, lines_of, own_instructions
 
 DROPPED = '...'             # after the names of parts: they are abbreviations of none
@@ -232,6 +233,22 @@ def compare_table(title, rows):
                   'of it', 'ratio', 'required of instructions, at most'], rows)
 
 
+def bench_kinds(bench):
+    """Webs of one kind of line each, beside another ctangle on the path."""
+    other = shutil.which('ctangle')
+    rows = []
+    for title in KINDS:
+        web = generated(bench, title.replace('_', ' '), Kind(title, 5000).lines())
+        ours, *theirs = bench.whole(web, [bench.program] + ([other] if other else []))
+        held = (ours.kilobytes - bench.least) * 1024 / web.size
+        beside = [ratio(ours.instructions, it.instructions) if it.is_whole() else None
+                  for it in theirs]
+        rows.append([web.title, per(ours.instructions, web.lines, 1000), held] +
+                    (beside or ['no ctangle']))
+    table('Webs of 5,000 lines of one kind each',
+          ['', 'instructions per 1,000 lines', 'memory per byte', 'to CTANGLE'], rows)
+
+
 def bench_files(bench):
     """Webs of many output files, beside another ctangle on the path."""
     other = shutil.which('ctangle')
@@ -410,8 +427,8 @@ def as_list(edits):
 
 
 PARTS = {'cutting': bench_cutting, 'reading': bench_reading, 'scanning': bench_scanning,
-         'names': bench_names, 'whole': bench_whole, 'files': bench_files, 'session': bench_session,
-         'edits': bench_edits, 'marks': bench_marks, 'lists': bench_lists}
+         'names': bench_names, 'whole': bench_whole, 'kinds': bench_kinds, 'files': bench_files,
+         'session': bench_session, 'edits': bench_edits, 'marks': bench_marks, 'lists': bench_lists}
 
 
 def main():

@@ -1,4 +1,4 @@
-#!/usr/bin/env python3
+#!/usr/bin/env -S python3 -B
 """Compares the definitions of expansions with the reference: writes a crate of lemmas, one for each generated web, each of
 which says by computing alone what the depths, weights and bytes of the web's nodes and its output files are.
 

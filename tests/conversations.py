@@ -3,8 +3,8 @@ scripts.
 
 usage: conversations.py PROGRAM TOP        TOP is the folder of the repository
 
-In a conversation each command is sent when the command before it is answered, through two pipes. The last line is
-'N passed, M failed'.
+In a conversation each command is sent when the command before it is answered, through two pipes.
+The last line is 'N passed, M failed'.
 """
 import os
 import resource
@@ -299,15 +299,48 @@ def test_full_disk():
 
 # ------------------------------------------------------------------ arguments and loading
 
+# What is written on standard error about arguments. docs/retangle.1 says what the options mean.
+HELP = b"""\
+Tangles a CWEB web, and again after each edit that standard input asks for
+
+Usage: retangle [OPTIONS] <WEB>
+
+Arguments:
+  <WEB>  The web
+
+Options:
+      --change <FILE>  The change file; - means none
+      --out <FILE>     The main file; without it the web's name with .c
+  -h, --help           Print help
+  -V, --version        Print version
+"""
+VERSION = b'retangle 1.0\n'
+USAGE = b'\nUsage: retangle [OPTIONS] <WEB>\n'
+MORE = b"\nFor more information, try '--help'.\n"
+NO_WEB = b'error: the following required arguments were not provided:\n  <WEB>\n'
+UNEXPECTED = b"error: unexpected argument '%s' found\n"
+TIP = b"\n  tip: to pass '%s' as a value, use '-- %s'\n"
+
+ABOUT_ARGUMENTS = [
+    (['--help'], HELP), (['-h'], HELP), (['a', '--help'], HELP),
+    (['--version'], VERSION), (['-V'], VERSION),
+    (['a', 'b'], UNEXPECTED % b'b' + USAGE + MORE),
+    (['--nothing'], UNEXPECTED % b'--nothing' + TIP % (2 * (b'--nothing',)) + USAGE + MORE),
+    (['-x', 'a'], UNEXPECTED % b'-x' + TIP % (2 * (b'-x',)) + USAGE + MORE),
+    (['a', '--out'],
+     b"error: a value is required for '--out <FILE>' but none was supplied\n" + MORE),
+    (['a', '--change', 'b', '--change', 'b'],
+     b"error: the argument '--change <FILE>' cannot be used multiple times\n" + USAGE + MORE),
+    ([], NO_WEB + b'\nUsage: retangle <WEB>\n' + MORE),
+    ([b'\xff'], NO_WEB + b'\nUsage: retangle <WEB>\n' + MORE),
+    (['--change', 'b'], NO_WEB + b'\nUsage: retangle --change <FILE> <WEB>\n' + MORE),
+]
+
+
 def test_arguments():
-    for arguments, part in (([], b'<WEB>'), (['a', 'b'], b"'b'"), (['a', '--out'], b'--out <FILE>'),
-                            (['--change', 'b'], b'<WEB>'), (['a', '--nothing'], b'--nothing'),
-                            ([b'\xff'], b'<WEB>'),
-                            (['--help'], b'Usage: retangle [OPTIONS] <WEB>'),
-                            (['--version'], b'retangle 1.0'), (['-V'], b'retangle 1.0')):
-        written, status, errors = run_script(Project({'a.w': WEB}), arguments, b'work\n')
-        check((written, status) == (b'', 2) and part in errors, 'arguments',
-              '%r: %r, status %d' % (arguments, errors, status))
+    for arguments, said in ABOUT_ARGUMENTS:
+        ended = run_script(Project({'a.w': WEB}), arguments, b'work\n')
+        check(ended == (b'', 2, said), 'arguments', '%r: %r' % (arguments, ended))
     too_long = 'x' * 254
     for arguments, files, line in ((['none'], {}, b'cannot read none.w'),
                                    (['a', '--change', 'b'], {'a.w': WEB}, b'cannot read b.ch'),

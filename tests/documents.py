@@ -6,8 +6,9 @@ usage: documents.py [FOLDER]      the folder of the repository
   planted in a copy of these change it. Each page of docs/ that leads to it has a part there. It has
   just the files of specs/ on which clauses of public functions rest, and each kind of fault.
 - docs/faults.md: the kinds of faults, their messages and levels are those of the code.
-- docs/words.md: each name of the code is in the crate beside it. No word that these replaced is in
-  the sources, the definitions, the proofs or the documents, and no phrase of STIFF in a page.
+- docs/words.md: each name of the code is in the crate beside it. The names of types are made of its
+  words and of PLAIN. No word that these replaced is in the sources, the definitions, the proofs or
+  the documents, and no phrase of STIFF in a page.
 - docs/DECISIONS.md: each crate exports what the table of the surface says, and besides only laws.
 - docs/promises.md: the page has each crate below those that it uses. Each public call has a
   comment, and a clause unless the page says that it has none.
@@ -17,6 +18,7 @@ usage: documents.py [FOLDER]      the folder of the repository
 - docs/sessions.md: the reference gives the answers of its conversation; each line of a script is in
   its table and in docs/retangle.1.
 - Every page: what its links lead to is there, headings too, and so is each path that it has in code.
+  A path before other words is that of a command.
   docs/README.md names each page of docs/. README.md and PROOFS.md are short.
 - The manual pages, CHANGELOG.md and `retangle --version` have the same version, and the manual pages
   the date of CHANGELOG.md.
@@ -48,6 +50,13 @@ CODED = re.compile(r'`([^`]+)`')
 REPLACED = re.compile(
     r'\b(?:told|tells?|wanted|wants|talk|put\s+out|hands\s+on|handed\s+on|handed\s+over|Ground|Tangled|byte_count|Spot|'
     r'RoleNames|ItemCode|NodeText|Placed|is_extended|name_after_mark|PutsOut|Telling|behind(?!\s+an\s+`Rc`))\b')
+
+# Words of plain English, of Rust and of C in the names of types.
+PLAIN = set(
+    'after arguments asked bodies buffer buffers builder built by counts created discarding disk '
+    'ended equals failed found graph growing include io left list load last matched memory next no '
+    'notes old one resolved rest retangle search shared slice start state stuck unwritten values '
+    'write'.split())
 
 # Phrases that a reader has to read twice, and that plain sentences replaced.
 STIFF = re.compile('|'.join(phrase.replace(' ', r'\s+') for phrase in (
@@ -244,6 +253,22 @@ def check_words(top, crates):
             check(found, 'docs/words.md', '%s is not in %s' % (name, row[2].strip(' `')))
 
 
+def check_types(top, crates):
+    """Each word in the name of a type is in the first or the fourth column of docs/words.md, or in
+    PLAIN."""
+    page = page_in(top, 'docs/words.md')
+    rows = re.findall(r'^\|([^|]*)\|[^|]*\|[^|]*\|([^|]*)\|', page, re.M)
+    known = {word.lower() for row in rows for cell in row
+             for word in re.findall('[A-Z]?[a-z]+|[A-Z]+', cell)}
+    for crate, here in crates.items():
+        for name in re.findall(r'^(?:pub(?:\(crate\))? )?(?:struct|enum|trait) (\w+)', here.whole,
+                               re.M):
+            for word in re.findall('[A-Z][a-z]*', name):
+                forms = {word.lower(), word.lower() + 's', word.lower().rstrip('s')}
+                check(forms & (known | PLAIN), 'docs/words.md',
+                      'no %s, as in %s of %s' % (word, name, crate))
+
+
 def check_replaced_words(top):
     """None of REPLACED is in the sources, the definitions, the proofs or the documents."""
     folders = [os.path.join('crates', crate, part) for crate in sorted(os.listdir(os.path.join(top, 'crates')))
@@ -291,6 +316,8 @@ def check_links(top):
         for path in re.findall(r'`((?:%s)/[^`\s]*)' % '|'.join(FOLDERS), text):
             found = glob.glob(os.path.join(top, re.sub('[A-Z]{4,}', '*', path)))
             check(found, page, '%s is not there' % path)
+        for path in re.findall(r'`(tests/[\w.]+) [^`]*`', text):
+            check(os.access(os.path.join(top, path), os.X_OK), page, '%s is no command' % path)
     listed = page_in(top, 'docs/README.md')
     for name in sorted(os.listdir(os.path.join(top, 'docs'))):
         check(name == 'README.md' or '](%s' % name in listed, 'docs/README.md', 'docs/%s is not in it' % name)
@@ -581,6 +608,7 @@ def main():
     check_conversation(top)
     check_commands(crates, top)
     check_words(top, crates)
+    check_types(top, crates)
     check_replaced_words(top)
     check_links(top)
     check_lengths(top)

@@ -1,3 +1,4 @@
+#!/usr/bin/env -S python3 -B
 """An editor's side of a conversation with retangle-lsp over pipes.
 
 usage: lsp_client.py WEB [CHANGES]

@@ -1,3 +1,4 @@
+#!/usr/bin/env -S python3 -B
 """Finds shorter proofs of a crate's lemmas and answers, and writes them in place of the longer.
 
 usage: tests/shorter_proofs.py CRATE [FILE..]

@@ -1,3 +1,4 @@
+#!/usr/bin/env -S python3 -B
 """Where a reference tangler first gives something else than a stored case, conversation or listing says.
 
 usage: stored.py REFERENCE TOP      REFERENCE is tests/reference or a copy of it, TOP the folder of the repository

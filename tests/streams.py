@@ -8,6 +8,7 @@ the failure, and what a run had written, is what the reference gives.
 The last line is 'N passed, M failed'.
 """
 import os
+import socket
 import subprocess
 import sys
 import tempfile
@@ -257,6 +258,19 @@ def test_failing_errors():
     cases.compare()
 
 
+def test_faults_at_once():
+    """The lines of the faults are one write, since each takes time. A packet is one write."""
+    web = b'@ A.\n@c\n' + b''.join(b'@<n%d@>\n' % at for at in range(100))
+    files = {**PROJECT, 'a.w': web}
+    ours, theirs = socket.socketpair(socket.AF_UNIX, socket.SOCK_SEQPACKET)
+    with folder_with(files) as folder:
+        subprocess.run([ctangle] + ARGUMENTS, cwd=folder, stderr=theirs, timeout=SECONDS)
+    theirs.close()
+    written = list(iter(lambda: ours.recv(1 << 20), b''))
+    ours.close()
+    same(written, [tangled(files)[1]], 'faults at once')
+
+
 def closed_pipe():
     """The end to write to of a pipe that nobody reads."""
     reader, writer = os.pipe()
@@ -282,7 +296,8 @@ def test_closed_pipes():
 def main():
     return run_all((test_failing_readers, test_unended_commands, test_chunks, test_failing_writers,
                     test_longest_scripts, test_longest_texts, test_names_asked, test_failing_files,
-                    test_failing_outputs, test_failing_errors, test_closed_pipes))
+                    test_failing_outputs, test_failing_errors, test_faults_at_once,
+                    test_closed_pipes))
 
 
 if __name__ == '__main__':

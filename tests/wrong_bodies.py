@@ -1,3 +1,4 @@
+#!/usr/bin/env -S python3 -B
 """Tries the wrong bodies in tests/wrong-bodies, which the gate leaves out for their time: the
 prover has to refuse each.
 
@@ -6,6 +7,11 @@ usage: tests/wrong_bodies.py [--twins] [CRATE..]
 One check of a crate tries many, of each function one: a function is checked against its own clauses
 and those of what it calls, whatever the bodies of the other functions are. What is no body, such as
 a clause of an `impl`, is tried alone.
+
+An edit is refused by the verdict of the function that it changes: `not proved`, or `no proof` of a
+goal. It is not refused where that function is proved, whatever else is not, nor where its proof
+files name what is gone: a goal, a step or a call of the code before. Then only the form of the edit
+would be refused, and it needs another one.
 
 With --twins it tries the right bodies in tests/right-bodies instead: each has to be proved.
 
@@ -25,26 +31,40 @@ from checks import check, finish
 
 TOP = os.path.dirname(os.path.dirname(os.path.abspath(__file__)))
 FUNCTION = re.compile(r'( *)(?:pub(?:\([a-z]+\))? )?fn (\w+)')
-IMPL = re.compile(r'impl\b(?:<[^{]*?>)? (?:[^{]* for )?(\w+)')
+IMPL = re.compile(r'impl\b(?:<[^{]*?>)? (?:(\w+)(?:<(\w+))?[^{]* for )?(\w+)')
 IN_SOURCE = re.compile(r'(?:so far: )?(?:note: )?(?:\./)?(src/[\w/]+\.rt):(\d+):\d+: ')
-IN_PROOF = re.compile(r'(?:so far: )?(?:\./)?proofs/([\w/+-]+)/\w+\.antt:\d+:\d+: error')
-# The prover makes no goals of such a function, so its refusal says nothing of what the body does.
-WITHOUT_GOALS = re.compile(r'fn \S+: no proof: (?!it calls|expected answers)')
+IN_PROOF = re.compile(r'(?:so far: )?(?:\./)?proofs/([\w/+-]+)\.antt:\d+:\d+: error')
+VERDICT = re.compile(r'fn ([\w:]+): (proved|not proved|no proof)(?:: (.*))?')
+# A line of an error after its first.
+CONTINUED = re.compile(r'\n(?:so far: )? {2,}')
+# What the prover says of names in a proof that mean nothing any more.
+GONE = re.compile(r' has no field `| that can be named from here| not in scope|unbound name')
+LONGEST = 400           # bytes of a line that is shown
+IS_FALSE = 'the facts known there allow values at which this goal is false'
 
-# A function of a file, with its first and its last line, counted from 0. `folder` is where its
-# proof files are, below proofs/.
-Function = namedtuple('Function', 'file name folder first last')
+# A function of a file, with its first and its last line, counted from 0. It is named as the prover
+# names it: by its type, with the trait if it is of one, as `RefusalFromNoMemory::from`, or else by
+# its module.
+Function = namedtuple('Function', 'file name first last')
 # Lines that an edit takes out of a file, and the lines that it puts in their place.
 Change = namedtuple('Change', 'file first last lines')
+# What an edit changes: `functions` has the names of functions, and None where it is no function.
 Edit = namedtuple('Edit', 'name changes functions')
+
+# What becomes of an edit that is tried.
+REFUSED, PROVED, OF_FORM, ELSEWHERE, UNREACHED = (
+    'refused', 'proved', 'a name in the proof is gone', 'not at the function that is edited',
+    'it did not reach the prover')
+Tried = namedtuple('Tried', 'edit result line')
 
 
 def functions_of(file, text):
     """The functions of a source file."""
-    lines, found, owner = text.split('\n'), [], None
+    lines, found, owner = text.split('\n'), [], ''
+    module = file[len('src/'):-len('.rt')]
     for number, line in enumerate(lines):
         impl = IMPL.match(line)
-        owner = impl.group(1) if impl else owner
+        owner = ''.join(part or '' for part in impl.group(3, 1, 2)) if impl else owner
         start = FUNCTION.match(line)
         if not start:
             continue
@@ -55,9 +75,13 @@ def functions_of(file, text):
         first = number
         while lines[first - 1].lstrip().startswith(('#[', '//')):
             first -= 1
-        parts = [file[len('src/'):-len('.rt')]] + ([owner] if indent and owner else []) + [name]
-        found.append(Function(file, name, '/'.join(parts), first, last))
+        found.append(Function(file, name_of((owner if indent else module, name)), first, last))
     return found
+
+
+def name_of(path):
+    """How a function is named here, by the last parts of its path."""
+    return '::'.join(part for part in path[-2:] if part not in ('lib', 'main') or part is path[-1])
 
 
 def read_texts(path, crate):
@@ -93,7 +117,7 @@ def read_edit(path, crate):
             if tag == 'equal':
                 continue
             changes.append(Change(file, first, last, new[a:b]))
-            inside = [it.folder for it in here if it.first <= max(first, last - 1) <= it.last]
+            inside = [it.name for it in here if it.first <= max(first, last - 1) <= it.last]
             functions.update(inside or [None])
     return Edit(os.path.basename(path), changes, functions)
 
@@ -133,56 +157,85 @@ def write_file(text, *path):
 
 
 def prove(crate):
-    """What a check of the crate prints."""
+    """Whether a check of the crate proves all of it, and what it prints."""
     ran = subprocess.run(['rt', 'check'], cwd=crate, text=True, stdin=subprocess.DEVNULL,
                          stdout=subprocess.PIPE, stderr=subprocess.STDOUT)
-    return ran.stdout
+    return ran.returncode == 0, ran.stdout
 
 
 def try_edits(crate, edits):
-    """What a check prints of the crate with these edits, and the functions of its files then."""
+    """Whether a check proves the crate with these edits, what it prints, and the functions of its
+    files then."""
     before = make_changes(crate, edits)
     functions = [it for file in before if file.startswith('src/')
                  for it in functions_of(file, read_file(crate, file))]
-    output = prove(crate)
+    is_proved, output = prove(crate)
     for file, text in before.items():
         write_file(text, crate, file)
-    return output, functions
+    return is_proved, output, functions
 
 
-def refusals(output, functions, edit):
-    """The lines that refuse a function which the edit changes; those of its clauses first."""
-    at_clauses, in_proofs = [], []
-    for line in output.split('\n'):
+def reasons(output, functions, edit):
+    """The notes and errors at a function that the edit changes, and in its proof files; all of them
+    if it changes no function."""
+    found = []
+    for line in CONTINUED.sub(' ', output).split('\n'):
         source, proof = IN_SOURCE.match(line), IN_PROOF.match(line)
-        if source and any(it.folder in edit.functions and it.file == source.group(1)
-                          and it.first < int(source.group(2)) <= it.last + 1 for it in functions):
-            at_clauses.append(line)
-        elif proof and proof.group(1).replace('+', '') in edit.functions:
-            in_proofs.append(line)
-    return at_clauses + in_proofs
+        names = []
+        if source:
+            file, at = source.group(1), int(source.group(2))
+            names = [it.name for it in functions
+                     if it.file == file and it.first < at <= it.last + 1]
+        elif proof:
+            names = [name_of(proof.group(1).replace('+', '').split('/')[:-1])]
+        if edit.functions.intersection(names) or None in edit.functions and (source or proof):
+            found.append(line)
+    return found
 
 
-def verdicts(crate, edits):
-    """For each of these edits the line that refuses it: '' where it is proved, and None where no
-    check tried it."""
-    output, functions = try_edits(crate, edits)
-    if 'logic=proved' in output:
-        return [(edit, '') for edit in edits]
+def own_verdicts(output, edit):
+    """The verdicts of the functions that the edit changes, if these are about their own goals."""
+    found = []
+    for path, verdict, why in VERDICT.findall(output):
+        if name_of(path.split('::')[1:]) in edit.functions and not why.startswith('it calls '):
+            found.append((verdict, why))
+    return found
+
+
+def result_of(output, functions, edit):
+    """What an edit came to in a check in which not all is proved."""
+    lines = reasons(output, functions, edit)
+    if None not in edit.functions:
+        refusing = [why for verdict, why in own_verdicts(output, edit) if verdict != 'proved']
+        if any(why and not why.startswith('expected answers ') for why in refusing):
+            return Tried(edit, UNREACHED, refusing[0])      # the prover makes no goals of it
+        if not refusing:
+            return Tried(edit, ELSEWHERE, '')
+        lines = lines or [why or 'not proved' for why in refusing]
+    false = [line for line in lines if IS_FALSE in line]
+    gone = [line for line in lines if GONE.search(line)]
+    if not false and gone:
+        return Tried(edit, OF_FORM, gone[0])
+    return Tried(edit, REFUSED, (false + lines)[0]) if lines else Tried(edit, ELSEWHERE, '')
+
+
+def results(crate, edits):
+    """What each of these edits came to. One that a check with others did not refuse is tried
+    alone."""
+    is_proved, output, functions = try_edits(crate, edits)
+    if is_proved:
+        return [Tried(edit, PROVED, '') for edit in edits]
     if 'logic=not-proved' not in output:
         if len(edits) == 1:
-            return [(edits[0], None)]
+            return [Tried(edits[0], UNREACHED, '')]
         middle = len(edits) // 2
-        return verdicts(crate, edits[:middle]) + verdicts(crate, edits[middle:])
+        return results(crate, edits[:middle]) + results(crate, edits[middle:])
+    found = [result_of(output, functions, edit) for edit in edits]
     if len(edits) == 1:
-        lines = refusals(output, functions, edits[0])
-        if not lines and WITHOUT_GOALS.search(output):
-            return [(edits[0], None)]
-        return [(edits[0], (lines or ['not at the function that is edited'])[0])]
-    found = [(edit, (refusals(output, functions, edit) or [''])[0]) for edit in edits]
-    unseen = [edit for edit, line in found if not line]
-    seen = [pair for pair in found if pair[1]]
-    return seen + [it for edit in unseen for it in verdicts(crate, [edit])]
+        return found
+    unseen = [tried.edit for tried in found if tried.result == ELSEWHERE]
+    return [tried for tried in found if tried.result != ELSEWHERE] + [
+        tried for edit in unseen for tried in results(crate, [edit])]
 
 
 def try_crate(top, bodies, name):
@@ -190,18 +243,18 @@ def try_crate(top, bodies, name):
     crate = os.path.join(top, 'crates', name)
     paths = sorted(glob.glob(os.path.join(TOP, 'tests', bodies, name, '*.edit')))
     edits = [read_edit(path, crate) for path in paths]
+    wanted = PROVED if bodies == 'right-bodies' else REFUSED
     for edit in edits:
         if not edit.changes:
             check(False, name + '/' + edit.name, 'it does not fit the crate')
-    if 'logic=proved' not in prove(crate):
+    if not prove(crate)[0]:
         check(False, name, 'the crate itself is not proved')
         return
     for now in rounds_of([edit for edit in edits if edit.changes]):
-        for edit, line in verdicts(crate, now):
-            said = 'proved' if line == '' else line or 'it did not reach the prover'
+        for edit, result, line in results(crate, now):
+            said = '%s: %s' % (result, line[:LONGEST]) if line else result
             print('%s/%s: %s' % (name, edit.name, said), flush=True)
-            holds = line == '' if bodies == 'right-bodies' else bool(line)
-            check(holds, name + '/' + edit.name, said)
+            check(result == wanted, name + '/' + edit.name, said)
 
 
 def main(arguments):

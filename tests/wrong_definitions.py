@@ -1,3 +1,4 @@
+#!/usr/bin/env -S python3 -B
 """Each definition is held by a stored expectation: for each wrong definition in tests/wrong-definitions, a copy of the
 reference tangler that has it gives something else than a stored case says (tests/stored.py).
 

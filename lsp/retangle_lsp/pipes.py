@@ -6,12 +6,11 @@ import signal
 import subprocess
 import time
 
+from .buffered import Buffered, usable
 from .gathering import widen
 
 PATIENCE = 10           # seconds without progress
 STEP = .5               # seconds between two looks at it
-AT_ONCE = 1 << 16       # bytes that are read at a time
-
 
 running = set()         # the pipes of the processes that were not ended
 
@@ -26,70 +25,48 @@ class Silent(Exception):
     """The program made no progress in time: it gave, took and computed nothing."""
 
 
-class Pipes:
+class Pipes(Buffered):
     """The pipes of a process of subprocess, which is alone in its session."""
 
     def __init__(self, process):
-        self.process, self.buffer = process, bytearray()
+        Buffered.__init__(self, process.stdout.fileno())
+        self.process = process
         running.add(self)
-        self.reader, self.writer = select.poll(), select.poll()
-        for stream, poll, event in ((process.stdout, self.reader, select.POLLIN),
-                                    (process.stdin, self.writer, select.POLLOUT)):
+        for stream in process.stdout, process.stdin:
             widen(stream)
             os.set_blocking(stream.fileno(), False)
-            poll.register(stream.fileno(), event)
 
-    def wait(self, poll):
+    def wait(self, is_usable):
         """Waits until a pipe can be used. The time of the processor is progress, too."""
         used, since = None, time.monotonic()
-        while not poll.poll(1000 * STEP):
+        while not is_usable(STEP):
             before, used = used, processor_time(self.process.pid)
             if before not in (None, used):
                 since = time.monotonic()
             elif time.monotonic() - since >= PATIENCE:
                 raise Silent
 
+    def has_room(self, seconds):
+        """Whether something can be written within these seconds."""
+        return bool(usable([self.process.stdin.fileno()], select.POLLOUT, seconds))
+
     def send(self, text):
         """BrokenPipeError where the program has ended."""
         rest = memoryview(text)
         while rest:
-            self.wait(self.writer)
+            self.wait(self.has_room)
             rest = rest[os.write(self.process.stdin.fileno(), rest):]
 
-    def line(self):
-        """The next line; what is left without a line feed at the end."""
-        at = 0
-        while True:
-            end = self.buffer.find(b'\n', at)
-            if end >= 0:
-                return self.taken(end + 1)
-            at = len(self.buffer)
-            if not self.fill():
-                return self.taken(at)
-
-    def bytes(self, length):
-        """The next bytes; fewer at the end."""
-        while len(self.buffer) < length and self.fill():
-            pass
-        return self.taken(length)
-
     def fill(self):
-        """Whether more could be read."""
-        self.wait(self.reader)
-        some = os.read(self.process.stdout.fileno(), AT_ONCE)
-        self.buffer += some
-        return bool(some)
-
-    def taken(self, length):
-        found = bytes(self.buffer[:length])
-        del self.buffer[:length]
-        return found
+        self.wait(self.has_more)
+        return Buffered.fill(self)
 
     def close(self):
         """Closes them, and waits for the end. A program that does not end in time is killed."""
         for stream in self.process.stdin, self.process.stdout:
             with contextlib.suppress(OSError):
                 stream.close()
+        self.descriptor = -1    # its number may be another file's from now on
         try:
             self.process.wait(PATIENCE)
         except subprocess.TimeoutExpired:

@@ -4,12 +4,12 @@ import json
 import math
 import os
 import re
-import select
 import threading
 import traceback
 
+from .buffered import Buffered
+
 LONGEST_MESSAGE = 1 << 28       # bytes
-AT_ONCE = 1 << 20               # bytes that are read at a time
 
 PARSE_ERROR, INVALID_REQUEST, NO_METHOD, INVALID_PARAMS = -32700, -32600, -32601, -32602
 INTERNAL, NOT_INITIALIZED, REQUEST_FAILED, CANCELLED = -32603, -32002, -32803, -32800
@@ -51,41 +51,13 @@ WHOLE_HEADER = re.compile(rb'(?:[^\r\n]+\r?\n)*?Content-Length[ \t]*:[ \t]*(\d{1
 CANCEL = '$/cancelRequest'
 
 
-class Input:
-    """What a descriptor gives. Whether there is more can be asked without waiting for it."""
-
-    def __init__(self, descriptor):
-        self.descriptor, self.buffer = descriptor, bytearray()
+class Input(Buffered):
+    """The input of this program. EOFError at its end."""
 
     def fill(self):
-        some = os.read(self.descriptor, AT_ONCE)
-        if not some:
+        if not Buffered.fill(self):
             raise EOFError
-        self.buffer += some
-
-    def has_more(self, seconds, others=()):
-        """Whether something can be read within these seconds; None is for ever. It is not waited
-        for any longer if there is something at another descriptor."""
-        return self.descriptor in select.select([self.descriptor, *others], [], [], seconds)[0]
-
-    def line(self):
-        at = 0
-        while True:
-            end = self.buffer.find(b'\n', at)
-            if end >= 0:
-                return self.taken(end + 1)
-            at = len(self.buffer)
-            self.fill()
-
-    def bytes(self, length):
-        while len(self.buffer) < length:
-            self.fill()
-        return self.taken(length)
-
-    def taken(self, length):
-        found = bytes(self.buffer[:length])
-        del self.buffer[:length]
-        return found
+        return True
 
 
 class Messages:

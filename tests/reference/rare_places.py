@@ -1,5 +1,6 @@
 """Places that random text seldom makes: inclusions at the greatest depth, names of inclusions and sections that end in
-rare ways, a file that clashes with the main file and was mentioned before, and the last byte."""
+rare ways, a file that clashes with the main file and was mentioned before, the last byte, joins at the front of parts,
+and constants and quoted texts in rows, in macros too."""
 
 SECTIONS = [
     [b'@ A @<a.c@> and @<h.h@>.', b'@ @(a.c@>=', b'clash', b'@ @(h.h@>=', b'x'],
@@ -8,6 +9,8 @@ SECTIONS = [
     [b'@ @<...@>=', b'x', b'@ @<....@>=', b'@<....@>'],
     [b'@ @c', b'@i "d\\c.w "', b'@i d\\c.w"more', b'@i "d\\c.w', b'@i\td\\c.w\tmore', b'@include', b'@I "d\\c\t.w"'],
     [b'@ @c', b'@i deep.w', b'x'],
+    [b'@ @c @& x', b'@ @c', b'@&', b'@& y@\'a\'"s"@\'b\'\'c\'', b'@ @<A@>=@&', b'@& "q"@<B@>\'c\'@=v@>"r"@&\'d\''],
+    [b'@ @d M a b@&c @\'a\'@\'b\'@\'c\' d\\', b'e f \\\\', b'@d N x y@& z', b'@& w\'c\'"s"v', b'@c @h'],
 ]
 FILES = [(b'd\\c.w', [b'w', b'"s\\', b't" @<A@> u']), (b'deep.w', [b'@i deep.w', b'deep']), (b'z.w', [b'int z;'])]
 

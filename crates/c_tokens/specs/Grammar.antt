@@ -128,10 +128,10 @@ punctuators =
     ∷ codes "++" ∷ codes "--" ∷ codes "&" ∷ codes "*" ∷ codes "+" ∷ codes "-" ∷ codes "~"
     ∷ codes "!" ∷ codes "/" ∷ codes "%" ∷ codes "<<" ∷ codes ">>" ∷ codes "<" ∷ codes ">"
     ∷ codes "<=" ∷ codes ">=" ∷ codes "==" ∷ codes "!=" ∷ codes "^" ∷ codes "|" ∷ codes "&&"
-    ∷ codes "||" ∷ codes "?" ∷ codes ":" ∷ codes "::" ∷ codes ";" ∷ codes "..." ∷ codes "=" ∷ codes "*="
-    ∷ codes "/=" ∷ codes "%=" ∷ codes "+=" ∷ codes "-=" ∷ codes "<<=" ∷ codes ">>=" ∷ codes "&="
-    ∷ codes "^=" ∷ codes "|=" ∷ codes "," ∷ codes "#" ∷ codes "##" ∷ codes "<:" ∷ codes ":>"
-    ∷ codes "<%" ∷ codes "%>" ∷ codes "%:" ∷ codes "%:%:" ∷ []
+    ∷ codes "||" ∷ codes "?" ∷ codes ":" ∷ codes "::" ∷ codes ";" ∷ codes "..." ∷ codes "="
+    ∷ codes "*=" ∷ codes "/=" ∷ codes "%=" ∷ codes "+=" ∷ codes "-=" ∷ codes "<<=" ∷ codes ">>="
+    ∷ codes "&=" ∷ codes "^=" ∷ codes "|=" ∷ codes "," ∷ codes "#" ∷ codes "##" ∷ codes "<:"
+    ∷ codes ":>" ∷ codes "<%" ∷ codes "%>" ∷ codes "%:" ∷ codes "%:%:" ∷ []
 
 unfoldable pub is_punctuator : List ℕ → Bool
 is_punctuator text = list_any (bytes_eq text) punctuators

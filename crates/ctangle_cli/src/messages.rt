@@ -7,8 +7,9 @@ ghost use Rattle.tangle_loading.specs.Loading.{ending_of};
 ghost use Rattle.ctangle_cli.specs.Messages.{cannot_write_line, ending_line};
 ghost use Rattle.ctangle_cli.specs.Messages.{fault_lines, refusal_name, unwritten_line, usage_line};
 
+use std::alloc::Global;
 use tangle_folders::FolderFault;
-use tangle_lines::{Fault, Refusal, Sink, WriteFault, write_after, write_fault};
+use tangle_lines::{Fault, IoSink, Refusal, Sink, WriteFault, write_after, write_fault};
 use tangle_loading::LoadFault;
 use tangle_script::SinkFailed;
 
@@ -135,6 +136,26 @@ pub fn write_faults<E: Sink>(faults: &[Fault], err: &mut E) -> Result<(), SinkFa
         }
     }
     Ok(())
+}
+
+/// Writes the lines of all faults at once, since each write on a stream takes time. Where there is
+/// no memory to keep them, it writes one after another.
+///
+/// # Errors
+///
+/// `SinkFailed` where the stream failed, or took no byte, before it had all the lines.
+pub fn write_faults_at_once<E: Sink>(
+    alloc: Global,
+    faults: &[Fault],
+    err: &mut E,
+) -> Result<(), SinkFailed>
+    ensures { WritesAnswer (E.stream err.old) (E.stream err.new) (fault_lines faults.now) result }
+{
+    let mut lines = IoSink::new(Vec::new(alloc));
+    match write_faults(faults, &mut lines) {
+        Ok(()) => say(err, &[lines.into_inner().as_slice()]),
+        Err(_) => write_faults(faults, err),
+    }
 }
 
 /// Writes these bytes, one part after another.

@@ -6,7 +6,7 @@ ghost use Rattle.tangle_loading.specs.Loads.{Loads};
 ghost use Rattle.ctangle_cli.specs.Run.{NamedEnds, RunEnds, SessionEnds, moment, nothing_done};
 
 use crate::arguments::{WordFault, Words, read_words};
-use crate::messages::{write_faults, write_load, write_unwritten, write_usage};
+use crate::messages::{write_faults_at_once, write_load, write_unwritten, write_usage};
 use crate::writing::create_outputs;
 use std::alloc::Global;
 use std::mem::forget;
@@ -38,7 +38,7 @@ fn run_session<F: Folder, E: Sink>(
         (moment (F.state folder.new) (E.stream err.new)) result }
 {
     let faults = session.faults();
-    match write_faults(faults, err) {
+    match write_faults_at_once(alloc, faults, err) {
         Err(_) => 3,
         Ok(()) => match create_outputs(alloc, session, folder) {
             Ok(()) => status(faults),

@@ -21,5 +21,6 @@ pub mod FaultLemmas
 mod NameGraphLemmas
 mod PlainFormLemmas
 mod WorkedForms
+mod WorkedOutputs
 mod NamedFileLemmas
 pub mod StoredLemmas

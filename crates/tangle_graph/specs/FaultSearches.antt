@@ -20,7 +20,8 @@ use Rattle.tangle_graph.specs.declared.faults.FaultSearch.{FaultSearch}
 
 module _ (search : FaultSearch) where
   -- The store says which nodes have a piece, contain themselves, reach a name that does, and are
-  -- expandable. Flags say which names are the main file's or an earlier file's. The first uses of the names are those of the web.
+  -- expandable. Flags say which names are the main file's or an earlier file's. The first uses of
+  -- the names are those of the web.
   pub record IsFaultSearch : Type 0 where
     pub has_piece : (n : Node) → n ≤ length search.table.now.names
         → has_piece_at search.store.now n ≡ has_piece_of_node search.web.now search.table.now n

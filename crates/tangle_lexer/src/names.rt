@@ -11,6 +11,7 @@ ghost use Rattle.tangle_faults.specs.declared.faults.FaultKind.TheVariants as fa
 ghost use Rattle.tangle_lexer.specs.declared.tokens.Token.TheVariants as token;
 ghost use Rattle.tangle_lexer.specs.Lexemes.{fault_if, in_mode, is_in_directive};
 ghost use Rattle.tangle_lexer.specs.declared.modes.Mode.TheVariants as mode;
+ghost use Rattle.tangle_lexer.specs.declared.names.Equals.TheVariants as equals;
 ghost use Rattle.tangle_lexer.specs.declared.occurrences.OccurrenceRole.TheVariants as role;
 ghost use Rattle.tangle_lexer.specs.Reads.{PassesEquals, ReadsLexeme};
 ghost use Rattle.tangle_lexer.specs.Names as spec;
@@ -135,6 +136,7 @@ fn has_single_spaces(bytes: &[u8]) -> bool
 }
 
 /// Whether a name ends at the position.
+#[inline(always)]
 fn is_name_end(reader: &Reader) -> bool
     ensures { Decides result (unit_at region.Name reader.now ≡ unit.Stop) }
 {
@@ -148,6 +150,7 @@ fn is_name_end(reader: &Reader) -> bool
 const NAME_CAPACITY: usize = 32;
 
 /// Reads the text of a name up to its end, and returns its normal form.
+#[inline(always)]
 fn read_text(alloc: Global, reader: &mut Reader) -> Result<SharedSlice, AllocError>
     ensures text { IfOk result (λ name. name ≡ spec.name_text reader.old) }
     ensures ahead { OnOk result (reader.new ≡ region_end region.Name reader.old) }
@@ -217,6 +220,7 @@ fn is_abbreviation(name: &[u8]) -> bool
 }
 
 /// Adds an occurrence of this name in this role, and returns the state with one more occurrence.
+#[inline(always)]
 fn push_occurrence(
     source: &Source,
     occurrences: &mut Vec<Occurrence>,
@@ -268,10 +272,25 @@ fn equals_at(reader: &Reader) -> Equals
     }
 }
 
+/// Whether the byte after a name shows that no equals sign follows: it is none itself, and neither
+/// `+` nor white space, a comment or a control code begins with it. `false` promises nothing.
+#[inline(always)]
+fn has_no_equals(reader: &Reader) -> bool
+    ensures { result ≡ true → spec.equals_in reader.now ≡ equals.Absent }
+{
+    match reader.byte() {
+        Some(byte) => !is_white(byte) && !matches!(byte, b'=' | b'+' | b'/' | b'@'),
+        None => true,
+    }
+}
+
 /// Whether a single `=` follows a name, which makes a use look like a definition.
 fn has_single_equals(reader: &Reader) -> bool
     ensures { result ≡ spec.has_single_equals reader.now }
 {
+    if has_no_equals(reader) {
+        return false;
+    }
     let mut further = reader.copy();
     skip_to_equals(&mut further);
     matches!(equals_at(&further), Equals::Single)
@@ -299,6 +318,7 @@ fn push_use(
 
 /// Reads a name in C text. It is a use, even if it is in a directive or looks like a definition,
 /// which are faults.
+#[inline(never)]
 pub fn use_of_name(
     source: &Source,
     buffers: &mut LexerBuffers,
@@ -328,6 +348,9 @@ fn pass_equals(reader: &mut Reader, last: u32) -> Option<u32>
     ensures { PassesEquals (spec.equals_in reader.old) (spec.count_before_equals reader.old) last
         reader.old reader.new result }
 {
+    if has_no_equals(reader) {
+        return None;
+    }
     let mut further = reader.copy();
     skip_to_equals(&mut further);
     match equals_at(&further) {
@@ -356,6 +379,7 @@ fn is_macro(mode: Mode) -> bool
 
 /// Adds a mention of this name, with a fault if `@>` does not end the name, and with one if the name
 /// ends a macro. Documentation follows.
+#[inline(always)]
 fn push_mention(
     source: &Source,
     buffers: &mut LexerBuffers,

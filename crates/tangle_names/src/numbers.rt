@@ -60,7 +60,7 @@ fn resolve_all(
     ensures resolved { let meant = map meaning_of meanings.now in
         IfOk result (λ resolved. resolved.items ≡ map (resolved_meaning (names_of meant)) meant) }
 {
-    let mut resolved = Vec::new(alloc);
+    let mut resolved = Vec::with_capacity(alloc, meanings.len())?;
     for meaning in meanings {
         resolved.push(resolve_meaning(alloc, names, *meaning)?)?;
     }

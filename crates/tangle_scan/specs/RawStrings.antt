@@ -1,5 +1,6 @@
 -- Raw strings of C++. CWEB has none: it reads each as a quoted text, which may end elsewhere.
-use Rattle.std.specs.Prelude.{ℕ, ◌+◌, ◌-◌, ◌*◌, Bool, ◌==◌, nat_le, ◌&&◌, ◌||◌, not, List, [], ◌∷◌, length}
+use Rattle.std.specs.Prelude.{ℕ, ◌+◌, ◌-◌, ◌*◌, Bool, true, false, ◌==◌, nat_le, ◌&&◌, ◌||◌, not}
+use Rattle.std.specs.Prelude.{List, [], ◌∷◌, length}
 use Rattle.std.specs.Prelude.{take, drop, get_or, slice_get, codes, Some, None}
 use Rattle.std.specs.List.{list_all, prefix_len}
 use Rattle.std.specs.Str.{bytes_eq}
@@ -12,6 +13,9 @@ use Rattle.tangle_text.specs.declared.regions.Unit.{Unit as Unit-of}
 use Rattle.tangle_text.specs.declared.regions.Unit.TheVariants as unit
 use Rattle.tangle_text.specs.declared.spans.Span.{Span}
 use Rattle.tangle_lexer.specs.SpanBytes.{first_byte}
+use Rattle.tangle_lexer.specs.declared.tokens.Token.{Token}
+use Rattle.tangle_lexer.specs.declared.tokens.Token.TheVariants as token
+use Rattle.tangle_lexer.specs.declared.tokens.SpanKind.TheVariants as span_kind
 
 abbrev pub right_parenthesis : ℕ
 right_parenthesis = 41
@@ -74,3 +78,12 @@ module _ (texts : List (List ℕ)) where
       follows_r quoted && word.line == quoted.line && word.end == quoted.start
       && is_raw_prefix (span_text texts word)
       && not (is_whole (drop (quoted.start + 1) (get_or texts quoted.line [])))
+
+  abbrev pub begins_after_r : Token → Bool
+  begins_after_r (token.Span span_kind.Quoted s) = follows_r s
+  begins_after_r e = false
+
+  -- a token that may have a fault: it is one, or begins as a raw string does
+  abbrev pub may_have_fault : Token → Bool
+  may_have_fault (token.Fault kind line) = true
+  may_have_fault e = begins_after_r e

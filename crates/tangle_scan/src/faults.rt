@@ -1,8 +1,9 @@
 //! The faults among the tokens of a web.
 ghost use Rattle.std.specs.Prelude.{◌≡◌, ◌++◌, ◌∷◌, [], None, OnOk};
-ghost use Rattle.std.specs.List.{All};
+ghost use Rattle.std.specs.List.{All, list_any};
 ghost use Rattle.tangle_lexer.specs.LinesOfParts as parts;
 ghost use Rattle.tangle_lexer.specs.Runs.{IsRunIn};
+ghost use Rattle.tangle_scan.specs.RawStrings as raw;
 ghost use Rattle.tangle_scan.specs.Rules.{texts_of};
 ghost use Rattle.tangle_scan.specs.Web as web;
 
@@ -62,6 +63,26 @@ pub(crate) fn add_faults(
         add_own_fault(alloc, source, faults, *token)?;
         before = *token;
         left = rest;
+    }
+    Ok(())
+}
+
+/// Adds the faults of some tokens, if some of them may have one.
+pub(crate) fn add_faults_if(
+    alloc: Global,
+    source: &Source,
+    faults: &mut Vec<Fault>,
+    tokens: &[Token],
+    may_have_fault: bool,
+) -> Result<(), NoMemory>
+    requires runs { All (IsRunIn (texts_of source.now.lines)) tokens.now }
+    requires noted { may_have_fault
+        ≡ list_any (raw.may_have_fault (texts_of source.now.lines)) tokens.now }
+    ensures { OnOk result (faults.new.items ≡ faults.old.items
+        ++ web.token_faults source.now.files source.now.lines None tokens.now) }
+{
+    if may_have_fault {
+        add_faults(alloc, source, faults, tokens)?;
     }
     Ok(())
 }

@@ -16,6 +16,7 @@ ghost use Rattle.tangle_lines.specs.Reading.{origin_at};
 ghost use Rattle.tangle_scan.specs.Entries.{IsEntryInRange, entry_is_mark, items_of};
 ghost use Rattle.tangle_scan.specs.Directives.{item_ends_in};
 ghost use Rattle.tangle_scan.specs.Passes as passes;
+ghost use Rattle.tangle_scan.specs.RawStrings as raw;
 ghost use Rattle.tangle_scan.specs.Rules.{texts_of};
 ghost use Rattle.tangle_scan.specs.LineTruth.{is_expected, counted_after_line_end};
 ghost use Rattle.tangle_scan.specs.Web as web;
@@ -32,9 +33,9 @@ ghost use Rattle.tangle_scan.specs.declared.items.Item.TheVariants as item;
 ghost use Rattle.tangle_scan.specs.declared.items.Entry.TheVariants as entry;
 ghost use Rattle.tangle_scan.specs.declared.parts.Last.TheVariants as last;
 
-use crate::faults::add_fault;
+use crate::faults::add_faults_if;
 use crate::items::{Entry, Item, OccurrenceNumber};
-use crate::raw_strings::add_raw_fault;
+use crate::raw_strings::begins_after_r;
 use crate::touching::{first_byte, is_character, last_byte, may_merge};
 use crate::turns::{Turn, is_whole, turn_after, turn_after_line_end, turn_after_run};
 use std::alloc::Global;
@@ -83,8 +84,15 @@ struct PartState {
     turn: Turn,
     counted: CountedOrigin,
     start: Start,
-    /// Whether some token so far is `@h`.
+}
+
+/// What was noted of the tokens so far.
+#[derive(Clone, Copy)]
+struct TokenNotes {
+    /// Whether some token is `@h`.
     has_all_macros: bool,
+    /// Whether some token may have a fault.
+    may_have_fault: bool,
 }
 
 /// Whether white space before an item is a blank: its line has an item before it, or it continues
@@ -595,14 +603,29 @@ fn is_all_macros(token: Token) -> bool
     matches!(token, Token::AllMacros(_))
 }
 
-/// Adds the entries of a token of a C part, and the fault of a token that is a fault.
+/// Notes what is rare of a token that is an item.
+#[inline(always)]
+fn note_item(source: &Source, notes: &mut TokenNotes, token: Token)
+    ensures all_macros { notes.new.has_all_macros
+        ≡ (notes.old.has_all_macros || web.is_all_macros token) }
+    ensures fault { notes.new.may_have_fault ≡ (notes.old.may_have_fault
+        || raw.begins_after_r (texts_of source.now.lines) token) }
+{
+    if is_all_macros(token) {
+        notes.has_all_macros = true;
+    }
+    if begins_after_r(source, token) {
+        notes.may_have_fault = true;
+    }
+}
+
+/// Adds the entries of a token of a C part, and notes what is rare of it.
 #[inline(always)]
 fn add_token(
-    alloc: Global,
     source: &Source,
-    faults: &mut Vec<Fault>,
     entries: &mut Vec<Entry>,
     at: &mut PartState,
+    notes: &mut TokenNotes,
     token: &Token,
 ) -> Result<(), NoMemory>
     requires no_head { is_head token.now ≡ false }
@@ -618,10 +641,10 @@ fn add_token(
         (IsMarked entries.old.items at.old → IsMarked entries.new.items at.new) }
     ensures runs { OnOk result
         (All (IsEntryInRange (texts_of source.now.lines)) entries.new.items) }
-    ensures all_macros { OnOk result
-        (at.new.has_all_macros ≡ (at.old.has_all_macros || web.is_all_macros token.now)) }
-    ensures faults { OnOk result (faults.new.items ≡ faults.old.items
-        ++ web.own_fault source.now.files source.now.lines token.now) }
+    ensures all_macros { OnOk result (notes.new.has_all_macros
+        ≡ (notes.old.has_all_macros || web.is_all_macros token.now)) }
+    ensures fault { OnOk result (notes.new.may_have_fault ≡ (notes.old.may_have_fault
+        || raw.may_have_fault (texts_of source.now.lines) token.now)) }
 {
     match *token {
         Token::White => {
@@ -647,13 +670,13 @@ fn add_token(
             apply_join(entries, at);
             Ok(())
         }
-        Token::Fault(kind, line) => {
-            add_fault(alloc, source, faults, kind, line)?;
+        Token::Fault(..) => {
+            notes.may_have_fault = true;
             Ok(())
         }
         _ => {
             add_item(source, entries, at, *token)?;
-            at.has_all_macros = at.has_all_macros | is_all_macros(*token);
+            note_item(source, notes, *token);
             Ok(())
         }
     }
@@ -715,19 +738,18 @@ pub(crate) fn fill_part(
             turn: Turn::NoItem,
             counted,
         },
-        has_all_macros: false,
     };
-    let mut before = Token::White;
-    let mut left = tokens;
-    while let [token, rest @ ..] = left {
-        add_raw_fault(alloc, source, faults, before, left)?;
-        add_token(alloc, source, faults, entries, &mut at, token)?;
-        before = *token;
-        left = rest;
+    let mut notes = TokenNotes {
+        has_all_macros: false,
+        may_have_fault: false,
+    };
+    for token in tokens {
+        add_token(source, entries, &mut at, &mut notes, token)?;
     }
+    add_faults_if(alloc, source, faults, tokens, notes.may_have_fault)?;
     add_last_blank(source, entries, &at)?;
     Ok(PartNotes {
         has_mark: at.counted.has_mark,
-        has_all_macros: at.has_all_macros,
+        has_all_macros: notes.has_all_macros,
     })
 }

@@ -106,8 +106,20 @@ fn is_whole(bytes: &[u8]) -> bool
 fn follows_r(source: &Source, quoted: Span) -> bool
     ensures { result ≡ raw.follows_r (texts_of source.now.lines) quoted }
 {
+    // An R is rare there, so that it is looked for first.
     let column = (quoted.start as usize).saturating_sub(1);
-    first_byte(source, quoted) == b'"' && source_byte(source, quoted.line, column) == b'R'
+    source_byte(source, quoted.line, column) == b'R' && first_byte(source, quoted) == b'"'
+}
+
+/// Whether a token is a quoted text that begins as a raw string does.
+#[inline(always)]
+pub(crate) fn begins_after_r(source: &Source, token: Token) -> bool
+    ensures { result ≡ raw.begins_after_r (texts_of source.now.lines) token }
+{
+    match token {
+        Token::Span(SpanKind::Quoted, quoted) => follows_r(source, quoted),
+        _ => false,
+    }
 }
 
 /// Whether a quoted text that follows an R is a raw string that is not whole, if this word is before

@@ -4,3 +4,4 @@ pub mod ConversationLemmas
 pub mod BufferLemmas
 pub mod RunLemmas
 pub mod FailureLemmas
+mod WorkedScripts

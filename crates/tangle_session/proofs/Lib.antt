@@ -6,3 +6,4 @@ mod LawLemmas
 pub mod NameLemmas
 pub mod HeadlineLemmas
 mod MoveLemmas
+mod WorkedSessions

@@ -25,6 +25,13 @@ impl<W: Write> IoSink<W> {
         IoSink { inner, failures: 0 }
     }
 
+    /// The writer.
+    pub fn into_inner(self) -> W
+        ensures { result ≡ self.inner }
+    {
+        self.inner
+    }
+
     /// Flushes the writer. A failed flush adds one to the count of failures. The library's contract
     /// does not say when a flush fails, so no clause does here: tests show that it is counted.
     pub fn flush(&mut self)

@@ -5,10 +5,9 @@ ghost use Rattle.tangle_text.specs.Regions.{is_separator};
 ghost use Rattle.tangle_text.specs.Runs as runs;
 ghost use Rattle.tangle_text.specs.Runs.{chunks, parts_of, longest_run, run_size};
 
-use crate::bytes::holds;
+use crate::bytes::{holds, holds_word_byte};
 use crate::classes::{is_plain, is_word_byte};
 use crate::reader::{byte_of, word_end};
-use crate::regions::is_separator;
 use crate::spans::Span;
 use std::marker::Model;
 
@@ -98,6 +97,17 @@ fn before_word(bytes: &[u8], from: usize, end: usize) -> usize
     }
 }
 
+/// Whether an apostrophe and a word byte are at this column, which may belong to a number.
+// Most runs end at another byte, so that the one after it need not be looked at.
+#[inline(always)]
+fn has_separator(bytes: &[u8], column: usize) -> bool
+    requires { column ≤ length bytes.now }
+    ensures { result
+        ≡ is_separator (slice_get bytes.now column) (slice_get bytes.now (column + 1)) }
+{
+    holds(b'\'', byte_of(bytes, column)) && holds_word_byte(byte_of(bytes, column + 1))
+}
+
 /// The column after the run that begins at this column of a line.
 #[inline(always)]
 pub(crate) fn run_end(bytes: &[u8], from: usize) -> usize
@@ -106,7 +116,7 @@ pub(crate) fn run_end(bytes: &[u8], from: usize) -> usize
     ensures inside { result ≤ length bytes.now }
 {
     let end = longest_run_end(bytes, from);
-    if is_separator(byte_of(bytes, end), byte_of(bytes, end + 1)) {
+    if has_separator(bytes, end) {
         before_word(bytes, from, end)
     } else {
         end

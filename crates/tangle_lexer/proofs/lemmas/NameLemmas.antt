@@ -1,16 +1,16 @@
 -- The ends of names, and the equals signs after them.
 use Rattle.std.proofs.lemmas.Bool.Decides.{nat_tests}
-use Rattle.std.proofs.Common.{◌≡◌, ℕ, ◌+◌, true, false, List, drop, Option, Some, None, refl, ap, sym, ◌∙◌, arith}
+use Rattle.std.proofs.Common.{◌≡◌, ℕ, ◌+◌, true, false, List, [], ◌∷◌, drop, Option, Some, None, refl, ap, sym, ◌∙◌, arith}
 use Rattle.std.proofs.Common.{drop-drop, if◌then◌else◌}
 use Rattle.std.proofs.lemmas.Option.{none-some, same_Some}
 use Rattle.tangle_lexer.specs.declared.names.Equals.{Equals}
 use Rattle.tangle_lexer.specs.declared.names.Equals.TheVariants as equals
 use Rattle.tangle_lexer.specs.Reads.{PassesEquals}
 use Rattle.tangle_text.specs.declared.regions.Region.TheVariants as region
-use Rattle.tangle_text.specs.Bytes.{holds, plus_sign}
+use Rattle.tangle_text.specs.Bytes.{holds, plus_sign, equals_sign}
 use Rattle.tangle_text.specs.Text.{Cell, byte_at, front_line}
 use Rattle.tangle_text.specs.Regions.{region_end}
-use Rattle.tangle_lexer.specs.White.{white_count, white_end}
+use Rattle.tangle_lexer.specs.White.{is_white_alone, next_but_name, white_count, white_end}
 use Rattle.tangle_lexer.specs.Comments.{two_if, has_end_code}
 use Rattle.tangle_lexer.specs.Names.{name_end, is_ended, after_name, name_count, count_before_equals, equals_by}
 use Rattle.tangle_lexer.specs.Names.{equals_in, definition_count, name_more, equals_count, count_through}
@@ -92,3 +92,13 @@ pub definition-not-found : (last : ℕ) (found : Option ℕ) (text after rest : 
     → PassesEquals (equals_in after) (count_before_equals after) last after rest found
     → (definition_count text ≡ None) × (rest ≡ drop (name_more text) (drop 1 text))
 definition-not-found last found text after rest ended is none takes = grind (arith, nat_tests)
+
+-- no equals sign follows where no white space, no + and no equals sign is at the front
+no_white : (text : List Cell) → is_white_alone (next_but_name text).tokens ≡ false → white_count 0 text ≡ 0
+no_white [] dark = refl
+no_white (c ∷ cs) dark = rw dark refl
+
+pub equals-absent : (text : List Cell) → is_white_alone (next_but_name text).tokens ≡ false
+    → holds plus_sign (byte_at 0 text) ≡ false → holds equals_sign (byte_at 0 text) ≡ false
+    → equals_in text ≡ equals.Absent
+equals-absent text dark plus sign = grind (arith, nat_tests, no_white)

@@ -474,7 +474,7 @@ passed-run lines whole entries at s es run h = search (rules, run-passed)
 
 -- the beginning and the end of a part
 
-pub passed-begin : (lines : List SourceLine) (line : ℕ) (counted : CountedOrigin) (has_all_macros : Bool)
+pub passed-begin : (lines : List SourceLine) (line : ℕ) (counted : CountedOrigin)
     (entries : List Entry) (es : List Token) → entries ≡ [] → origin_of counted ≡ origin_at lines line
     → IsPassed lines (part_items lines line es) entries (record {
       last = last.Front;
@@ -482,9 +482,8 @@ pub passed-begin : (lines : List SourceLine) (line : ℕ) (counted : CountedOrig
       turn = turn.NoItem;
       counted = counted;
       start = record { entries = 0; turn = turn.NoItem; counted = counted };
-      has_all_macros = has_all_macros;
     }) es
-passed-begin lines line counted has_all_macros entries es none is = rw none (record {
+passed-begin lines line counted entries es none is = rw none (record {
   read = record {
     gap = [];
     front = None;

@@ -1,9 +1,20 @@
--- The size of a quoted text, by its first unit.
+-- The size of a quoted text, by its first unit; and tokens that have no fault.
 use Rattle.std.proofs.Common.{arith}
 use Rattle.std.proofs.Common.{◌≡◌, ◌<◌, ℕ, ◌+◌, zero, suc, List, [], ◌∷◌, length, drop, get_or, slice_get, Some, refl}
 use Rattle.tangle_text.specs.Regions.{unit_of}
 use Rattle.tangle_text.specs.declared.regions.Region.TheVariants as region
-use Rattle.tangle_scan.specs.RawStrings.{size_by, quoted_size}
+use Rattle.tangle_scan.specs.RawStrings.{size_by, quoted_size, is_cut, follows_r, may_have_fault}
+use Rattle.std.proofs.Common.{Bool, false, true, List, ◌||◌, Option, None}
+use Rattle.std.specs.List.{list_any}
+use Rattle.std.proofs.lemmas.Bool.{or_parts}
+use Rattle.tangle_files.specs.Lines.{FileTable}
+use Rattle.tangle_lines.specs.Reading.{SourceLine}
+use Rattle.tangle_text.specs.declared.spans.Span.{Span}
+use Rattle.tangle_lexer.specs.declared.tokens.Token.{Token}
+use Rattle.tangle_lexer.specs.declared.tokens.Token.TheVariants as token
+use Rattle.tangle_lexer.specs.declared.tokens.SpanKind.TheVariants as span_kind
+use Rattle.tangle_scan.specs.Rules.{texts_of}
+use Rattle.tangle_scan.specs.Web.{token_faults, raw_fault, quoted_ahead, word_at_end}
 
 size-suc : (bytes : List ℕ) (end : ℕ) → end < length bytes
     → quoted_size (drop end bytes)
@@ -22,3 +33,26 @@ size_step bytes end h =
     let one : end + 1 ≡ suc end = omega arith in
     let two : end + 2 ≡ suc (suc end) = omega arith in
     rw (one, two) (size-suc bytes end h)
+
+uncut : (files : FileTable) (lines : List SourceLine) (word : Option Span) (s : Span)
+    → follows_r (texts_of lines) s ≡ false → raw_fault files lines word (Some s) ≡ []
+uncut files lines None s h = refl
+uncut files lines (Some w) s h = rw h refl
+
+no_raw_fault : (files : FileTable) (lines : List SourceLine) (word : Option Span) (es : List Token)
+    → list_any (may_have_fault (texts_of lines)) es ≡ false → raw_fault files lines word (quoted_ahead es) ≡ []
+no_raw_fault files lines None [] h = refl
+no_raw_fault files lines (Some w) [] h = refl
+no_raw_fault files lines word (token.Fault kind line ∷ es) h = cc
+no_raw_fault files lines word (token.Span span_kind.Quoted s ∷ es) h =
+    uncut files lines word s ((or_parts (follows_r (texts_of lines) s) (list_any (may_have_fault (texts_of lines)) es) h).0)
+no_raw_fault files lines None (e ∷ es) h = grind arith
+no_raw_fault files lines (Some w) (e ∷ es) h = grind arith
+
+pub no_fault : (files : FileTable) (lines : List SourceLine) (word : Option Span) (es : List Token)
+    → list_any (may_have_fault (texts_of lines)) es ≡ false → token_faults files lines word es ≡ []
+no_fault files lines word [] h = refl
+no_fault files lines word (token.Fault kind line ∷ es) h = cc
+no_fault files lines word (e ∷ es) h =
+    let parts = or_parts (may_have_fault (texts_of lines) e) (list_any (may_have_fault (texts_of lines)) es) h in
+    rw (no_raw_fault files lines word (e ∷ es) h) (no_fault files lines (word_at_end (texts_of lines) e) es parts.1)

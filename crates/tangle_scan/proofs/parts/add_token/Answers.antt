@@ -62,10 +62,10 @@ returns-in-Join-clause-passed c = λ whole es h.
     rw (c.apply_join.ensures.entries, c.apply_join.ensures.at)
     (passed-join c.args.source.now.lines whole c.args.entries.now.items c.args.at.now es (rw c.in-Join.is at h))
 
-pub returns-in_ok-add_fault-in-Fault-clause-passed : goal.returns-in_ok-add_fault-in-Fault-clause-passed
-returns-in_ok-add_fault-in-Fault-clause-passed c = λ whole es h.
-    passed-fault c.args.source.now.lines whole c.args.entries.now.items c.args.at.now c.in-Fault.kind
-    c.in-Fault.line es (rw c.in-Fault.is at h)
+pub returns-in-Fault-clause-passed : goal.returns-in-Fault-clause-passed
+returns-in-Fault-clause-passed c = λ whole es h.
+    passed-fault c.args.source.now.lines whole c.args.entries.now.items c.args.at.now c.in-Fault.field-0
+    c.in-Fault.field-1 es (rw c.in-Fault.is at h)
 
 pub returns-in_ok-add_item-in_default-clause-passed : goal.returns-in_ok-add_item-in_default-clause-passed
 returns-in_ok-add_item-in_default-clause-passed c = λ whole es h.
