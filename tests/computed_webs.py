@@ -31,6 +31,7 @@ use Rattle.std.specs.Prelude.{codes, map, true, false}
 use Rattle.std.specs.Fmt.{digits}
 use Rattle.tangle_lexer.specs.Steps.{lexeme, occurrences_from, tokens_from}
 use Rattle.tangle_expansion.specs.Limits.{levels, heaviest}
+use Rattle.tangle_graph.specs.PlainForms.{plain_form}
 use Rattle.tangle_plans.specs.Shapes.{Program, Named}
 use Rattle.%s.proofs.Shown.{line, shown}
 
@@ -48,7 +49,7 @@ use Rattle.tangle_plans.specs.WebShapes.{shapes}
 use Rattle.tangle_expansion.specs.Numbers.{numbers_of, expansion_bytes}
 use Rattle.tangle_expansion.specs.Outputs.{output_file_bytes}
 use Rattle.tangle_files.specs.declared.marks.MarkMode.TheVariants.{Full}
-use Rattle.tangle_graph.specs.Nodes.{title_of_node}
+use Rattle.tangle_plans.specs.Nodes.{title_at}
 use Rattle.tangle_graph.specs.Outputs.{outputs}
 
 -- the depth and the weight of a node, and the bytes that are written for it
@@ -84,7 +85,7 @@ abbrev pub shown_of : WebRead → List ℕ → List Title → List Title → Sho
 shown_of web out nodes cyclic = record {
   nodes = map (node_of web) nodes;
   cyclic = map (depth levels (shapes web (table_of web))) cyclic;
-  files = map (λ o. record { name = o.name; bytes = output_file_bytes (numbers_of web (table_of web) Full) o.has_macros o.has_piece (flat levels (shapes web (table_of web)) (title_of_node (table_of web).names o.node)) }) (outputs web (table_of web) out);
+  files = map (λ o. record { name = o.name; bytes = output_file_bytes (numbers_of web (table_of web) Full) o.has_macros o.has_piece (flat levels (shapes web (table_of web)) (title_at (table_of web).names o.node)) }) (outputs web (table_of web) out);
 }
 
 abbrev pub shown : List (List ℕ) → List SourceLine → List ℕ → List Title → List Title → Shown
@@ -158,7 +159,7 @@ def lemma(seed):
   cyclic = %s;
   files = %s;
 }
-unfolding lexeme tokens_from occurrences_from digits levels heaviest
+unfolding lexeme tokens_from occurrences_from digits levels heaviest plain_form
 %s = refl
 ''' % (name, list_term([bytes_term(file) for file, _ in files]), list_term(lines), bytes_term(roles.out),
         list_term(list(map(title_term, plain))), list_term(list(map(title_term, cyclic))), list_term(nodes),
