@@ -128,7 +128,7 @@ def test_no_answer():
     same(codes(client, 'a.w'), ['not-checked'], 'lsp, no answer')
     same(client.diagnostics['a.w'][0]['range']['start']['line'], 0, 'lsp, no answer, the line')
     same(client.shown, ['a.w: retangle was ended: it did not answer within 10 seconds'],
-         'lsp, what is told of no answer')
+         'lsp, the message where there is no answer')
     start = time.monotonic()
     client.change('b.w', (((2, 8), (2, 9)), 'w'))
     client.change('a.w', (((2, 8), (2, 9)), 'w'))

@@ -114,7 +114,7 @@ def test_tokens_of_changes():
 
 
 def test_deltas():
-    """After random changes what differs, put into the numbers of before, are the whole numbers."""
+    """After random changes, the earlier tokens with the differences put in are all tokens."""
     pieces = ['x', '@<a@>', '\n', '"', '/*', '*/', '@ ', '\n@ @c\n', 'int é ', '😀', '@d N 1\n', '@']
     for seed in range(6):
         chance, project = random.Random(seed), generator.Project(seed)

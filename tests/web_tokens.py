@@ -35,7 +35,7 @@ from output import macro_text
 from running import run
 from tangling import Tangling
 
-LEAST = 90              # of so many of 100 macros and pieces without faults the premises hold
+LEAST = 90              # the premises hold for at least this percentage of parts without faults
 FILES = 950             # at least as many output files that have tokens are read as a whole
 
 LINE_MARK = re.compile(rb'\n#line [0-9]+ "(?:\\.|[^"\\\n])*"(?=\n)')

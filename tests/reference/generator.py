@@ -20,7 +20,7 @@ from tangling import Tangling
 # have many of them.
 MOST_LINES = 50000
 MOST_BYTES = 1 << 24
-RARE = 50                   # one web of so many has places that text at random seldom makes
+RARE = 50                   # one web in this number has places that text at random seldom makes
 
 NAMES = [b'v', b'A', b'B', b'C', b'Initialize', b'Init table', b'In', b'In it', b'u', b'a b',
          b'h.h', b'a.c', b'x@@y', b'q"r', b'z\\w', b'n  m']

@@ -41,7 +41,7 @@ record Tables : Type 0 where
 tables : Tables
 tables = search rules
 
--- so many files, all of the name `b`
+-- `n` files, each named `b`
 abbrev files : ℕ → FileTable
 files n = replicate n (codes "b", [])
 

@@ -52,7 +52,7 @@ answers s request output t = (output ≡ codes "ok\n") × (t ≡ s + 1)
 abbrev has_error : ℕ → Bool → Type 0
 has_error s error = error ≡ nat_lt 1 s
 
--- so many answers are given and written, and this is left of the script
+-- after `count` answers, `written` is on the output and `left` of the script is not read
 abbrev at : ℕ → List ℕ → List ℕ → Conversation ℕ
 at count written left = conversation count (record { taken = Some written; failures = 0 }) (Some left) 0
 
