@@ -110,8 +110,7 @@ tangled_stops outputs faults old new mid name fault r stops why calm reported pu
   fault = fault;
   why = why;
   no_failure = calm;
-  between = record old { stream = mid };
-  nothing_yet = refl;
+  between = mid;
   faults_reported = reported;
   output_reported = tries_from mid new.stream r (unwritten_line fault name) put;
 }) refl

@@ -1,5 +1,5 @@
 -- How a run of `ctangle` ends, by what the folder and the error stream report before and after it.
-use Rattle.std.specs.Prelude.{◌≡◌, ◌≢◌, ◌⊎◌, ℕ, List, [], ◌∷◌, ◌++◌, codes, Option, None, Some}
+use Rattle.std.specs.Prelude.{◌≡◌, ◌≢◌, ◌⊎◌, ℕ, List, [], ◌∷◌, ◌++◌, codes, Option, None, Some, Ok, Err}
 use Rattle.tangle_streams.specs.Streams.{Stream, Failed, TakesAll, TakesPrefix}
 use Rattle.tangle_files.specs.Lines.{FileTable}
 use Rattle.tangle_files.specs.Roles.{RolesRead}
@@ -11,7 +11,7 @@ use Rattle.tangle_folders.specs.Folder.{File, FolderRead, with_created}
 use Rattle.ctangle_cli.specs.Writing.{IsPrefixOf}
 use Rattle.ctangle_cli.specs.Arguments.{names_by_arguments}
 use Rattle.tangle_loading.specs.Loading.{LoadEnd}
-use Rattle.tangle_loading.specs.Loads.{Loads, StopsLoading}
+use Rattle.tangle_loading.specs.Endings.{LoadGives}
 use Rattle.ctangle_cli.specs.Messages.{usage_line, ending_line, no_memory_line, unwritten_line}
 use Rattle.ctangle_cli.specs.Messages.{fault_lines, faults_status}
 
@@ -31,9 +31,9 @@ Writes old new bytes = TakesAll old.stream new.stream bytes
 abbrev pub IsCutOff : Moment → Moment → List ℕ → Type 0
 IsCutOff old new bytes = TakesPrefix old.stream new.stream bytes
 
--- the error stream took these bytes, or failed and took a prefix of them
-abbrev pub TriesToWrite : Moment → Moment → List ℕ → Type 0
-TriesToWrite old new bytes = Writes old new bytes ⊎ IsCutOff old new bytes
+-- a stream took these bytes, or failed and took a prefix of them
+abbrev pub TriesToWrite : Stream → Stream → List ℕ → Type 0
+TriesToWrite old new bytes = TakesAll old new bytes ⊎ TakesPrefix old new bytes
 
 abbrev pub CreatesNothing : Moment → Moment → Type 0
 CreatesNothing old new = new.folder.created ≡ old.folder.created
@@ -71,11 +71,10 @@ pub record IsStopped (outputs : List File) (faults : List FaultRead)
   pub stops : StopsAt outputs old.folder.created new.folder.created name fault
   pub why : fault ≢ NoMemory → Failed old.folder.failures new.folder.failures
   pub no_failure : fault ≡ NoMemory → new.folder.failures ≡ old.folder.failures
-  -- the moment when the lines of the faults are written, and no file is created yet
-  pub between : Moment
-  pub nothing_yet : CreatesNothing old between
-  pub faults_reported : Writes old between (fault_lines faults)
-  pub output_reported : TriesToWrite between new (unwritten_line fault name)
+  -- the error stream when the lines of the faults are written
+  pub between : Stream
+  pub faults_reported : TakesAll old.stream between (fault_lines faults)
+  pub output_reported : TriesToWrite between new.stream (unwritten_line fault name)
 
 -- how a run ends after tangling has given these output files and faults
 pub data TangledEnds (outputs : List File) (faults : List FaultRead)
@@ -105,15 +104,17 @@ pub record SessionEnds (files : FileTable) (roles : RolesRead)
 -- `loaded` is the folder when the files are loaded
 pub data NamedEnds (roles : RolesRead) (old new : Moment) (status : ℕ) : Type 0 where
   -- status 3: a file can't be read, or is refused, or memory runs out
-  IsUnloaded : (ending : LoadEnd) → StopsLoading roles old.folder new.folder ending
-      → TriesToWrite old new (ending_line (codes "ctangle") ending)
+  IsUnloaded : (ending : LoadEnd) → LoadGives roles old.folder new.folder (Err ending)
+      → TriesToWrite old.stream new.stream (ending_line (codes "ctangle") ending)
       → status ≡ 3 → NamedEnds roles old new status
   -- status 3: the files are loaded, and memory runs out while they are tangled
-  IsUntangled : (files : FileTable) (loaded : FolderRead) → Loads roles old.folder loaded files
-      → TriesToWrite (moment loaded old.stream) new no_memory_line
+  IsUntangled : (files : FileTable) (loaded : FolderRead)
+      → LoadGives roles old.folder loaded (Ok files)
+      → TriesToWrite old.stream new.stream no_memory_line
       → LeavesFolder (moment loaded old.stream) new → status ≡ 3 → NamedEnds roles old new status
   -- status 0, 1 or 3: the files are loaded and tangled by a session
-  IsTangled : (files : FileTable) (loaded : FolderRead) → Loads roles old.folder loaded files
+  IsTangled : (files : FileTable) (loaded : FolderRead)
+      → LoadGives roles old.folder loaded (Ok files)
       → SessionEnds files roles (moment loaded old.stream) new status
       → NamedEnds roles old new status
 
@@ -126,7 +127,7 @@ pub data RunEnds (arguments : List (List ℕ)) (old new : Moment) (status : ℕ)
   IsCutAtUsage : names_by_arguments arguments ≡ None → IsCutOff old new usage_line
       → LeavesFolder old new → status ≡ 3 → RunEnds arguments old new status
   -- status 3: memory runs out while the arguments are read
-  IsUnnamed : TriesToWrite old new no_memory_line → LeavesFolder old new → status ≡ 3
+  IsUnnamed : TriesToWrite old.stream new.stream no_memory_line → LeavesFolder old new → status ≡ 3
       → RunEnds arguments old new status
   -- the arguments give names
   IsNamed : (roles : RolesRead) → names_by_arguments arguments ≡ Some roles

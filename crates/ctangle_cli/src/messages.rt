@@ -3,7 +3,7 @@ ghost use Rattle.std.specs.Prelude.{◌≡◌, ◌<◌, ◌^◌, ◌++◌, [], l
 ghost use Rattle.std.specs.List.{fold};
 ghost use Rattle.tangle_script.specs.Script.{WritesAnswer};
 ghost use Rattle.tangle_streams.specs.Streams.{IsWritten};
-ghost use Rattle.tangle_loading.specs.Loading.{ending_of};
+ghost use Rattle.tangle_loading.specs.Endings.{ending_of};
 ghost use Rattle.ctangle_cli.specs.Messages.{cannot_write_line, ending_line};
 ghost use Rattle.ctangle_cli.specs.Messages.{fault_lines, refusal_name, unwritten_line, usage_line};
 

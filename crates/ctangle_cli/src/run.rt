@@ -1,8 +1,8 @@
 //! A run of `ctangle`.
-ghost use Rattle.std.specs.Prelude.{◌≡◌, ℕ, List, map};
+ghost use Rattle.std.specs.Prelude.{◌≡◌, ℕ, List, Ok, map};
 ghost use Rattle.ctangle_cli.specs.Messages.{faults_status};
 ghost use Rattle.tangle_folders.specs.Folder.{FolderRead};
-ghost use Rattle.tangle_loading.specs.Loads.{Loads};
+ghost use Rattle.tangle_loading.specs.Endings.{LoadGives};
 ghost use Rattle.ctangle_cli.specs.Run.{NamedEnds, RunEnds, SessionEnds, moment, nothing_done};
 
 use crate::arguments::{WordFault, Words, read_words};
@@ -76,7 +76,7 @@ fn run_loaded<F: Folder, E: Sink>(
     folder: &mut F,
     err: &mut E,
 ) -> Ended
-    ensures { (begun : FolderRead) → Loads roles begun (F.state folder.old) files
+    ensures { (begun : FolderRead) → LoadGives roles begun (F.state folder.old) (Ok files)
         → NamedEnds roles (moment begun (E.stream err.old))
         (moment (F.state folder.new) (E.stream err.new)) result.status }
 {

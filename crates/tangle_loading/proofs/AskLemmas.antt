@@ -1,104 +1,192 @@
--- The names for which loading asks.
+-- Asking for names, one after another.
 use Rattle.std.proofs.Common.{rules}
-use Rattle.std.proofs.Common.{◌≡◌, ◌∙◌, ℕ, ◌<◌, ◌+◌, Bool, true, false, cond, List, [], ◌∷◌, ◌++◌, Option, None}
-use Rattle.std.proofs.Common.{Some, ap, sym, refl, length, take, drop, get_or, append-nil, subst}
-use Rattle.std.specs.Prelude.{All, IfSome, filter, map}
+use Rattle.std.proofs.Common.{◌≡◌, ◌∙◌, ◌⊎◌, inl, inr, ℕ, zero, suc, ◌≤◌, ◌<◌, ◌+◌, Bool, true, false, cond, List, [], ◌∷◌, ◌++◌}
+use Rattle.std.proofs.Common.{None, Ok, Err, ap, sym, refl, length, take, drop, get_or, append-nil, append_assoc}
+use Rattle.std.specs.Prelude.{All, filter, map}
 use Rattle.std.specs.List.{IsDistinct, list_any}
 use Rattle.std.specs.Str.{bytes_eq}
 use Rattle.std.specs.declared.vec.Vec.{Vec}
 use Rattle.std.specs.Global.{Global}
-use Rattle.std.proofs.lemmas.Bool.{cond_both}
+use Rattle.std.proofs.lemmas.Bool.{cond_both, or_cases}
 use Rattle.std.proofs.lemmas.Cmp.{nat_list_eq_equiv}
 use Rattle.std.proofs.lemmas.List.{map-append, take-append-drop}
 use Rattle.std.proofs.lemmas.List.Folds.{list_any-append}
-use Rattle.std.proofs.lemmas.List.Elements.{All-cons, All-head, All-nil, All-tail, filter-append, filter_more}
+use Rattle.std.proofs.lemmas.List.Elements.{All-cons, All-nil, filter-append, filter_more}
 use Rattle.std.proofs.lemmas.Map.Keys.{IsDistinct-push}
+use Rattle.std.proofs.lemmas.Slice.Eq.{bytes_eq-Decides}
 use Rattle.tangle_faults.specs.Faults.{FaultRead}
-use Rattle.tangle_loading.specs.Loading.{is_missed, missed_in}
-use Rattle.tangle_loading.specs.Rounds.{named_in, with_all_asked, with_asked_once}
-use Rattle.tangle_loading.proofs.TableLemmas.{list_any-map}
+use Rattle.tangle_files.specs.Lines.{FileTable}
+use Rattle.tangle_files.specs.Adding.{has_file, most_files}
+use Rattle.tangle_files.specs.Roles.{RolesRead}
+use Rattle.tangle_loading.specs.Loading.{Contents, Load, LoadEnd, Loaded, add_answer, ask, ask_all, is_missed}
+use Rattle.tangle_loading.specs.Loading.{missed_in, missing_in, round_after, rounds_after, so_far}
+use Rattle.tangle_loading.proofs.TableLemmas.{Grows, grows_by, grows_then, grows_there, list_any-map, stays, there}
+use Rattle.tangle_loading.proofs.TableLemmas.{within}
 
-pub with_asked_old : (asked : List (List ℕ)) (name : List ℕ)
-    → list_any (bytes_eq name) asked ≡ true → with_asked_once asked name ≡ asked
-with_asked_old asked name e = ap (λ b. cond b asked (asked ++ name ∷ [])) e
-
-pub with_all_asked-append : (asked xs ys : List (List ℕ))
-    → with_all_asked asked (xs ++ ys) ≡ with_all_asked (with_all_asked asked xs) ys
-with_all_asked-append asked [] ys = refl
-with_all_asked-append asked (x ∷ xs) ys = with_all_asked-append (with_asked_once asked x) xs ys
-
--- each name was asked for at the end
+-- the name was asked for, or not yet
 abbrev pub IsAsked : List (List ℕ) → List ℕ → Type 0
 IsAsked asked name = list_any (bytes_eq name) asked ≡ true
 
-stays_asked : (asked names : List (List ℕ)) (name : List ℕ)
-    → IsAsked asked name → IsAsked (with_all_asked asked names) name
-stays_asked asked [] name e = e
-stays_asked asked (n ∷ names) name e = stays_asked (with_asked_once asked n) names name
-    (search (rules, list_any-append))
+abbrev pub IsFresh : List (List ℕ) → List ℕ → Type 0
+IsFresh asked name = list_any (bytes_eq name) asked ≡ false
 
-is_asked : (asked : List (List ℕ)) (name : List ℕ) → IsAsked (with_asked_once asked name) name
-is_asked asked name = search (rules, list_any-append)
+-- what further asking leaves: names and files are added at the end, and an ending stays
+pub record Extends (old new : Load) : Type 0 where
+  pub more : List (List ℕ)
+  pub asked : new.asked ≡ old.asked ++ more
+  pub files : (next : FileTable) → new.loaded ≡ Ok next
+      → (before : FileTable) × (old.loaded ≡ Ok before) × Grows before next
+  pub ended : (ending : LoadEnd) → old.loaded ≡ Err ending → new ≡ old
 
-pub become_asked : (asked names : List (List ℕ)) → All (IsAsked (with_all_asked asked names)) names
-become_asked asked [] = All-nil (IsAsked asked)
-become_asked asked (name ∷ names) =
-    let all = with_all_asked (with_asked_once asked name) names in
-    All-cons (IsAsked all) name names (stays_asked (with_asked_once asked name) names name (is_asked asked name))
-    (become_asked (with_asked_once asked name) names)
+pub extends_same : (load : Load) → Extends load load
+extends_same load = record {
+  more = [];
+  asked = sym (append-nil load.asked);
+  files = λ next e. (next, e, stays next next refl);
+  ended = λ ending e. refl;
+}
 
-none_new : (asked names : List (List ℕ)) → All (IsAsked asked) names → with_all_asked asked names ≡ asked
-none_new asked [] h = refl
-none_new asked (name ∷ names) h =
-    ap (λ l. with_all_asked l names) (with_asked_old asked name (All-head (IsAsked asked) name names h))
-    ∙ none_new asked names (All-tail (IsAsked asked) name names h)
+pub still_asked : (old new : Load) (name : List ℕ) → Extends old new → IsAsked old.asked name → IsAsked new.asked name
+still_asked old new name x e = search (rules, list_any-append)
 
-pub with_all_asked_again : (asked names : List (List ℕ))
-    → with_all_asked (with_all_asked asked names) names ≡ with_all_asked asked names
-with_all_asked_again asked names = none_new (with_all_asked asked names) names (become_asked asked names)
+module _ (contents : Contents) where
+  abbrev pub ask_now : Bool → List (List ℕ) → FileTable → List ℕ → Load
+  ask_now needed asked files name = so_far (asked ++ name ∷ []) (add_answer needed files name (contents name))
 
--- no two of the names are the same
-pub all_once : (asked names : List (List ℕ))
-    → IsDistinct bytes_eq asked → IsDistinct bytes_eq (with_all_asked asked names)
-all_once asked [] once = once
-all_once asked (name ∷ names) once =
-    all_once (with_asked_once asked name) names
-    (cond_both (list_any (bytes_eq name) asked) asked (asked ++ name ∷ []) (IsDistinct bytes_eq)
-    (λ _. once) (λ e. IsDistinct-push nat_list_eq_equiv asked name once e))
+  -- by whether the name was asked for
+  pub asked_is : (needed : Bool) (asked : List (List ℕ)) (files : FileTable) (name : List ℕ) (b : Bool)
+      → list_any (bytes_eq name) asked ≡ b
+      → ask contents needed asked (Ok files) name ≡ cond b (so_far asked (Ok files)) (ask_now needed asked files name)
+  asked_is needed asked files name b e = ap (λ b. cond b (so_far asked (Ok files)) (ask_now needed asked files name)) e
 
-pub last_once : (asked : List (List ℕ)) (last : Option (List ℕ)) → IsDistinct bytes_eq asked
-    → IfSome last (λ name. list_any (bytes_eq name) asked ≡ false) → IsDistinct bytes_eq (asked ++ named_in last)
-last_once asked None once fresh = subst (IsDistinct bytes_eq) (sym (append-nil asked)) once
-last_once asked (Some name) once fresh = IsDistinct-push nat_list_eq_equiv asked name once fresh
+  -- what stays as names are asked for
+  abbrev pub IsKept : (Load → Type 0) → Bool → Type 0
+  IsKept P needed = (asked : List (List ℕ)) (files : FileTable) (name : List ℕ)
+      → P (so_far asked (Ok files)) → IsFresh asked name → P (ask_now needed asked files name)
+
+  keep : (P : Load → Type 0) (needed : Bool) → IsKept P needed → (asked : List (List ℕ)) (loaded : Loaded)
+      (name : List ℕ) → P (so_far asked loaded) → P (ask contents needed asked loaded name)
+  keep P needed kept asked (Err ending) name p = p
+  keep P needed kept asked (Ok files) name p = cond_both (list_any (bytes_eq name) asked) (so_far asked (Ok files))
+      (ask_now needed asked files name) P (λ _. p) (λ fresh. kept asked files name p fresh)
+
+  pub all_keep : (P : Load → Type 0) (needed : Bool) → IsKept P needed
+      → (names : List (List ℕ)) (load : Load) → P load → P (ask_all contents needed load names)
+  all_keep P needed kept [] load p = p
+  all_keep P needed kept (name ∷ names) load p =
+      all_keep P needed kept names _ (keep P needed kept load.asked load.loaded name p)
+
+  pub rounds_keep : (P : Load → Type 0) (roles : RolesRead) → IsKept P false
+      → (n : ℕ) (load : Load) → P load → P (rounds_after contents roles n load)
+  unfolding rounds_after
+  rounds_keep P roles kept zero load p = p
+  rounds_keep P roles kept (suc n) load p =
+      rounds_keep P roles kept n (round_after contents roles load)
+      (all_keep P false kept (missing_in load.loaded roles) load p)
+
+  pub extend_more : (load : Load) (needed : Bool) → IsKept (Extends load) needed
+  extend_more load needed asked files name x fresh = record {
+    more = x.more ++ name ∷ [];
+    asked = ap (λ l. l ++ name ∷ []) x.asked ∙ append_assoc load.asked x.more (name ∷ []);
+    files = λ next e.
+        let before = x.files files refl in
+        (before.0, before.1, grows_then before.0 files next before.2 (grows_by needed files next name (contents name) e));
+    ended = λ ending e. (let same = ap (λ l. l.loaded) (x.ended ending e) ∙ e in absurd (cc));
+  }
+
+  pub all_extend : (needed : Bool) (names : List (List ℕ)) (load : Load)
+      → Extends load (ask_all contents needed load names)
+  all_extend needed names load =
+      all_keep (Extends load) needed (extend_more load needed) names load (extends_same load)
+
+  is_asked : (needed : Bool) (asked : List (List ℕ)) (loaded : Loaded) (name : List ℕ) (files : FileTable)
+      → (ask contents needed asked loaded name).loaded ≡ Ok files
+      → IsAsked (ask contents needed asked loaded name).asked name
+  is_asked needed asked (Err ending) name files e = absurd (cc)
+  is_asked needed asked (Ok before) name files e =
+      search (rules, cond_both, list_any-append)
+
+  pub become_asked : (needed : Bool) (names : List (List ℕ)) (load : Load) (files : FileTable)
+      → (ask_all contents needed load names).loaded ≡ Ok files
+      → All (IsAsked (ask_all contents needed load names).asked) names
+  become_asked needed [] load files e = All-nil (IsAsked load.asked)
+  become_asked needed (name ∷ names) load files e =
+      let next = ask contents needed load.asked load.loaded name in
+      let more = all_extend needed names next in
+      All-cons (IsAsked (ask_all contents needed next names).asked) name names
+      (still_asked next _ name more (is_asked needed load.asked load.loaded name _ (more.files files e).1))
+      (become_asked needed names next files e)
+
+  -- a name that was asked for is not asked for again
+  ask_same : (needed : Bool) (load : Load) (name : List ℕ) (asked : List (List ℕ)) (loaded : Loaded)
+      → Extends (ask contents needed load.asked load.loaded name) (so_far asked loaded)
+      → ask contents needed asked loaded name ≡ so_far asked loaded
+  ask_same needed load name asked (Err ending) x = refl
+  ask_same needed load name asked (Ok files) x = asked_is needed asked files name true
+      (still_asked _ _ name x (is_asked needed load.asked load.loaded name _ (x.files files refl).1))
+
+  pub asked_again : (needed : Bool) (names : List (List ℕ)) (load : Load)
+      → ask_all contents needed (ask_all contents needed load names) names ≡ ask_all contents needed load names
+  asked_again needed [] load = refl
+  asked_again needed (name ∷ names) load =
+      let next = ask contents needed load.asked load.loaded name in
+      ap (λ l. ask_all contents needed l names) (ask_same needed load name _ _ (all_extend needed names next))
+      ∙ asked_again needed names next
+
+  -- no two of the names asked for are the same
+  abbrev pub AsksOnce : Load → Type 0
+  AsksOnce load = IsDistinct bytes_eq load.asked
+
+  pub once_more : (needed : Bool) → IsKept AsksOnce needed
+  once_more needed asked files name once fresh = IsDistinct-push nat_list_eq_equiv asked name once fresh
+
+  -- the table has no more files than it may have
+  abbrev pub HasFew : Load → Type 0
+  HasFew load = (files : FileTable) → load.loaded ≡ Ok files → length files ≤ most_files
+
+  pub few_more : (needed : Bool) → IsKept HasFew needed
+  few_more needed asked files name few fresh next e = within needed files next name (contents name) e (few files refl)
+
+  -- the file of each name that was asked for is in the table, or this holds of the name
+  module _ (P : List ℕ → Type 0) where
+    abbrev pub AreThere : Load → Type 0
+    AreThere load = (files : FileTable) → load.loaded ≡ Ok files → (name : List ℕ) → IsAsked load.asked name
+        → (has_file files name ≡ true) ⊎ P name
+
+    pub there_more : (needed : Bool) → ((name : List ℕ) → needed ≡ false → contents name ≡ None → P name)
+        → IsKept AreThere needed
+    there_more needed none asked files name so fresh next e other any =
+        elim (or_cases (list_any (bytes_eq other) asked) (list_any (bytes_eq other) (name ∷ []))
+        (sym (list_any-append (bytes_eq other) asked (name ∷ [])) ∙ any)) [
+          | inl old ↦ elim (so files refl other old) [
+            | inl h ↦ inl (grows_there files next other (grows_by needed files next name (contents name) e) h)
+            | inr h ↦ inr h
+          ]
+          | inr is ↦ search (rules, bytes_eq-Decides, there)
+        ]
 
 -- the names that one more fault misses
 pub missed-append : (xs ys : List FaultRead) → missed_in (xs ++ ys) ≡ missed_in xs ++ missed_in ys
 missed-append xs ys = search (rules, filter-append, map-append)
 
 pub missed_more : (faults : List FaultRead) (i : ℕ) (fault : FaultRead)
-    → i < length faults → fault ≡ get_or faults i fault
-    → missed_in (take (i + 1) faults) ≡ missed_in (take i faults) ++ missed_in (fault ∷ [])
-missed_more faults i fault inside is =
+    → i < length faults → fault ≡ get_or faults i fault → is_missed fault ≡ true
+    → missed_in (take (i + 1) faults) ≡ missed_in (take i faults) ++ fault.subject ∷ []
+missed_more faults i fault inside is e =
     ap (map (λ f. f.subject)) (filter_more is_missed faults i fault inside)
     ∙ map-append (λ f. f.subject) (filter is_missed (take i faults)) _
     ∙ ap (λ f. missed_in (take i faults) ++ missed_in (f ∷ [])) (sym is)
+    ∙ ap (λ b. missed_in (take i faults) ++ map (λ f. f.subject) (cond b (fault ∷ []) [])) e
 
 pub missed_all : (faults : List FaultRead) (i : ℕ)
     → missed_in faults ≡ missed_in (take i faults) ++ missed_in (drop i faults)
 missed_all faults i =
     ap missed_in (sym (take-append-drop i faults)) ∙ missed-append (take i faults) (drop i faults)
 
--- one more name is kept, or the same names where it is kept already
-pub asked_of_keys : (ks : List (Vec ℕ Global)) (k : Vec ℕ Global)
+-- one more name is kept
+pub asked_of_keys : (ks : List (Vec ℕ Global)) (k : Vec ℕ Global) → IsFresh (map (λ k. k.items) ks) k.items
     → map (λ k. k.items) (cond (list_any (λ m. bytes_eq k.items m.items) ks) ks (ks ++ k ∷ []))
-    ≡ with_asked_once (map (λ k. k.items) ks) k.items
-asked_of_keys ks k =
-    by (list_any (λ m. bytes_eq k.items m.items) ks)
-    ∙ ap (λ b. cond b (map (λ k. k.items) ks) (map (λ k. k.items) ks ++ k.items ∷ []))
-    (list_any-map (bytes_eq k.items) (λ k. k.items) ks)
-  where
-    by : (b : Bool)
-        → map (λ k. k.items) (cond b ks (ks ++ k ∷ []))
-        ≡ cond b (map (λ k. k.items) ks) (map (λ k. k.items) ks ++ k.items ∷ [])
-    by true = refl
-    by false = map-append (λ k. k.items) ks (k ∷ [])
+    ≡ map (λ k. k.items) ks ++ k.items ∷ []
+asked_of_keys ks k fresh =
+    ap (λ b. map (λ k. k.items) (cond b ks (ks ++ k ∷ []))) (list_any-map (bytes_eq k.items) (λ k. k.items) ks ∙ fresh)
+    ∙ map-append (λ k. k.items) ks (k ∷ [])

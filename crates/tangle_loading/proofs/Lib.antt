@@ -1,6 +1,7 @@
 mod AskLemmas
-mod LawLemmas
+mod LoadLemmas
 mod NoMissingLemmas
 mod RoundLemmas
 mod StepLemmas
 mod TableLemmas
+mod WorkedLoading

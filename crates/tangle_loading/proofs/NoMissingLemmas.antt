@@ -22,8 +22,8 @@ use Rattle.tangle_lines.specs.Reading.{waiting_lines}
 use Rattle.tangle_lines.specs.Reading.{ReadingStep}
 use Rattle.tangle_lines.specs.Reading.ReadingStep.{Ends, Goes}
 use Rattle.tangle_files.specs.Roles.{RolesRead}
-use Rattle.tangle_loading.specs.Loading.{IncludesNoMissing, misses_file, misses_name, missed_in}
-use Rattle.tangle_loading.specs.Loading.{missing_of}
+use Rattle.tangle_loading.specs.Endings.{IncludesNoMissing, misses_file, misses_name}
+use Rattle.tangle_loading.specs.Loading.{missed_in, missing_of}
 use Rattle.tangle_loading.proofs.AskLemmas.{missed-append}
 
 both_miss_none : (xs ys : List FaultRead) → missed_in xs ≡ [] → missed_in ys ≡ [] → missed_in (xs ++ ys) ≡ []

@@ -1,94 +1,149 @@
--- Loading round by round.
+-- Rounds of loading, and its end.
 use Rattle.std.proofs.Common.{rules}
-use Rattle.std.proofs.Common.{zero, suc, ◌≡◌, ◌∙◌, inl, inr, ℕ, true, false, true≢false, List, [], ◌++◌}
-use Rattle.std.proofs.Common.{None, ap, subst, sym, refl, length}
-use Rattle.std.proofs.lemmas.List.{map-append}
-use Rattle.tangle_files.specs.Adding.{has_file}
-use Rattle.tangle_files.specs.Roles.{RolesRead, fits}
-use Rattle.tangle_folders.specs.Folder.{FolderRead}
-use Rattle.tangle_loading.specs.Loading.{LoadEnd, bad_name, missing_of}
-use Rattle.tangle_loading.specs.Rounds.{Round, first_round, names_of}
-use Rattle.tangle_loading.specs.Rounds.{next_round, with_all_asked}
-use Rattle.tangle_loading.specs.Rounds.Due.{First, Next}
-use Rattle.tangle_loading.specs.Loads.{IsDue, Loads, Progress, Reads, Stops, StopsLoading, progress}
-use Rattle.tangle_loading.specs.Loads.StopsLoading.{IsInRound}
-use Rattle.tangle_loading.proofs.AskLemmas.{IsAsked, with_all_asked_again}
-use Rattle.tangle_loading.proofs.StepLemmas.{answered_none, answered_then, reads_grow}
-use Rattle.tangle_loading.proofs.TableLemmas.{all_there, grows_fits, same_table}
+use Rattle.std.proofs.Common.{◌≡◌, ◌∙◌, inl, inr, ℕ, zero, suc, ◌<◌, ◌+◌, Bool, true, false, List, [], ◌∷◌}
+use Rattle.std.proofs.Common.{Option, None, Some, Ok, Err, ap, sym, refl, length, arith, Contains}
+use Rattle.std.specs.Prelude.{All}
+use Rattle.std.specs.List.{IsDistinct}
+use Rattle.std.proofs.lemmas.Bool.{cases_lt}
+use Rattle.std.proofs.lemmas.List.Elements.{All-head, All-tail}
+use Rattle.tangle_files.specs.Lines.{FileTable}
+use Rattle.tangle_files.specs.Adding.{has_file, most_files}
+use Rattle.tangle_files.specs.Roles.{RolesRead, fits, has_file_if_any}
+use Rattle.tangle_loading.specs.Loading.{Contents, Load, Loaded, bad_name, first_round}
+use Rattle.tangle_loading.specs.Loading.{load_of, load_unless, missing_in, missing_of, named_in, round_after}
+use Rattle.tangle_loading.specs.Loading.{rounds_after, so_far}
+use Rattle.tangle_loading.proofs.AskLemmas.{AreThere, AsksOnce, Extends, HasFew, IsAsked, IsKept, all_extend}
+use Rattle.tangle_loading.proofs.AskLemmas.{all_keep, asked_again, become_asked, extend_more, extends_same, few_more}
+use Rattle.tangle_loading.proofs.AskLemmas.{once_more, rounds_keep, there_more}
+use Rattle.tangle_loading.proofs.TableLemmas.{same_table}
 
-pub due_first : (roles : RolesRead) (start : FolderRead) → IsDue roles start (progress start [] []) (first_round roles)
-due_first roles start =
-    record { rounds = zero; answers = []; due = First; names = refl; answered = answered_none start }
+module _ (contents : Contents) (roles : RolesRead) where
+  abbrev pub round : Load → Load
+  round load = round_after contents roles load
 
-pub due_next : (roles : RolesRead) (start : FolderRead) (state next : Progress) (round : Round)
-    → IsDue roles start state round → Reads round.needed round.names state next
-    → IsDue roles start next (next_round roles next.files)
-due_next roles start state next round so_far reads =
-    let names : names_of (so_far.answers ++ reads.answers) ≡ next.asked =
-    search (rules, map-append) in record {
-      rounds = suc so_far.rounds;
-      answers = so_far.answers ++ reads.answers;
-      due = Next so_far.rounds so_far.answers reads.answers state.files next.files round so_far.due
-          (names ∙ reads.asked ∙ ap (λ l. with_all_asked l round.names) so_far.names) reads.files;
-      names = sym names;
-      answered = search (rules, answered_then);
-    }
+  abbrev pub rounds : ℕ → Load → Load
+  rounds n load = rounds_after contents roles n load
 
--- after the first round the table has the web and the change file
-module _ (roles : RolesRead) (start : FolderRead) (new : Progress)
-    (reads : Reads true (first_round roles).names (progress start [] []) new) where
-  abbrev WasAsked : List ℕ → Type 0
-  WasAsked name = IsAsked (with_all_asked [] (first_round roles).names) name
+  pub round_extends : (load : Load) → Extends load (round load)
+  round_extends load = all_extend contents false (missing_in load.loaded roles) load
 
-  is_there : (name : List ℕ) → WasAsked name → has_file new.files name ≡ true
-  is_there name e =
-      elim (all_there (λ _. ⊥) true [] new.files reads.answers name reads.files
-      (λ a c not_needed none. true≢false not_needed)
-      (subst (λ l. IsAsked l name) (sym reads.asked ∙ reads.appended) e))
-      [ inl h ↦ h | inr h ↦ absurd h ]
+  pub rounds_extend : (n : ℕ) (load : Load) → Extends load (rounds n load)
+  rounds_extend n load =
+      rounds_keep contents (Extends load) roles (extend_more contents load false) n load (extends_same load)
 
-  needed_fit : fits new.files roles ≡ true
-  needed_fit = search (rules, is_there)
+  rounds_swap : (n : ℕ) (load : Load) → round (rounds n load) ≡ rounds n (round load)
+  unfolding rounds_after
+  rounds_swap zero load = refl
+  rounds_swap (suc n) load = rounds_swap n (round load)
 
--- what holds between two rounds of loading
-pub record InRounds (roles : RolesRead) (start : FolderRead) (state : Progress) : Type 0 where
-  pub has_roles : fits state.files roles ≡ true
-  pub due : IsDue roles start state (next_round roles state.files)
+  -- a round that changes nothing is the last
+  pub rounds_stay : (n : ℕ) (load : Load) → round load ≡ load → rounds n load ≡ load
+  unfolding rounds_after
+  rounds_stay zero load e = refl
+  rounds_stay (suc n) load e = ap (rounds n) e ∙ rounds_stay n load e
 
-pub rounds_begin : (roles : RolesRead) (start : FolderRead) (next : Progress)
-    → Reads true (first_round roles).names (progress start [] []) next → InRounds roles start next
-rounds_begin roles start next reads = record {
-  has_roles = needed_fit roles start next reads;
-  due = due_next roles start (progress start [] []) next (first_round roles) (due_first roles start) reads;
-}
+  -- a round that adds no file is the last
+  pub round_stays : (load : Load) (files : FileTable) → load.loaded ≡ Ok files → (round load).loaded ≡ Ok files
+      → round (round load) ≡ round load
+  round_stays load files old new =
+      search (rules, asked_again)
 
-pub rounds_next : (roles : RolesRead) (start : FolderRead) (state next : Progress) (missed : List (List ℕ))
-    → missed ≡ missing_of state.files roles → InRounds roles start state → Reads false missed state next
-    → InRounds roles start next
-rounds_next roles start state next missed is so_far reads = record {
-  has_roles = grows_fits state.files next.files roles (reads_grow false missed state next reads) so_far.has_roles;
-  due = due_next roles start state next (next_round roles state.files) so_far.due
-      (subst (λ l. Reads false l state next) is reads);
-}
+  -- enough rounds are left
+  abbrev HasRounds : ℕ → Load → Type 0
+  HasRounds n load = (files : FileTable) → load.loaded ≡ Ok files → most_files < n + length files
 
--- a round that adds no file is the last
-pub rounds_end : (roles : RolesRead) (start : FolderRead) (state next : Progress) (missed : List (List ℕ))
-    → bad_name roles ≡ None → missed ≡ missing_of state.files roles → InRounds roles start state
-    → Reads false missed state next → length next.files ≡ length state.files
-    → Loads roles start next.folder next.files
-rounds_end roles start state next missed named is so_far reads same =
-    let stays = same_table state.files next.files (reads_grow false missed state next reads) same in record {
-      named = named;
-      asked = next.asked;
-      due = (rounds_next roles start state next missed is so_far reads).due;
-      last = ap (with_all_asked next.asked) (ap (λ t. missing_of t roles) stays ∙ sym is)
-          ∙ ap (λ l. with_all_asked l missed) reads.asked
-          ∙ with_all_asked_again state.asked missed ∙ sym reads.asked;
-    }
+  rounds_end : (n : ℕ) (load : Load) → HasFew contents load → HasRounds n load
+      → round (rounds n load) ≡ rounds n load
+  unfolding rounds_after
+  rounds_end zero load few enough = by load.loaded refl
+    where
+      by : (loaded : Loaded) → load.loaded ≡ loaded → round load ≡ load
+      by (Err ending) e = (round_extends load).ended ending e
+      by (Ok files) e = let a = few files e in let b = enough files e in absurd (omega arith)
+  rounds_end (suc n) load few enough =
+      by (λ more. rounds_end n (round load) few_after more) (round load).loaded refl
+    where
+      few_after : HasFew contents (round load)
+      few_after = all_keep contents (HasFew contents) false (few_more contents false) (missing_in load.loaded roles) load few
 
-pub rounds_stop : (roles : RolesRead) (start : FolderRead) (state : Progress)
-    (missed : List (List ℕ)) (new : FolderRead) (ending : LoadEnd)
-    → bad_name roles ≡ None → missed ≡ missing_of state.files roles → InRounds roles start state
-    → Stops false missed state new ending → StopsLoading roles start new ending
-rounds_stop roles start state missed new ending named is so_far s =
-    IsInRound named state (next_round roles state.files) so_far.due (subst (λ l. Stops false l state new ending) is s)
+      by : (HasRounds n (round load) → round (rounds n (round load)) ≡ rounds n (round load))
+          → (loaded : Loaded) → (round load).loaded ≡ loaded → round (rounds n (round load)) ≡ rounds n (round load)
+      by end (Err ending) e = end (λ files k. absurd (cc))
+      by end (Ok files) e =
+          let old = (round_extends load).files files e in
+          let first = enough old.0 old.1 in
+          elim (cases_lt (length old.0) (length files)) [
+            | inl more ↦ end (λ table k.
+                let same : table ≡ files = cc in
+                omega (arith, ap length same))
+            | inr none ↦ (let same = same_table old.0 files old.2 none in
+                let stays = round_stays load old.0 old.1 (e ∙ ap Ok same) in
+                let still = rounds_stay n (round load) stays in
+                ap round still ∙ stays ∙ sym still)
+          ]
+
+  -- after the first round the table has the web and the change file
+  first_there : (files : FileTable) → (first_round contents roles).loaded ≡ Ok files
+      → (name : List ℕ) → IsAsked (first_round contents roles).asked name → has_file files name ≡ true
+  first_there files e name asked =
+      search (rules, all_keep, there_more)
+
+  pub first_fits : (files : FileTable) → (first_round contents roles).loaded ≡ Ok files → fits files roles ≡ true
+  first_fits files e =
+      let all = become_asked contents true (roles.web ∷ named_in roles.change) (so_far [] (Ok [])) files e in
+      let web = first_there files e roles.web
+      (All-head (IsAsked (first_round contents roles).asked) roles.web (named_in roles.change) all) in
+      rw web (by roles.change
+      (All-tail (IsAsked (first_round contents roles).asked) roles.web (named_in roles.change) all))
+    where
+      by : (change : Option (List ℕ)) → All (IsAsked (first_round contents roles).asked) (named_in change)
+          → has_file_if_any files change ≡ true
+      by None all = refl
+      by (Some name) all = first_there files e name
+          (All-head (IsAsked (first_round contents roles).asked) name [] all)
+
+  first_few : HasFew contents (first_round contents roles)
+  first_few = search (rules, all_keep, few_more)
+
+  has_some : (files : FileTable) (name : List ℕ) → has_file files name ≡ true → 0 < length files
+  has_some [] name e = absurd (cc)
+  has_some (file ∷ files) name e = omega arith
+
+  pub one_more : round (load_of contents roles) ≡ load_of contents roles
+  one_more = by (bad_name roles)
+    where
+      by : (bad : Option (List ℕ)) → round (load_unless contents bad roles) ≡ load_unless contents bad roles
+      by (Some bad) = refl
+      by None = rounds_end most_files (first_round contents roles) first_few (λ files e.
+          let web : has_file files roles.web ≡ true = search (rules, first_fits) in
+          let some = has_some files roles.web web in omega arith)
+
+  -- what the rounds are that are left, after one more
+  pub leads_on : (load : Load) → load_of contents roles ≡ rounds most_files load
+      → load_of contents roles ≡ rounds most_files (round load)
+  leads_on load e = sym one_more ∙ ap round e ∙ rounds_swap most_files load
+
+  -- what each name keeps, loading keeps
+  load_keeps : (P : Load → Type 0) → ((needed : Bool) → IsKept contents P needed)
+      → ((loaded : Loaded) → P (so_far [] loaded)) → P (load_of contents roles)
+  load_keeps P kept start = by (bad_name roles)
+    where
+      by : (bad : Option (List ℕ)) → P (load_unless contents bad roles)
+      by (Some bad) = start _
+      by None = rounds_keep contents P roles (kept false) most_files (first_round contents roles)
+          (all_keep contents P true (kept true) (roles.web ∷ named_in roles.change) (so_far [] (Ok [])) (start (Ok [])))
+
+  pub load_once : AsksOnce contents (load_of contents roles)
+  unfolding IsDistinct
+  load_once = load_keeps (AsksOnce contents) (once_more contents) (λ loaded. tt)
+
+  -- a name that is still missing was asked for
+  pub none_missing : (files : FileTable) → (load_of contents roles).loaded ≡ Ok files
+      → (name : List ℕ) → Contains (missing_of files roles) name → has_file files name ≡ false
+      → contents name ≡ None
+  none_missing files e name missing absent =
+      let load = load_of contents roles in
+      let there = load_keeps (AreThere contents (λ n. contents n ≡ None))
+      (λ needed. there_more contents (λ n. contents n ≡ None) needed (λ n _ none. none))
+      (λ loaded table k n any. absurd (cc)) in
+      search (rules, one_more, become_asked)

@@ -1,3 +1,2 @@
+pub mod Endings
 pub mod Loading
-pub mod Loads
-pub mod Rounds

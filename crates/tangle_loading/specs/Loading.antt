@@ -1,21 +1,19 @@
--- Loading: the files that a run reads, and how loading ends where one can't be read or is refused.
-use Rattle.std.specs.Prelude.{◌≡◌, ◌⊎◌, ℕ, ◌&&◌, is_none, not, nat_lt}
-use Rattle.std.specs.Prelude.{length, map, filter, Bool, true, false, List, Option}
-use Rattle.std.specs.Prelude.{None, Some, Result, Ok, Err, if◌then◌else◌}
+-- Loading: the names for which a folder is asked, and the files that are loaded.
+use Rattle.std.specs.Prelude.{ℕ, zero, suc, ◌&&◌, not, nat_lt, if◌then◌else◌}
+use Rattle.std.specs.Prelude.{length, map, filter, Bool, true, false, List, [], ◌∷◌, ◌++◌, Option}
+use Rattle.std.specs.Prelude.{None, Some, Result, Ok, Err}
 use Rattle.tangle_files.specs.declared.refusal.Refusal.{Refusal}
-use Rattle.tangle_files.specs.declared.refusal.Refusal.TheVariants.{NoMemory as RefusalMemory}
+use Rattle.tangle_files.specs.declared.refusal.Refusal.TheVariants.{BadName}
 use Rattle.tangle_faults.specs.declared.faults.FaultKind.{FaultKind}
 use Rattle.tangle_faults.specs.declared.faults.FaultKind.TheVariants.{IncludeMissing}
 use Rattle.tangle_faults.specs.Faults.{FaultRead}
-use Rattle.std.specs.List.{list_any}
-use Rattle.tangle_files.specs.Lines.{FileTable, file_number, lines_at}
-use Rattle.tangle_lines.specs.Inclusion.{included_name}
-use Rattle.tangle_files.specs.Adding.{add_refusal, with_file, is_name}
+use Rattle.std.specs.List.{fold, list_any}
+use Rattle.std.specs.Str.{bytes_eq}
+use Rattle.tangle_files.specs.Lines.{FileTable}
+use Rattle.tangle_files.specs.Adding.{add_refusal, with_file, is_name, most_files}
 use Rattle.tangle_lines.specs.Reading.{source_of}
 use Rattle.tangle_files.specs.Roles.{RolesRead}
 use Rattle.tangle_folders.specs.Folder.{file_limit}
-use Rattle.tangle_loading.specs.declared.loading.LoadFault.{LoadFault}
-use Rattle.tangle_loading.specs.declared.loading.LoadFault.TheVariants as fault
 
 -- why loading ends without its files: a file can't be read, or is refused, or memory runs out
 pub data LoadEnd : Type 0 where
@@ -26,10 +24,6 @@ pub data LoadEnd : Type 0 where
 -- the loaded files, or why there are none
 abbrev pub Loaded : Type 0
 Loaded = Result FileTable LoadEnd
-
-abbrev pub and_then : Loaded → (FileTable → Loaded) → Loaded
-and_then (Ok files) rest = rest files
-and_then (Err ending) rest = Err ending
 
 -- a file is added, unless the table refuses it
 abbrev pub unless_refused : FileTable → List ℕ → List ℕ → Option Refusal → Loaded
@@ -62,17 +56,9 @@ missed_in faults = map (λ f. f.subject) (filter is_missed faults)
 unfoldable pub missing_of : FileTable → RolesRead → List (List ℕ)
 missing_of files roles = missed_in (source_of files roles).faults
 
--- whether a line includes a file that isn't in the table
-abbrev pub misses_name : FileTable → Option (List ℕ) → Bool
-misses_name files None = false
-misses_name files (Some name) = is_none (file_number files name)
-
-abbrev pub misses_file : FileTable → List ℕ → Bool
-misses_file files line = misses_name files (included_name line)
-
--- no line of a file includes a file that isn't in the table
-abbrev pub IncludesNoMissing : FileTable → Type 0
-IncludesNoMissing files = (n : ℕ) → list_any (misses_file files) (lines_at files n) ≡ false
+abbrev pub missing_in : Loaded → RolesRead → List (List ℕ)
+missing_in (Ok files) roles = missing_of files roles
+missing_in (Err ending) roles = []
 
 -- the name of the change file, if there is one and it is no file name; else the rest
 abbrev pub bad_change : Option (List ℕ) → Option (List ℕ) → Option (List ℕ)
@@ -85,20 +71,52 @@ bad_name roles =
     if not (is_name roles.web) then Some roles.web
     else bad_change roles.change (if is_name roles.out then None else Some roles.out)
 
--- the table refuses this file, or memory runs out
-abbrev pub IsRefusal : FileTable → List ℕ → List ℕ → LoadEnd → Type 0
-IsRefusal files name bytes ending = (add_bytes files name bytes ≡ Err ending) ⊎ (ending ≡ NoMemory)
+-- the name, if there is one
+abbrev pub named_in : Option (List ℕ) → List (List ℕ)
+named_in None = []
+named_in (Some name) = name ∷ []
 
--- the ending of a loading in which the table refused a file
-abbrev pub refused_as : List ℕ → Refusal → LoadEnd
-refused_as name RefusalMemory = NoMemory
-refused_as name refusal = Refused name refusal
+-- loading at a moment: the names for which the folder was asked, in order, and the files, or why
+-- there are none
+pub record Load : Type 0 where
+  pub asked : List (List ℕ)
+  pub loaded : Loaded
 
--- loading ends as expected, or out of memory
-abbrev pub IsLoadEnd : LoadEnd → LoadEnd → Type 0
-IsLoadEnd expected given = (given ≡ expected) ⊎ (given ≡ NoMemory)
+abbrev pub so_far : List (List ℕ) → Loaded → Load
+so_far asked loaded = record { asked = asked; loaded = loaded }
 
-abbrev pub ending_of : LoadFault → LoadEnd
-ending_of (fault.CannotRead name) = CannotRead name.items
-ending_of (fault.Refused name refusal) = Refused name.items refusal
-ending_of fault.NoMemory = NoMemory
+-- the files of a folder: the bytes of the file of this name, if there is one
+abbrev pub Contents : Type 0
+Contents = List ℕ → Option (List ℕ)
+
+module _ (contents : Contents) where
+  -- The folder is asked for a name, unless it was asked for it before or loading has ended.
+  abbrev pub ask : Bool → List (List ℕ) → Loaded → List ℕ → Load
+  ask needed asked (Err ending) name = so_far asked (Err ending)
+  ask needed asked (Ok files) name =
+      if list_any (bytes_eq name) asked then so_far asked (Ok files)
+      else so_far (asked ++ name ∷ []) (add_answer needed files name (contents name))
+
+  abbrev pub ask_all : Bool → Load → List (List ℕ) → Load
+  ask_all needed load names = fold (λ l name. ask needed l.asked l.loaded name) load names
+
+  -- the first round asks for the web, and for the change file, if one is named
+  abbrev pub first_round : RolesRead → Load
+  first_round roles = ask_all true (so_far [] (Ok [])) (roles.web ∷ named_in roles.change)
+
+  -- each further round reads the files, and asks for the files that inclusions miss
+  abbrev pub round_after : RolesRead → Load → Load
+  round_after roles load = ask_all false load (missing_in load.loaded roles)
+
+  unfoldable pub rounds_after : RolesRead → ℕ → Load → Load
+  rounds_after roles zero load = load
+  rounds_after roles (suc n) load = rounds_after roles n (round_after roles load)
+
+  abbrev pub load_unless : Option (List ℕ) → RolesRead → Load
+  load_unless (Some bad) roles = so_far [] (Err (Refused bad BadName))
+  load_unless None roles = rounds_after roles most_files (first_round roles)
+
+  -- What loading asks for and gives, by these contents. Each round but the last adds a file, so
+  -- these rounds are enough: one more changes nothing (`one_more_round_changes_nothing`).
+  abbrev pub load_of : RolesRead → Load
+  load_of roles = load_unless (bad_name roles) roles

@@ -6,5 +6,7 @@
 mod laws;
 mod loading;
 
-pub use laws::{each_name_is_asked_for_once, missing_names_are_not_there, rounds_go_one_way};
+pub use laws::{
+    each_name_is_asked_for_once, missing_names_are_not_there, one_more_round_changes_nothing,
+};
 pub use loading::{LoadFault, load};

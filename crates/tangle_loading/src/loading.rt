@@ -1,17 +1,16 @@
 //! Loading: the files that a run reads.
-ghost use Rattle.std.specs.Prelude.{◌≡◌, ◌≤◌, ◌∷◌, ℕ, List, [], length, map, true};
-ghost use Rattle.std.specs.Prelude.{false, IfErr, IfOk, None, Ok, OnOk};
+ghost use Rattle.std.specs.Prelude.{◌≡◌, ◌≤◌, ◌∷◌, ◌++◌, ℕ, List, [], length, map, true};
+ghost use Rattle.std.specs.Prelude.{false, Err, IfErr, IfOk, None, Ok, OnOk};
 ghost use Rattle.std.specs.List.{list_any};
 ghost use Rattle.std.specs.Option.{option_copied};
 ghost use Rattle.std.specs.Str.{bytes_eq};
 ghost use Rattle.tangle_folders.specs.Folder.{file_limit};
 ghost use Rattle.tangle_files.specs.Roles.{fits};
-ghost use Rattle.tangle_loading.specs.Loading.{IncludesNoMissing, IsLoadEnd, IsRefusal, add_bytes};
-ghost use Rattle.tangle_loading.specs.Loading.{bad_name, ending_of, is_missing_kind, is_missed};
-ghost use Rattle.tangle_loading.specs.Loading.{misses_file, missing_of, refused_as, missed_in};
+ghost use Rattle.tangle_loading.specs.Endings.{IncludesNoMissing, IsGiven, LoadGives};
+ghost use Rattle.tangle_loading.specs.Endings.{Step, ending_of, given, misses_file, refused_as};
+ghost use Rattle.tangle_loading.specs.Loading.{add_bytes, bad_name, is_missed, is_missing_kind};
+ghost use Rattle.tangle_loading.specs.Loading.{missed_in, missing_of, named_in, so_far};
 ghost use Rattle.tangle_loading.specs.Loading.LoadEnd.{CannotRead};
-ghost use Rattle.tangle_loading.specs.Loads.{Loads, StepEnds, StopsLoading, progress};
-ghost use Rattle.tangle_loading.specs.Rounds.{first_round, with_asked_once};
 
 use indexmap::IndexSet;
 use std::alloc::Global;
@@ -75,7 +74,8 @@ impl Asked {
     }
 
     fn insert(&mut self, alloc: Global, name: &[u8]) -> Result<(), NoMemory>
-        ensures { OnOk result (self.new ≡ with_asked_once self.old name.now) }
+        requires { list_any (bytes_eq name.now) self.old ≡ false }
+        ensures { OnOk result (self.new ≡ self.old ++ name.now ∷ []) }
     {
         let name = Vec::from_slice(alloc, name)?;
         self.names.insert(name)?;
@@ -85,7 +85,7 @@ impl Asked {
 
 // `CannotRead` with a copy of this name, or `NoMemory` where the name could not be copied.
 fn cannot_read(alloc: Global, name: &[u8]) -> LoadFault
-    ensures { IsLoadEnd (CannotRead name.now) (ending_of result) }
+    ensures { IsGiven (Err (CannotRead name.now)) (Err (ending_of result)) }
 {
     match Vec::from_slice(alloc, name) {
         Ok(name) => LoadFault::CannotRead(name),
@@ -96,7 +96,7 @@ fn cannot_read(alloc: Global, name: &[u8]) -> LoadFault
 // `Refused` with a copy of this name; `NoMemory` where that is the refusal, or the name could not
 // be copied.
 fn refused(alloc: Global, name: &[u8], refusal: Refusal) -> LoadFault
-    ensures { IsLoadEnd (refused_as name.now refusal) (ending_of result) }
+    ensures { IsGiven (Err (refused_as name.now refusal)) (Err (ending_of result)) }
 {
     if refusal == Refusal::NoMemory {
         return LoadFault::NoMemory;
@@ -110,9 +110,7 @@ fn refused(alloc: Global, name: &[u8], refusal: Refusal) -> LoadFault
 // Adds a file with these bytes to the table.
 fn add_file(alloc: Global, files: &mut Files, name: &[u8], bytes: Vec<u8>) -> Result<(), LoadFault>
     requires { length bytes.items ≤ file_limit }
-    ensures ok { OnOk result (add_bytes files.old name.now bytes.items ≡ Ok files.new) }
-    ensures err { IfErr result
-        (λ fault. IsRefusal files.old name.now bytes.items (ending_of fault)) }
+    ensures { IsGiven (add_bytes files.old name.now bytes.items) (given files.new result) }
 {
     match files.add_owned(name, bytes) {
         Ok(()) => Ok(()),
@@ -130,9 +128,8 @@ fn read_once<F: Folder>(
     name: &[u8],
     needed: bool,
 ) -> Result<(), LoadFault>
-    ensures { StepEnds needed (name.now ∷ [])
-        (progress (F.state folder.old) files.old asked.old)
-        (progress (F.state folder.new) files.new asked.new) result }
+    ensures { Step needed (name.now ∷ []) (F.state folder.old) (so_far asked.old (Ok files.old))
+        (F.state folder.new) (so_far asked.new (given files.new result)) }
 {
     if asked.contains(name) {
         return Ok(());
@@ -156,9 +153,9 @@ fn read_needed<F: Folder>(
     files: &mut Files,
     asked: &mut Asked,
 ) -> Result<(), LoadFault>
-    ensures { StepEnds true (first_round roles.now).names
-        (progress (F.state folder.old) files.old asked.old)
-        (progress (F.state folder.new) files.new asked.new) result }
+    ensures { Step true (roles.now.web ∷ named_in roles.now.change) (F.state folder.old)
+        (so_far asked.old (Ok files.old)) (F.state folder.new)
+        (so_far asked.new (given files.new result)) }
 {
     read_once(alloc, folder, files, asked, roles.web(), true)?;
     match roles.change() {
@@ -179,26 +176,8 @@ fn is_missed(fault: &Fault) -> bool
     is_missing(fault.kind()) && is_file_name(fault.subject())
 }
 
-// Reads the file that a fault of reading names as missing. It stays missing where the folder has no
-// such file, or the name is no file name.
-fn read_missing<F: Folder>(
-    alloc: Global,
-    folder: &mut F,
-    files: &mut Files,
-    asked: &mut Asked,
-    fault: &Fault,
-) -> Result<(), LoadFault>
-    ensures { StepEnds false (missed_in (fault.now ∷ []))
-        (progress (F.state folder.old) files.old asked.old)
-        (progress (F.state folder.new) files.new asked.new) result }
-{
-    if !is_missed(fault) {
-        return Ok(());
-    }
-    read_once(alloc, folder, files, asked, fault.subject(), false)
-}
-
-// Reads the missing files that these faults of reading name.
+// Reads the missing files that these faults of reading name. A file stays missing where the folder
+// has none of that name, or the name is no file name.
 fn read_inclusions<F: Folder>(
     alloc: Global,
     folder: &mut F,
@@ -206,12 +185,15 @@ fn read_inclusions<F: Folder>(
     asked: &mut Asked,
     faults: &[Fault],
 ) -> Result<(), LoadFault>
-    ensures { StepEnds false (missed_in faults.now)
-        (progress (F.state folder.old) files.old asked.old)
-        (progress (F.state folder.new) files.new asked.new) result }
+    ensures { Step false (missed_in faults.now) (F.state folder.old)
+        (so_far asked.old (Ok files.old)) (F.state folder.new)
+        (so_far asked.new (given files.new result)) }
 {
     for fault in faults {
-        read_missing(alloc, folder, files, asked, fault)?;
+        if !is_missed(fault) {
+            continue;
+        }
+        read_once(alloc, folder, files, asked, fault.subject(), false)?;
     }
     Ok(())
 }
@@ -277,10 +259,10 @@ fn first_bad(names: &Words) -> Option<&[u8]>
 fn load_files<F: Folder>(alloc: Global, roles: &Roles, folder: &mut F) -> Result<Files, LoadFault>
     requires { bad_name roles.now ≡ None }
     ensures ok { IfOk result
-        (λ files. Loads roles.now (F.state folder.old) (F.state folder.new) files) }
+        (λ files. LoadGives roles.now (F.state folder.old) (F.state folder.new) (Ok files)) }
     ensures fits { IfOk result (λ files. fits files roles.now ≡ true) }
-    ensures err { IfErr result (λ fault. StopsLoading roles.now (F.state folder.old)
-        (F.state folder.new) (ending_of fault)) }
+    ensures err { IfErr result (λ fault. LoadGives roles.now (F.state folder.old)
+        (F.state folder.new) (Err (ending_of fault))) }
 {
     let mut files = Files::new(alloc);
     let mut asked = Asked::new(alloc);
@@ -321,11 +303,11 @@ pub fn load<F: Folder>(
     folder: &mut F,
 ) -> Result<(Files, Roles), LoadFault>
     ensures ok { IfOk result
-        (λ r. Loads names.now (F.state folder.old) (F.state folder.new) r.0) }
+        (λ r. LoadGives names.now (F.state folder.old) (F.state folder.new) (Ok r.0)) }
     ensures roles { IfOk result (λ r. r.1 ≡ names.now) }
     ensures fits { IfOk result (λ r. fits r.0 r.1 ≡ true) }
-    ensures err { IfErr result (λ fault. StopsLoading names.now (F.state folder.old)
-        (F.state folder.new) (ending_of fault)) }
+    ensures err { IfErr result (λ fault. LoadGives names.now (F.state folder.old)
+        (F.state folder.new) (Err (ending_of fault))) }
 {
     if let Some(name) = first_bad(names) {
         return Err(refused(alloc, name, Refusal::BadName));

@@ -1,4 +1,4 @@
-use Rattle.tangle_loading.specs.Loading.{ending_of}
+use Rattle.tangle_loading.specs.Endings.{ending_of}
 use Rattle.ctangle_cli.specs.Run.NamedEnds.{IsUnloaded}
 use Rattle.ctangle_cli.proofs.RunLemmas.{tries_from}
 use Rattle.ctangle_cli.proofs.run.run_named.Goals as goal

@@ -1,10 +1,9 @@
-use Rattle.std.proofs.Common.{false, take}
-use Rattle.tangle_loading.specs.Loading.{missed_in}
-use Rattle.tangle_loading.specs.Loads.{Reads, progress}
+use Rattle.std.proofs.Common.{Ok, false, take}
+use Rattle.tangle_loading.specs.Loading.{missed_in, so_far}
+use Rattle.tangle_loading.specs.Endings.{Step}
 use Rattle.tangle_loading.proofs.loading.read_inclusions.Given as goal
 
 abbrev pub invariant-loop-fault : goal.invariant-loop-fault
 invariant-loop-fault g l =
-    Reads false (missed_in (take l.fault-index l.faults))
-    (progress (g.F.Folder.state l.initial.folder) l.initial.files l.initial.asked)
-    (progress (g.F.Folder.state l.folder) l.files l.asked)
+    Step false (missed_in (take l.fault-index l.faults)) (g.F.Folder.state l.initial.folder)
+    (so_far l.initial.asked (Ok l.initial.files)) (g.F.Folder.state l.folder) (so_far l.asked (Ok l.files))
