@@ -97,7 +97,7 @@ CALLS = {
     'tangle_again': ['tangle_session/session.rt: apply_all'],
     'apply_all': ['tangle_session/session.rt: apply', 'ctangle_cli/conversation.rt: commit'],
     'write_output_at': ['tangle_session/session.rt: write_output', 'ctangle_cli/writing.rt: create_output'],
-    'write_output': ['ctangle_cli/conversation.rt: show_output'],
+    'write_output': ['ctangle_cli/conversation.rt: show'],
     'file_size': ['tangle_session/session.rt: output_size'],
 }
 

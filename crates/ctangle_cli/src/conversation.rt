@@ -1,6 +1,6 @@
 //! A session answers the requests of a script. Some requests collect edits in a list, which another
 //! request then makes.
-ghost use Rattle.std.specs.Prelude.{◌≡◌, ◌++◌, ℕ, List, Option, None, Some};
+ghost use Rattle.std.specs.Prelude.{◌≡◌, ◌++◌, ℕ, List, Option, None};
 ghost use Rattle.std.specs.Prelude.{codes, decimal, true, IfOk};
 ghost use Rattle.std.specs.List.{list_any};
 ghost use Rattle.tangle_files.specs.declared.edits.Edit.{Edit as EditRead};
@@ -81,18 +81,14 @@ fn write_list_answer<S: Sink>(done: Result<(), ListRefusal>, sink: &mut S) -> Re
     }
 }
 
-// Writes the line of an output file that is shown, and its bytes.
-fn show_output<S: Sink>(
-    session: &Session,
-    name: &[u8],
-    size: u128,
-    sink: &mut S,
-) -> Result<(), SinkFailed>
-    ensures { (bytes : List ℕ)
-        → output_at session.now.files session.now.roles name.now ≡ Some bytes
-        → WritesAnswer (S.stream sink.old) (S.stream sink.new)
-        (codes "= " ++ name.now ++ codes " " ++ decimal size ++ codes "\n" ++ bytes) result }
+// Writes the output file of this name after a line with its size, or that there is none.
+fn show<S: Sink>(session: &Session, name: &[u8], sink: &mut S) -> Result<(), SinkFailed>
+    ensures { WritesAnswer (S.stream sink.old) (S.stream sink.new)
+        (shown name.now (output_at session.now.files session.now.roles name.now)) result }
 {
+    let Some(size) = session.output_size(name) else {
+        return say(sink, &[b"no NoOutput\n"]);
+    };
     let mut digits = Buffer::new();
     say(
         sink,
@@ -101,17 +97,6 @@ fn show_output<S: Sink>(
     match session.write_output(name, sink) {
         Ok(_) => Ok(()),
         Err(_) => Err(SinkFailed),
-    }
-}
-
-// Writes the output file of this name, or that there is none.
-fn show<S: Sink>(session: &Session, name: &[u8], sink: &mut S) -> Result<(), SinkFailed>
-    ensures { WritesAnswer (S.stream sink.old) (S.stream sink.new)
-        (shown name.now (output_at session.now.files session.now.roles name.now)) result }
-{
-    match session.output_size(name) {
-        None => say(sink, &[b"no NoOutput\n"]),
-        Some(size) => show_output(session, name, size, sink),
     }
 }
 

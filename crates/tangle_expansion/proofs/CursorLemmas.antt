@@ -11,9 +11,9 @@ use Rattle.tangle_plans.specs.Flat.{Symbol, Byte}
 use Rattle.tangle_plans.specs.Meaning.{title_of, left_over, with_used}
 use Rattle.tangle_plans.specs.Flat.{own_symbols}
 use Rattle.tangle_plans.specs.declared.nodes.NodeBody.{NodeBody}
-use Rattle.tangle_plans.specs.declared.tags.ItemKind.{ItemKind}
-use Rattle.tangle_plans.specs.declared.tags.ItemKind.TheVariants as tag
-use Rattle.tangle_plans.specs.declared.tags.ItemTag.{ItemTag}
+use Rattle.tangle_scan.specs.declared.texts.ItemKind.{ItemKind}
+use Rattle.tangle_scan.specs.declared.texts.ItemKind.TheVariants as tag
+use Rattle.tangle_scan.specs.declared.texts.ItemTag.{ItemTag}
 use Rattle.tangle_plans.proofs.DropLemmas.{drop_at}
 use Rattle.tangle_expansion.specs.Numbers.{NumbersRead, expansion_bytes}
 use Rattle.tangle_expansion.specs.Writing.{bytes_between, has_bytes_alone, IsAfterTag, symbols_from, bytes_from, from_use}

@@ -4,8 +4,6 @@ pub mod LineTruth
 mod PieceLemmas
 pub mod NumberLemmas
 pub mod LookupLemmas
-pub mod MacroEndLemmas
-pub mod OriginLemmas
 pub mod WriteLemmas
 pub mod WrittenLemmas
 pub mod ShortLemmas

@@ -29,7 +29,8 @@ use Rattle.tangle_expansion.specs.Outputs.{IsTrueToLines}
 use Rattle.tangle_expansion.proofs.NumberLemmas.{node_numbers_of}
 use Rattle.tangle_expansion.specs.Numbers.{NumbersRead, no_origin, no_numbers, numbers_of}
 use Rattle.tangle_expansion.specs.Numbers.{expansion_bytes}
-use Rattle.tangle_expansion.specs.Numbers.{node_numbers, numbers_at, numbers_of_piece, item_origins}
+use Rattle.tangle_expansion.specs.Numbers.{node_numbers, numbers_at, numbers_of_piece}
+use Rattle.tangle_scan.specs.Texts.{item_origins}
 use Rattle.tangle_expansion.specs.Location.{ByteClass, OfItem, Other, border_of, origin_after, AreAtTheirOrigins}
 use Rattle.tangle_expansion.specs.Location.{resolved_classes, items_classes, classes}
 use Rattle.tangle_files.specs.declared.marks.MarkMode.TheVariants.{Full}
@@ -125,7 +126,7 @@ module _ (web : WebRead) (lines : List SourceLine)
       resolved_is_located node piece marks (map (shape_item web.texts (table_of web)) items) _ (border_after texts line)
       (λ now r. items_are_located node piece marks now r [] items ss origins (own now r)) read q
       (resolved_at (table_of web) occurrence)
-  items_are_located node piece marks read q line (item.Defs ∷ items) ss origins own =
+  items_are_located node piece marks read q line (item.AllMacros ∷ items) ss origins own =
       all-choices (border_after texts line) read _
       (λ now. (tt, items_are_located node piece marks now None [] items ss origins (own now None)))
   -- a source item

@@ -1,15 +1,26 @@
 -- The numbers that are stored of pieces are those of the pieces.
 use Rattle.std.proofs.Common.{rules}
-use Rattle.std.proofs.Common.{◌≡◌, ◌<◌, ℕ, List, [], ◌∷◌, map}
+use Rattle.std.proofs.Common.{◌≡◌, ◌∙◌, ◌<◌, ℕ, List, [], ◌∷◌, ap, get_or, map}
 use Rattle.std.proofs.Common.{length, refl, All}
 use Rattle.std.specs.Prelude.{slice_index_or}
 use Rattle.std.proofs.lemmas.List.{get_or-map}
 use Rattle.std.proofs.lemmas.List.Elements.{All-head, All-tail}
-use Rattle.tangle_scan.specs.Web.{PieceRead}
-use Rattle.tangle_plans.specs.Nodes.{no_piece, pieces_at}
+use Rattle.tangle_scan.specs.Texts.{TextRead, IsTextOf}
+use Rattle.tangle_scan.specs.Web.{PieceRead, WebRead, no_piece, stored_piece}
+use Rattle.tangle_scan.specs.declared.pieces.Piece.{Piece}
+use Rattle.tangle_plans.specs.Nodes.{pieces_at}
 use Rattle.tangle_expansion.specs.Numbers.{numbers_of_piece}
 use Rattle.tangle_expansion.specs.PieceNumbers.{numbers_of_position, numbers_of_rows}
 use Rattle.tangle_expansion.specs.declared.piece_numbers.PieceNumbers.{PieceNumbers}
+
+-- the origin of a stored piece and those of the marks of its text
+pub origins_read : (web : WebRead) (stored : List Piece) (n : ℕ) (p : Piece) (text : TextRead)
+    → stored ≡ map stored_piece web.pieces → n < length web.pieces
+    → IsTextOf web.texts (get_or web.pieces n no_piece).items text
+    → (get_or stored n p).origin ∷ text.marks ≡ (numbers_of_piece (get_or web.pieces n no_piece)).origins
+origins_read web stored n p text is low h =
+    let piece = ap (λ ps. get_or ps n p) is ∙ get_or-map stored_piece web.pieces n no_piece p low in
+    cc (ap (λ (q : Piece). q.origin) piece, h.marks)
 
 module _ (numbers : PieceNumbers) (pieces : List PieceRead)
     (sections : numbers.sections.items ≡ map (λ p. p.section) pieces)

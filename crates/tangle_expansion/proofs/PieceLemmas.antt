@@ -17,7 +17,8 @@ use Rattle.tangle_plans.specs.Shapes.{Title, ShapeItem}
 use Rattle.tangle_plans.specs.Flat.{Symbol, MarkOf, items_flat, pieces_flat}
 use Rattle.tangle_plans.specs.WebShapes.{resolved_at, shape_item, shape_of, use_of}
 use Rattle.tangle_files.specs.declared.marks.MarkMode.{MarkMode}
-use Rattle.tangle_expansion.specs.Numbers.{NumbersRead, symbol_bytes, closing_bytes, expansion_bytes, item_origins, mark_bytes}
+use Rattle.tangle_expansion.specs.Numbers.{NumbersRead, symbol_bytes, closing_bytes, expansion_bytes, mark_bytes}
+use Rattle.tangle_scan.specs.Texts.{item_origins}
 use Rattle.tangle_expansion.specs.Numbers.{mark_bytes_at, no_origin, no_numbers, node_numbers, numbers_at, numbers_of_piece}
 use Rattle.tangle_expansion.specs.Numbers.{PieceNumbersRead, opening_bytes, origin_of_mark}
 use Rattle.tangle_expansion.specs.PieceBytes.{bytes_after_mark, items_bytes, piece_bytes, resolved_bytes, used_bytes}
@@ -68,7 +69,7 @@ module _ (numbers : NumbersRead) where
         then (space ∷ used_bytes numbers table used occurrence) _ _ _ _
         (use_then piece marks (map (shape_item texts table) items) (resolved_at table occurrence))
         (items_written piece marks items origins)
-    items_written piece marks (item.Defs ∷ items) origins =
+    items_written piece marks (item.AllMacros ∷ items) origins =
         then (line_feed ∷ numbers.macros) _ _ _ _ refl (items_written piece marks items origins)
     -- an item that is bytes
     items_written piece marks (x ∷ items) origins =

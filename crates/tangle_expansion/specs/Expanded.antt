@@ -8,9 +8,9 @@ use Rattle.tangle_plans.specs.Flat.{Symbol, Byte}
 use Rattle.tangle_plans.specs.Meaning.{left_over, tags_flat, body_flat, with_used}
 use Rattle.tangle_plans.specs.Flat.{own_symbols}
 use Rattle.tangle_plans.specs.Meaning.{pieces_after, marks_after}
-use Rattle.tangle_plans.specs.declared.tags.ItemKind.{ItemKind}
-use Rattle.tangle_plans.specs.declared.tags.ItemKind.TheVariants as tag
-use Rattle.tangle_plans.specs.declared.tags.ItemTag.{ItemTag}
+use Rattle.tangle_scan.specs.declared.texts.ItemKind.{ItemKind}
+use Rattle.tangle_scan.specs.declared.texts.ItemKind.TheVariants as tag
+use Rattle.tangle_scan.specs.declared.texts.ItemTag.{ItemTag}
 use Rattle.tangle_expansion.specs.declared.expansion.Expansion.TheInside.{Inside}
 
 -- the symbols of what is shared for each use; there are none where nothing is

@@ -6,7 +6,6 @@ pub mod Expanded
 pub mod Longer
 pub mod NumbersKept
 pub mod PieceNumbers
-pub mod StoredOrigins
 pub mod SymbolLimits
 pub mod Kept
 pub mod Outputs

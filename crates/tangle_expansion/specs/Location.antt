@@ -66,7 +66,7 @@ module _ (table : TableRead) (used : List ℕ → List ByteClass) where
     items_classes line ss (item.UseOf occurrence ∷ items) =
         Other (border_after (texts_of lines) line)
         ∷ resolved_classes (resolved_at table occurrence) ++ items_classes [] ss items
-    items_classes line ss (item.Defs ∷ items) =
+    items_classes line ss (item.AllMacros ∷ items) =
         Other (border_after (texts_of lines) line) ∷ items_classes [] ss items
     items_classes line ss (x ∷ items) =
         map (λ b. class_at lines ss) (bytes_in texts x)

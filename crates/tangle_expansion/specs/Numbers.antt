@@ -9,8 +9,7 @@ use Rattle.tangle_files.specs.Bytes.{line_feed}
 use Rattle.tangle_lines.specs.Bytes.{double_quote}
 use Rattle.tangle_text.specs.Bytes.{backslash}
 use Rattle.tangle_lines.specs.declared.origin.Origin.{Origin}
-use Rattle.tangle_scan.specs.declared.items.Item.{Item}
-use Rattle.tangle_scan.specs.declared.items.Item.TheVariants as item
+use Rattle.tangle_scan.specs.Texts.{item_origins}
 use Rattle.tangle_scan.specs.Web.{WebRead, PieceRead}
 use Rattle.tangle_names.specs.NameTable.{TableRead}
 use Rattle.tangle_plans.specs.Shapes.{Title, Program, Named}
@@ -47,10 +46,6 @@ escaped name = flat_map escaped_byte name
 -- what comes after the number in the line marks of a file with this name
 abbrev pub mark_end : List ℕ → List ℕ
 mark_end name = codes " \"" ++ escaped name ++ codes "\"\n"
-
-abbrev pub item_origins : Item → List Origin
-item_origins (item.LineMark origin) = origin ∷ []
-item_origins _ = []
 
 abbrev pub numbers_of_piece : PieceRead → PieceNumbersRead
 numbers_of_piece piece =

@@ -10,7 +10,6 @@ mod expanding;
 mod expansion;
 mod kept;
 mod laws;
-mod macros;
 mod mark_ends;
 mod node_numbers;
 mod numbers;

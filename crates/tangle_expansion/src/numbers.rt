@@ -7,7 +7,6 @@ ghost use Rattle.tangle_expansion.specs.Numbers.{node_numbers, numbers_of, mark_
 ghost use Rattle.tangle_expansion.specs.Numbers.{row_number};
 ghost use Rattle.tangle_expansion.specs.SymbolLimits.{SymbolsAreShort};
 
-use crate::macros::macros_bytes;
 use crate::mark_ends::mark_ends;
 use crate::node_numbers::NodeNumbers;
 use crate::piece_numbers::PieceNumbers;
@@ -67,7 +66,7 @@ impl Numbers {
             names: names.share()?,
             rows: pieces.clone()?,
             pieces: PieceNumbers::read(alloc, web)?,
-            macros: macros_bytes(alloc, web)?,
+            macros: Vec::from_slice(alloc, web.macro_bytes())?,
             marks,
         })
     }

@@ -1,14 +1,14 @@
 //! The section numbers of the pieces of a web, and the origins of their marks.
-ghost use Rattle.std.specs.Prelude.{◌≡◌, ◌<◌, ◌^◌, ◌++◌, IfOk, OnOk, map};
+ghost use Rattle.std.specs.Prelude.{◌≡◌, ◌<◌, ◌^◌, ◌++◌, ◌∷◌, [], IfOk, OnOk, length, map, slice_index_or};
 ghost use Rattle.std.specs.List.{All};
+ghost use Rattle.tangle_scan.specs.Web.{no_piece};
 ghost use Rattle.tangle_expansion.specs.Numbers.{numbers_of_piece};
-ghost use Rattle.tangle_expansion.specs.StoredOrigins.{entry_origins, stored_origins};
 ghost use Rattle.tangle_expansion.specs.SymbolLimits.{IsLow};
 
 use digraph::Rows;
 use std::alloc::Global;
 use tangle_lines::{NoMemory, Origin};
-use tangle_scan::{Entry, Item, Piece, Web};
+use tangle_scan::Web;
 
 /// For each piece of a web its section number, and a row with the origins of its opening mark and
 /// of the marks in it.
@@ -20,32 +20,28 @@ pub(crate) struct PieceNumbers {
     ghost origins_low: { All (All IsLow) origins },
 }
 
-/// Adds the origin of the entry, if it is a mark.
-fn add_origin(origins: &mut Vec<Origin>, entry: Entry) -> Result<(), NoMemory>
+fn push_origin(origins: &mut Vec<Origin>, origin: Origin) -> Result<(), NoMemory>
     requires { All IsLow origins.old.items }
-    ensures added { OnOk result (origins.new.items ≡ origins.old.items ++ entry_origins entry) }
+    ensures pushed { OnOk result (origins.new.items ≡ origins.old.items ++ origin ∷ []) }
     ensures low { OnOk result (All IsLow origins.new.items) }
 {
-    if let Entry::Item(item) = entry
-        && let Item::LineMark(origin) = item
-    {
-        origins.push(origin)?;
-    }
+    origins.push(origin)?;
     Ok(())
 }
 
-/// Replaces these origins by those of a piece: of its opening mark, and of the marks in it.
-fn read_origins(origins: &mut Vec<Origin>, piece: &Piece) -> Result<(), NoMemory>
-    ensures read { OnOk result (origins.new.items ≡ stored_origins piece.now) }
+/// Replaces these origins by those of the piece with this number: of its opening mark, and of the
+/// marks in it.
+fn read_origins(origins: &mut Vec<Origin>, web: &Web, number: usize) -> Result<(), NoMemory>
+    requires { number < length web.now.pieces }
+    ensures read { OnOk result (origins.new.items
+        ≡ (numbers_of_piece (slice_index_or web.now.pieces number no_piece)).origins) }
     ensures low { OnOk result (All IsLow origins.new.items) }
 {
+    let pieces = web.pieces();
     origins.clear();
-    origins.push(piece.origin())?;
-    if !piece.may_have_mark() {
-        return Ok(());
-    }
-    for entry in piece.entries() {
-        add_origin(origins, *entry)?;
+    push_origin(origins, pieces[number].origin)?;
+    for origin in web.piece_text(number).marks {
+        push_origin(origins, *origin)?;
     }
     Ok(())
 }
@@ -62,9 +58,9 @@ impl PieceNumbers {
         let mut sections = Vec::with_capacity(alloc, pieces.len())?;
         let mut origins = Rows::new(alloc);
         let mut row = Vec::new(alloc);
-        for piece in pieces {
-            sections.push(piece.section())?;
-            read_origins(&mut row, piece)?;
+        for i in 0..pieces.len() {
+            sections.push(pieces[i].section)?;
+            read_origins(&mut row, web, i)?;
             origins.push_row(&row)?;
         }
         Ok(PieceNumbers { sections, origins })

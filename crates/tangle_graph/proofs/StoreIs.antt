@@ -4,14 +4,12 @@ use Rattle.std.proofs.lemmas.Bool.Decides.{nat_tests}
 use Rattle.std.proofs.Common.{◌≡◌, ◌≢◌, ◌∙◌, ◌≤◌, ◌<◌, ◌+◌, ◌↔◌, ℕ, suc, true, false, List, [], length, map, get_or}
 use Rattle.std.proofs.Common.{ap, sym, subst, inl, inr, arith}
 use Rattle.std.specs.Prelude.{AllPairs, Contains}
-use Rattle.std.specs.List.{IsDistinct}
 use Rattle.std.specs.List.Sorted.{IsStrictlyIncreasing}
-use Rattle.std.specs.Str.{bytes_eq}
 use Rattle.std.proofs.lemmas.List.{get_or_default}
 use Rattle.std.proofs.lemmas.List.Elements.{All-contains, All-from_get_or}
 use Rattle.std.proofs.lemmas.List.Kept.{AllPairs-from_increasing}
 use Rattle.tangle_scan.specs.Web.{WebRead, PieceRead}
-use Rattle.tangle_names.specs.NameTable.{TableRead}
+use Rattle.tangle_names.specs.NameTable.{TableRead, table_of}
 use Rattle.tangle_plans.specs.Shapes.{Title, Named, Shapes, Uses}
 use Rattle.tangle_plans.specs.Flat.{depth}
 use Rattle.tangle_plans.specs.NodeBodies.{body_uses}
@@ -34,13 +32,13 @@ use Rattle.tangle_graph.specs.Ordering.{IsOrderIn}
 use Rattle.tangle_graph.specs.Stores.{StoreRead, IsStoreOf, flag_at}
 use Rattle.tangle_graph.specs.declared.measures.Measure.{Measure}
 use Rattle.tangle_graph.specs.declared.name_graph.NameGraph.{NameGraph}
-use Rattle.tangle_graph.proofs.GraphLemmas.{complete, sound, uses_count}
+use Rattle.tangle_graph.proofs.GraphLemmas.{complete, distinct_names, resolves_inside, sound, uses_count}
 use Rattle.tangle_graph.proofs.NodeLemmas.{once_titled, title_inside}
 use Rattle.tangle_graph.proofs.OrderLemmas.{among}
 use Rattle.tangle_graph.proofs.StoreLemmas.{expandable_is, there}
 
 -- a name with a piece is the name of a node
-pub known_name : (web : WebRead) (table : TableRead) → ResolvesInside table → (name : List ℕ)
+known_name : (web : WebRead) (table : TableRead) → ResolvesInside table → (name : List ℕ)
     → shapes web table (Named name) ≢ [] → (a : ℕ) × (a ≤ length table.names) × (title_at table.names a ≡ Named name)
 known_name web table inside name h =
     let found = there table inside name web.pieces
@@ -50,11 +48,14 @@ known_name web table inside name h =
 apart : (row : List ℕ) → IsStrictlyIncreasing row → AllPairs (λ b c. b ≢ c) row
 apart row rising i j d low high e = absurd (omega (arith, AllPairs-from_increasing row rising i j d low high))
 
-module _ (all : Shapes) (stored : List NodeBody) (name_graph : NameGraph)
-    (distinct : IsDistinct bytes_eq name_graph.names) (bodies : AreBodiesOf all name_graph.names stored)
+module _ (web : WebRead) (table : TableRead) (stored : List NodeBody) (name_graph : NameGraph)
+    (of_web : table ≡ table_of web) (bodies : AreBodiesOf (shapes web table) table.names stored)
     (is : IsNameGraphOf (map body_uses stored) name_graph) where
+  abbrev all : Shapes
+  all = shapes web table
+
   abbrev names : List (List ℕ)
-  names = name_graph.names
+  names = table.names
 
   abbrev order : List ℕ
   order = name_graph.order.items
@@ -70,7 +71,7 @@ module _ (all : Shapes) (stored : List NodeBody) (name_graph : NameGraph)
 
   titled : IsTitled name_graph.uses (Uses all) (title_at names)
   titled = record {
-    once = search (rules, once_titled, count);
+    once = search (rules, once_titled, count, distinct_names web table of_web);
     sound = sound all names stored name_graph.uses bodies is.uses;
     complete = complete all names stored name_graph.uses bodies is.uses;
   }
@@ -106,9 +107,9 @@ module _ (all : Shapes) (stored : List NodeBody) (name_graph : NameGraph)
 
   module _ (pieces : List (List ℕ)) (measures : List Measure) (outputs : List OutputRead)
       (sized : length measures ≡ length name_graph.uses) (measured : AreMeasures all names measures) where
-    abbrev made : StoreRead
-    made = record {
-      names = names;
+    abbrev made : List (List ℕ) → StoreRead
+    made ns = record {
+      names = ns;
       pieces = pieces;
       uses = name_graph.uses;
       users = name_graph.users;
@@ -119,14 +120,13 @@ module _ (all : Shapes) (stored : List NodeBody) (name_graph : NameGraph)
       bodies = stored;
     }
 
-    pub store_is : ((name : List ℕ) → all (Named name) ≢ [] → (a : ℕ) × (a ≤ length names) × (title a ≡ Named name))
-        → IsStoreOf all made
-    store_is known = record {
+    store_is : IsStoreOf all (made names)
+    store_is = record {
       measures_size = sized ∙ count;
       measures = measured;
       bodies = bodies;
       once = λ a b ha hb. titled.once a b (here a ha) (here b hb);
-      known = known;
+      known = known_name web table (resolves_inside web table of_web);
       uses = uses_are;
       users = users_are;
       uses_once = λ a ha. apart (row_at name_graph.uses a)
@@ -135,7 +135,7 @@ module _ (all : Shapes) (stored : List NodeBody) (name_graph : NameGraph)
       contains_itself = contains_is;
     }
 
-    pub order_is : IsOrderIn made order
+    order_is : IsOrderIn (made names) order
     order_is = record { inside = inside; once = once; after = is.order.after_uses.after; expandable = expandable }
       where
         inside : (n : ℕ) → Contains order n → n ≤ length names
@@ -153,3 +153,7 @@ module _ (all : Shapes) (stored : List NodeBody) (name_graph : NameGraph)
               (sym (ap (λ (m : Measure). m.is_expandable) (measured n h)) ∙ flag) in
               absurd (omega (arith, left_out_deep name_graph.uses order is.order is.range (λ k m. k ≤ depth k all (title m)) (λ m. omega arith) (λ k a b u. deeper k all (title a) (title b) (titled.sound a b u)) levels n (here n h) none)))
         ]
+
+    -- what `Store::build` makes
+    pub is_built : (ns : List (List ℕ)) → ns ≡ names → IsStoreOf all (made ns) × IsOrderIn (made ns) order
+    is_built ns named = rw named (store_is, order_is)

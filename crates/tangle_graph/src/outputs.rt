@@ -97,7 +97,7 @@ fn main_file(
     let mut files = Vec::new(alloc);
     if !has_piece || expandable {
         let name = Vec::from_slice(alloc, out)?;
-        files.push(Output::new(name, Node::program(), !web.has_defs_code(), has_piece))?;
+        files.push(Output::new(name, Node::program(), !web.has_all_macros(), has_piece))?;
     }
     Ok(files)
 }

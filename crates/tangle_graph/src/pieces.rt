@@ -53,7 +53,7 @@ fn node_at(web: &Web, table: &NameTable, i: usize) -> Option<Node>
     ensures within { IfSome result (λ n. n < length table.now.names + 1) }
 {
     let pieces = web.pieces();
-    node_of_piece(table, pieces[i].occurrence())
+    node_of_piece(table, pieces[i].occurrence)
 }
 
 /// The positions of the pieces of each node, in the order of the source.

@@ -27,17 +27,6 @@ pub struct Project {
     ghost fit: { fits files roles ≡ true },
 }
 
-fn list_web<S: Sink>(out: &mut Listing<S>, web: &Web, table: &NameTable)
-    requires { table.now ≡ table_of web.now }
-{
-    out.begin(b"sections");
-    out.number(web.section_count());
-    out.end();
-    list_occurrences(out, web, table);
-    list_parts(out, web);
-    list_faults(out, b"scanning", web.faults());
-}
-
 // Lists the graph of a web and what it expands to, and returns its store.
 fn list_store<S: Sink>(
     alloc: Global,
@@ -83,7 +72,12 @@ pub fn list_layers<S: Sink>(
     list_faults(out, b"reading", source.faults());
     let web = scan(alloc, &source)?;
     let table = NameTable::build(alloc, &web)?;
-    list_web(out, &web, &table);
+    out.begin(b"sections");
+    out.number(web.section_count());
+    out.end();
+    list_occurrences(out, &web, &table);
+    list_parts(alloc, out, &source, &web)?;
+    list_faults(out, b"scanning", web.faults());
     list_names(out, &table);
     list_faults(out, b"names", &table.faults(alloc, &web)?);
     list_store(alloc, out, &web, &table, &project.roles)

@@ -1,7 +1,9 @@
 //! The lines that are printed, word by word.
 use itoa::{Buffer, Integer};
+use std::fmt;
 use std::slice::from_ref;
 use tangle_lines::{Sink, write_after};
+use tangle_scan::Span;
 
 /// The digits of a byte that is not printed as it is.
 const DIGITS: &[u8; 16] = b"0123456789abcdef";
@@ -72,13 +74,19 @@ impl<S: Sink> Listing<S> {
         self.digits(line);
     }
 
-    /// Adds the place of a range of a source line.
-    pub fn span(&mut self, line: u32, start: u16, end: u16) {
-        self.number(line);
-        self.write(b":");
-        self.digits(start);
-        self.write(b"-");
-        self.digits(end);
+    /// Begins a line that belongs to the last one with this word, and adds the text that begins at
+    /// this offset in a range of a source line.
+    pub fn begin_text(&mut self, word: &[u8], span: Option<&Span>, offset: usize, text: &[u8]) {
+        self.begin_inner(word);
+        if let Some(span) = span {
+            let start = offset.wrapping_add(span.start as usize);
+            self.number(span.line);
+            self.write(b":");
+            self.digits(start);
+            self.write(b"-");
+            self.digits(start.wrapping_add(text.len()));
+        }
+        self.text(text);
     }
 
     /// Ends the line.
@@ -122,5 +130,12 @@ impl<S: Sink> Listing<S> {
                 self.write(from_ref(&DIGITS[byte as usize % 16]));
             }
         }
+    }
+}
+
+impl<S: Sink> fmt::Write for Listing<S> {
+    fn write_str(&mut self, text: &str) -> fmt::Result {
+        self.write(text.as_bytes());
+        Ok(())
     }
 }

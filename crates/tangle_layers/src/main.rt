@@ -12,6 +12,7 @@ mod names;
 mod output_files;
 mod running;
 mod section_names;
+mod source_parts;
 mod sources;
 mod text_lines;
 mod web_parts;

@@ -15,10 +15,6 @@ fn role_word(role: OccurrenceRole) -> &'static [u8] {
     }
 }
 
-fn mark(occurrence: &Occurrence) -> &'static [u8] {
-    if occurrence.is_file() { b"@(" } else { b"@<" }
-}
-
 fn form(occurrence: &Occurrence) -> &'static [u8] {
     if occurrence.is_abbreviation() {
         b"abbreviated"
@@ -48,7 +44,7 @@ pub fn list_occurrences<S: Sink>(out: &mut Listing<S>, web: &Web, table: &NameTa
         out.number(number);
         out.place(web.file_name(origin), origin.line);
         out.word(role_word(occurrence.role()));
-        out.word(mark(occurrence));
+        out.word(if occurrence.is_file() { b"@(" } else { b"@<" });
         out.word(form(occurrence));
         out.text(occurrence.text());
         add_target(out, table.resolve(number));

@@ -1,80 +1,74 @@
 //! The pieces and macros of a web, with their items.
-ghost use Rattle.std.specs.List.{All};
-ghost use Rattle.tangle_scan.specs.Entries.{IsEntryInRange, items_of};
-ghost use Rattle.tangle_scan.specs.ItemSpans.{IsInRange, IsSpan};
-
 use crate::listing::Listing;
-use tangle_lines::{Origin, Sink};
-use tangle_scan::{Item, Piece, Span, Web};
+use crate::source_parts::read_parts;
+use std::alloc::Global;
+use std::slice::Iter;
+use tangle_lines::{NoMemory, Sink, Source};
+use tangle_scan::{Item, ItemKind, ItemTag, Piece, PieceText, Span, Web};
+use tangle_text::is_word_byte;
 
-fn add_place<S: Sink>(out: &mut Listing<S>, web: &Web, origin: Origin) {
-    out.place(web.file_name(origin), origin.line);
+/// Lists the items of the run with this text: words, signs and single spaces.
+// No sum of columns of a line overflows.
+fn list_run<S: Sink>(out: &mut Listing<S>, run: Option<&Span>, text: &[u8]) {
+    let mut offset = 0_usize;
+    for part in text.chunk_by(|a, b| is_word_byte(*a) && is_word_byte(*b)) {
+        match part {
+            [b' '] => out.begin_inner(b"blank"),
+            [byte] if !is_word_byte(*byte) => out.begin_text(b"sign", run, offset, part),
+            _ => out.begin_text(b"word", run, offset, part),
+        }
+        out.end();
+        offset = offset.wrapping_add(part.len());
+    }
 }
 
-fn begin_spanned<S: Sink>(out: &mut Listing<S>, web: &Web, word: &[u8], span: Span)
-    requires { IsSpan web.now.texts span }
-{
-    out.begin_inner(word);
-    out.span(span.line, span.start, span.end);
-    out.text(web.text(span));
-}
-
-fn list_item<S: Sink>(out: &mut Listing<S>, web: &Web, item: Item)
-    requires { IsInRange web.now.texts item }
-{
-    match item {
-        Item::Word(span) => begin_spanned(out, web, b"word", span),
-        Item::Sign(span) => begin_spanned(out, web, b"sign", span),
-        Item::Quoted(span) => begin_spanned(out, web, b"quoted", span),
-        Item::QuoteBreak => out.begin_inner(b"quote break"),
-        Item::Verbatim(span) => begin_spanned(out, web, b"verbatim", span),
-        Item::Code(value) => {
+/// Lists the items that a tag stands for. What is left of the piece's text and of all spans begins
+/// with theirs.
+fn list_tag<S: Sink>(
+    out: &mut Listing<S>,
+    web: &Web,
+    left: &mut PieceText,
+    spans: &mut Iter<Span>,
+    tag: ItemTag,
+) {
+    let (text, rest) = left.bytes.split_at(left.bytes.len().min(tag.size as usize));
+    left.bytes = rest;
+    match (tag.kind, left.marks, left.uses) {
+        (ItemKind::Run, ..) => return list_run(out, spans.next(), text),
+        (ItemKind::Word, ..) => out.begin_text(b"word", spans.next(), 0, text),
+        (ItemKind::Sign, ..) => out.begin_text(b"sign", spans.next(), 0, text),
+        (ItemKind::Quoted, ..) => out.begin_text(b"quoted", spans.next(), 0, text),
+        (ItemKind::Verbatim, ..) => out.begin_text(b"verbatim", spans.next(), 0, text),
+        (ItemKind::QuoteBreak, ..) => out.begin_inner(b"quote break"),
+        (ItemKind::AsciiConstant, ..) => {
             out.begin_inner(b"code");
-            out.number(value);
+            out.word(text);
         }
-        Item::Blank => out.begin_inner(b"blank"),
-        Item::LineEnd => out.begin_inner(b"line end"),
-        Item::LineMark(origin) => {
+        (ItemKind::Blank, ..) => out.begin_inner(b"blank"),
+        (ItemKind::LineEnd, ..) => out.begin_inner(b"line end"),
+        (ItemKind::AllMacros, ..) => out.begin_inner(b"macros"),
+        (ItemKind::Mark, [origin, rest @ ..], _) => {
             out.begin_inner(b"line mark");
-            add_place(out, web, origin);
+            out.place(web.file_name(*origin), origin.line);
+            left.marks = rest;
         }
-        Item::UseOf(occurrence) => {
+        (ItemKind::Use, _, [occurrence, rest @ ..]) => {
             out.begin_inner(b"use");
             out.number(occurrence.number());
+            left.uses = rest;
         }
-        Item::Defs => out.begin_inner(b"macros"),
+        _ => {}
     }
     out.end();
 }
 
-fn list_items<S: Sink>(out: &mut Listing<S>, web: &Web, items: &[Item])
-    requires { All (IsInRange web.now.texts) items.now }
-{
-    for item in items {
-        list_item(out, web, *item);
-    }
-}
-
-fn list_piece_items<S: Sink>(out: &mut Listing<S>, web: &Web, piece: &Piece)
-    requires runs { All (IsEntryInRange web.now.texts) piece.now.entries }
-    requires items { All (IsInRange web.now.texts) (items_of web.now.texts piece.now.entries) }
-{
-    let mut items = web.items(piece);
-    while let Some(item) = items.next() {
-        list_item(out, web, item);
-    }
-}
-
-fn list_piece<S: Sink>(out: &mut Listing<S>, web: &Web, number: usize, piece: &Piece)
-    requires runs { All (IsEntryInRange web.now.texts) piece.now.entries }
-    requires items { All (IsInRange web.now.texts) (items_of web.now.texts piece.now.entries) }
-{
+fn list_piece<S: Sink>(out: &mut Listing<S>, web: &Web, number: usize, piece: Piece) {
     out.begin(b"piece");
     out.number(number);
     out.word(b"section");
-    out.number(piece.section());
-    add_place(out, web, piece.origin());
-    match piece.occurrence() {
+    out.number(piece.section);
+    out.place(web.file_name(piece.origin), piece.origin.line);
+    match piece.occurrence {
         Some(occurrence) => {
             out.word(b"occurrence");
             out.number(occurrence.number());
@@ -82,22 +76,63 @@ fn list_piece<S: Sink>(out: &mut Listing<S>, web: &Web, number: usize, piece: &P
         None => out.word(b"program"),
     }
     out.end();
-    list_piece_items(out, web, piece);
+}
+
+/// The bytes of a range of the source.
+fn text_of<'a>(source: &Source<'a>, span: Span) -> &'a [u8] {
+    let range = span.start as usize..span.end as usize;
+    source.line(span.line as usize).get(range).unwrap_or(&[])
+}
+
+fn list_macro_item<S: Sink>(out: &mut Listing<S>, source: &Source, item: Item) {
+    match item {
+        Item::Word(span) => out.begin_text(b"word", Some(&span), 0, text_of(source, span)),
+        Item::Sign(span) => out.begin_text(b"sign", Some(&span), 0, text_of(source, span)),
+        Item::Quoted(span) => out.begin_text(b"quoted", Some(&span), 0, text_of(source, span)),
+        Item::QuoteBreak => out.begin_inner(b"quote break"),
+        Item::Verbatim(span) => out.begin_text(b"verbatim", Some(&span), 0, text_of(source, span)),
+        Item::AsciiConstant(value) => {
+            out.begin_inner(b"code");
+            out.number(value);
+        }
+        Item::Blank => out.begin_inner(b"blank"),
+        _ => out.begin_inner(b"line end"),
+    }
+    out.end();
 }
 
 /// Lists the pieces and the macros, and whether some C part has all macros.
-pub fn list_parts<S: Sink>(out: &mut Listing<S>, web: &Web) {
-    for (number, piece) in web.pieces().iter().enumerate() {
-        list_piece(out, web, number, piece);
+///
+/// # Errors
+///
+/// `NoMemory`, where an allocation failed.
+pub fn list_parts<S: Sink>(
+    alloc: Global,
+    out: &mut Listing<S>,
+    source: &Source,
+    web: &Web,
+) -> Result<(), NoMemory> {
+    let (spans, macros) = read_parts(alloc, source)?;
+    let mut spans = spans.iter();
+    let pieces = web.pieces();
+    for number in 0..pieces.len() {
+        list_piece(out, web, number, pieces[number]);
+        let mut left = web.piece_text(number);
+        for tag in left.tags {
+            list_tag(out, web, &mut left, &mut spans, *tag);
+        }
     }
-    for (number, definition) in web.macros().iter().enumerate() {
+    for (number, items) in macros.iter().enumerate() {
         out.begin(b"macro");
         out.number(number);
         out.end();
-        list_items(out, web, definition.items());
+        for item in items {
+            list_macro_item(out, source, *item);
+        }
     }
-    if web.has_defs_code() {
+    if web.has_all_macros() {
         out.begin(b"macros in pieces");
         out.end();
     }
+    Ok(())
 }

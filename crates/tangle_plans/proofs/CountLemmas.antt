@@ -9,10 +9,10 @@ use Rattle.tangle_plans.specs.Shapes.{Program, Shape}
 use Rattle.tangle_plans.specs.Flat.{own_counts, own_weight}
 use Rattle.tangle_plans.specs.Flat.{own_symbols}
 use Rattle.tangle_plans.specs.NodeBodies.{HoldsShape}
-use Rattle.tangle_plans.specs.UnfoldedTags.{chunk_tag, part_tag, run_tags, kind_tags, unfolded_tags}
+use Rattle.tangle_scan.specs.UnfoldedTags.{chunk_tag, part_tag, run_tags, kind_tags, unfolded_tags}
 use Rattle.tangle_plans.specs.declared.nodes.NodeBody.{NodeBody}
-use Rattle.tangle_plans.specs.declared.tags.ItemKind.{ItemKind}
-use Rattle.tangle_plans.specs.declared.tags.ItemTag.{ItemTag}
+use Rattle.tangle_scan.specs.declared.texts.ItemKind.{ItemKind}
+use Rattle.tangle_scan.specs.declared.texts.ItemTag.{ItemTag}
 
 pub own_counts-append : (tags more : List ItemTag) → own_counts (tags ++ more) ≡ own_counts tags + own_counts more
 own_counts-append [] more = omega arith

@@ -19,12 +19,12 @@ use Rattle.tangle_plans.specs.Flat.{own_symbols}
 use Rattle.tangle_plans.specs.NodeBodies.{HoldsShape, body_title, body_uses, names_at}
 use Rattle.tangle_plans.specs.Tags.{item_tag, item_bytes, piece_end, shape_tags, shape_bytes}
 use Rattle.tangle_plans.specs.Shapes.{item_names, shape_names}
-use Rattle.tangle_plans.specs.UnfoldedTags.{chunk_tag, part_tag, run_tags, kind_tags, unfolded_tags}
+use Rattle.tangle_scan.specs.UnfoldedTags.{chunk_tag, part_tag, run_tags, kind_tags, unfolded_tags}
 use Rattle.tangle_plans.specs.declared.nodes.NodeBody.{NodeBody}
-use Rattle.tangle_plans.specs.declared.tags.ItemKind.{ItemKind}
-use Rattle.tangle_plans.specs.declared.tags.ItemKind.TheVariants as tag
-use Rattle.tangle_plans.specs.declared.tags.ItemTag.{ItemTag}
-use Rattle.tangle_plans.proofs.RunLemmas.{chunk_size}
+use Rattle.tangle_scan.specs.declared.texts.ItemKind.{ItemKind}
+use Rattle.tangle_scan.specs.declared.texts.ItemKind.TheVariants as tag
+use Rattle.tangle_scan.specs.declared.texts.ItemTag.{ItemTag}
+use Rattle.tangle_scan.proofs.lemmas.RunTags.{chunk_size}
 
 module _ (node : Title) where
   -- the parts of a run have its bytes

@@ -1,35 +1,38 @@
 -- The body of a node determines its shape.
 use Rattle.std.proofs.Common.{rules}
-use Rattle.std.proofs.Common.{◌≡◌, ℕ, ◌-◌, List, [], ◌∷◌, map, length, refl, length-drop, All}
+use Rattle.std.proofs.Common.{◌≡◌, ℕ, List, [], ◌∷◌, ◌++◌, map, refl, ap, arith}
 use Rattle.std.specs.Prelude.{flat_map}
 use Rattle.std.proofs.lemmas.List.Folds.{flat_map-map}
-use Rattle.std.proofs.lemmas.List.Elements.{All-head, All-tail}
-use Rattle.tangle_text.specs.declared.spans.Span.{Span}
 use Rattle.tangle_scan.specs.declared.items.Item.{Item}
+use Rattle.tangle_scan.specs.declared.items.Item.TheVariants as item
+use Rattle.tangle_scan.specs.declared.texts.ItemTag.{ItemTag}
 use Rattle.tangle_scan.specs.ItemBytes.{bytes_in}
-use Rattle.tangle_scan.specs.Rules.{span_text}
-use Rattle.tangle_scan.specs.ItemSpans.{IsSpan, IsInRange}
+use Rattle.tangle_scan.specs.Texts.{item_uses, tag_of}
 use Rattle.tangle_scan.specs.Web.{PieceRead}
+use Rattle.tangle_names.specs.declared.Resolved.{Resolved}
 use Rattle.tangle_names.specs.NameTable.{TableRead}
-use Rattle.tangle_plans.specs.WebShapes.{shape_item, shape_of}
+use Rattle.tangle_plans.specs.WebShapes.{resolved_at, shape_item, shape_of, use_of}
 use Rattle.tangle_plans.specs.Tags.{item_tag, item_bytes}
 use Rattle.tangle_plans.specs.Shapes.{shape_names}
-use Rattle.tangle_plans.specs.ItemTags.{tag_in, pieces_uses}
+use Rattle.tangle_plans.specs.ItemTags.{names_of, pieces_uses, resolved_tags, use_kind, uses_in, uses_resolved}
 use Rattle.tangle_plans.specs.NodeBodies.{names_at}
 use Rattle.tangle_plans.proofs.EachLemmas.{each_mapped}
 
-pub span_length : (texts : List (List ℕ)) (s : Span) → IsSpan texts s → length (span_text texts s) ≡ s.end - s.start
-span_length texts s h = search (rules, length-drop)
-
 module _ (texts : List (List ℕ)) (table : TableRead) where
-  pub tag_held : (x : Item) → IsInRange texts x → tag_in table x ≡ item_tag (shape_item texts table x)
-  tag_held x h = search (rules, span_length)
+  use_held : (r : Resolved) → let t : ItemTag = record { kind = use_kind r; size = 0 } in t ≡ item_tag (use_of table r)
+  use_held x = grind arith
 
-  pub tags_held : (items : List Item) → All (IsInRange texts) items
-      → map (tag_in table) items ≡ map item_tag (map (shape_item texts table) items)
-  tags_held [] h = refl
-  tags_held (x ∷ items) h = λ i.
-      tag_held x (All-head (IsInRange texts) x items h) i ∷ tags_held items (All-tail (IsInRange texts) x items h) i
+  pub tags_held : (items : List Item)
+      → resolved_tags table (map (tag_of texts) items) (flat_map item_uses items)
+      ≡ map item_tag (map (shape_item texts table) items)
+  tags_held [] = refl
+  tags_held (item.UseOf occurrence ∷ items) = cc (use_held (resolved_at table occurrence), tags_held items)
+  tags_held (x ∷ items) = ap (λ ts. tag_of texts x ∷ ts) (tags_held items)
+
+  pub uses_held : (items : List Item) → names_of table (flat_map item_uses items) ≡ flat_map (uses_in table) items
+  uses_held [] = refl
+  uses_held (item.UseOf occurrence ∷ items) = ap (λ l. uses_resolved (resolved_at table occurrence) ++ l) (uses_held items)
+  uses_held (x ∷ items) = assumption (uses_held items)
 
   pub bytes_held : (items : List Item)
       → flat_map (bytes_in texts) items ≡ flat_map item_bytes (map (shape_item texts table) items)

@@ -1,14 +1,14 @@
 -- The unfolded tags that remain of a body.
 use Rattle.std.proofs.Common.{rules}
-use Rattle.std.proofs.Common.{◌≡◌, ◌∙◌, ℕ, ◌+◌, ◌-◌, ◌≤◌, List, [], ◌∷◌, ◌++◌, length, take, drop, slice_get, refl, ap}
+use Rattle.std.proofs.Common.{◌≡◌, ◌∙◌, ℕ, ◌-◌, ◌≤◌, List, [], ◌∷◌, ◌++◌, length, take, drop, slice_get, refl, ap}
 use Rattle.std.proofs.Common.{sym, arith, Some, None, min, drop-drop}
 use Rattle.std.proofs.lemmas.List.{length-take, take_min, drop_min, drop-take}
 use Rattle.tangle_text.specs.Runs.{chunks, parts_of}
 use Rattle.tangle_text.specs.declared.runs.RunPart.{RunPart}
-use Rattle.tangle_plans.specs.UnfoldedTags.{part_tag, run_tags, kind_tags, unfolded_tags, tags_left}
-use Rattle.tangle_plans.specs.declared.tags.ItemTag.{ItemTag}
-use Rattle.tangle_plans.specs.declared.tags.ItemKind.TheVariants as tag
-use Rattle.tangle_plans.proofs.RunLemmas.{first_part, no_part, no_run_tags}
+use Rattle.tangle_scan.specs.UnfoldedTags.{part_tag, run_tags, kind_tags, unfolded_tags, tags_left}
+use Rattle.tangle_scan.specs.declared.texts.ItemTag.{ItemTag}
+use Rattle.tangle_scan.specs.declared.texts.ItemKind.TheVariants as tag
+use Rattle.tangle_scan.proofs.lemmas.RunTags.{first_part, no_part, no_run_tags}
 
 -- the first part of a run with this number of bytes
 

@@ -3,10 +3,8 @@ pub mod ShapeLemmas
 pub mod SameNames
 pub mod DropLemmas
 pub mod EachLemmas
-pub mod RunLemmas
-pub mod RunItems
-pub mod EntryLemmas
-pub mod AddingEntries
+pub mod ResolvedLemmas
+pub mod AddingPieces
 pub mod TagLemmas
 pub mod CountLemmas
 pub mod HeldLemmas

@@ -10,9 +10,9 @@ use Rattle.tangle_plans.specs.Shapes as kind
 use Rattle.tangle_plans.specs.Tags.{written_kind, item_tag, piece_end, item_bytes, shape_tags, shape_bytes}
 use Rattle.tangle_plans.specs.Shapes.{item_names}
 use Rattle.tangle_plans.specs.Shapes.{shape_names}
-use Rattle.tangle_plans.specs.declared.tags.ItemKind.{ItemKind}
-use Rattle.tangle_plans.specs.declared.tags.ItemKind.TheVariants as tag
-use Rattle.tangle_plans.specs.declared.tags.ItemTag.{ItemTag}
+use Rattle.tangle_scan.specs.declared.texts.ItemKind.{ItemKind}
+use Rattle.tangle_scan.specs.declared.texts.ItemKind.TheVariants as tag
+use Rattle.tangle_scan.specs.declared.texts.ItemTag.{ItemTag}
 
 -- a shape with one more item at the front of its first piece
 onto : ShapeItem → Shape → Shape

@@ -5,9 +5,9 @@ use Rattle.tangle_plans.specs.Shapes.{Title, Program, Named, ShapeItem, Written,
 use Rattle.tangle_plans.specs.Shapes.{Shape, Shapes, shape_names}
 use Rattle.tangle_plans.specs.Shapes as shape
 use Rattle.tangle_plans.specs.Tags.{shape_bytes, shape_tags}
-use Rattle.tangle_plans.specs.declared.tags.ItemKind.{ItemKind}
-use Rattle.tangle_plans.specs.declared.tags.ItemKind.TheVariants as tag
-use Rattle.tangle_plans.specs.declared.tags.ItemTag.{ItemTag}
+use Rattle.tangle_scan.specs.declared.texts.ItemKind.{ItemKind}
+use Rattle.tangle_scan.specs.declared.texts.ItemKind.TheVariants as tag
+use Rattle.tangle_scan.specs.declared.texts.ItemTag.{ItemTag}
 
 -- A symbol of an expansion: one byte; an opening, a mark or a closing, with its node and the number
 -- of the piece, and for a mark also the mark's number; or all macros. The opening mark has the

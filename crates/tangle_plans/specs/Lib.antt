@@ -6,6 +6,4 @@ pub mod Nodes
 pub mod MakingBodies
 pub mod Tags
 pub mod ItemTags
-pub mod Entries
 pub mod NodeBodies
-pub mod UnfoldedTags

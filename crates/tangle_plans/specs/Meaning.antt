@@ -6,9 +6,9 @@ use Rattle.tangle_files.specs.Bytes.{space}
 use Rattle.tangle_plans.specs.Shapes.{Title, Program, Named}
 use Rattle.tangle_plans.specs.Flat.{Symbol, Byte, own_symbols}
 use Rattle.tangle_plans.specs.declared.nodes.NodeBody.{NodeBody}
-use Rattle.tangle_plans.specs.declared.tags.ItemKind.{ItemKind}
-use Rattle.tangle_plans.specs.declared.tags.ItemKind.TheVariants as tag
-use Rattle.tangle_plans.specs.declared.tags.ItemTag.{ItemTag}
+use Rattle.tangle_scan.specs.declared.texts.ItemKind.{ItemKind}
+use Rattle.tangle_scan.specs.declared.texts.ItemKind.TheVariants as tag
+use Rattle.tangle_scan.specs.declared.texts.ItemTag.{ItemTag}
 
 -- the node with this name; without a name, the program
 abbrev pub title_of : Option (Vec ℕ Global) → Title

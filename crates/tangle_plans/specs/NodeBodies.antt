@@ -8,8 +8,8 @@ use Rattle.tangle_plans.specs.Shapes.{shape_names}
 use Rattle.tangle_plans.specs.ItemTags.{pieces_uses}
 use Rattle.tangle_plans.specs.WebShapes.{shape_of}
 use Rattle.tangle_plans.specs.Meaning.{title_of}
-use Rattle.tangle_plans.specs.declared.tags.ItemTag.{ItemTag}
-use Rattle.tangle_plans.specs.UnfoldedTags.{unfolded_tags}
+use Rattle.tangle_scan.specs.declared.texts.ItemTag.{ItemTag}
+use Rattle.tangle_scan.specs.UnfoldedTags.{unfolded_tags}
 use Rattle.tangle_plans.specs.declared.nodes.NodeBody.{NodeBody}
 
 -- a body without its name, as it is in memory: a run has one tag

@@ -3,7 +3,7 @@ use Rattle.std.specs.Prelude.{◌≡◌, ◌<◌, ℕ, zero, suc, Bool, true, fa
 use Rattle.std.specs.Prelude.{slice_get, slice_index_or, Option, Some, None}
 use Rattle.std.specs.List.{All}
 use Rattle.digraph.specs.Nodes.{Node}
-use Rattle.tangle_scan.specs.Web.{WebRead, PieceRead}
+use Rattle.tangle_scan.specs.Web.{WebRead, PieceRead, no_piece}
 use Rattle.tangle_names.specs.NameTable.{TableRead}
 use Rattle.tangle_plans.specs.Shapes.{Title, Program, Named}
 use Rattle.tangle_plans.specs.WebShapes.{pieces_of}
@@ -21,10 +21,6 @@ title_at names (suc id) = title_of_name (slice_get names id)
 abbrev pub row_has_piece : List ℕ → Bool
 row_has_piece [] = false
 row_has_piece (n ∷ ns) = true
-
-abbrev pub no_piece : PieceRead
-no_piece =
-    record { section = 0; origin = record { file = 0; line = 0 }; occurrence = None; items = [] }
 
 -- the pieces with these numbers
 abbrev pub pieces_at : List PieceRead → List ℕ → List PieceRead

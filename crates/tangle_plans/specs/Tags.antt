@@ -3,9 +3,9 @@
 use Rattle.std.specs.Prelude.{ℕ, List, [], ◌∷◌, ◌++◌, length, map, flat_map}
 use Rattle.tangle_plans.specs.Shapes.{Kind, ShapeItem, Written, Mark, AllMacros, Use, NoUse, Shape}
 use Rattle.tangle_plans.specs.Shapes as kind
-use Rattle.tangle_plans.specs.declared.tags.ItemKind.{ItemKind}
-use Rattle.tangle_plans.specs.declared.tags.ItemKind.TheVariants as tag
-use Rattle.tangle_plans.specs.declared.tags.ItemTag.{ItemTag}
+use Rattle.tangle_scan.specs.declared.texts.ItemKind.{ItemKind}
+use Rattle.tangle_scan.specs.declared.texts.ItemKind.TheVariants as tag
+use Rattle.tangle_scan.specs.declared.texts.ItemTag.{ItemTag}
 
 abbrev pub written_kind : Kind → ItemKind
 written_kind kind.Word = tag.Word

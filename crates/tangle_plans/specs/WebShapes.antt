@@ -62,12 +62,12 @@ module _ (texts : List (List ℕ)) (table : TableRead) where
   shape_item (item.Quoted span) = Written kind.Quoted (span_text texts span)
   shape_item item.QuoteBreak = Written kind.QuoteBreak (line_feed ∷ [])
   shape_item (item.Verbatim span) = Written kind.Verbatim (span_text texts span)
-  shape_item (item.Code value) = Written kind.AsciiConstant (decimal value)
+  shape_item (item.AsciiConstant value) = Written kind.AsciiConstant (decimal value)
   shape_item item.Blank = Written kind.Blank (space ∷ [])
   shape_item item.LineEnd = Written kind.LineEnd (line_feed ∷ [])
   shape_item (item.LineMark origin) = Mark
   shape_item (item.UseOf occurrence) = use_of table (resolved_at table occurrence)
-  shape_item item.Defs = AllMacros
+  shape_item item.AllMacros = AllMacros
 
   -- the shape of a node with these pieces
   abbrev pub shape_of : List PieceRead → Shape

@@ -1,28 +1,24 @@
-//! Makes the body of a node, entry by entry.
-ghost use Rattle.std.specs.Prelude.{◌≡◌, ◌↔◌, ◌<◌, ◌^◌, ◌++◌, ◌∷◌, [], IfOk, OnOk, true, length};
-ghost use Rattle.std.specs.List.{All};
-ghost use Rattle.tangle_scan.specs.Rules.{span_text};
-ghost use Rattle.tangle_scan.specs.ItemSpans.{IsInRange, IsSpan};
-ghost use Rattle.tangle_scan.specs.WellFormed.{IsUseBelow};
-ghost use Rattle.tangle_scan.specs.declared.items.Entry.TheVariants as entry;
-ghost use Rattle.tangle_plans.specs.Entries.{IsEntryOf, run_tag};
-ghost use Rattle.tangle_plans.specs.ItemTags.{use_tag, uses_resolved};
-ghost use Rattle.tangle_plans.specs.MakingBodies.{nothing_made, with_entry, with_piece};
+//! Makes the body of a node, piece by piece.
+ghost use Rattle.std.specs.Prelude.{◌≡◌, ◌↔◌, ◌≤◌, ◌<◌, ◌++◌, ◌∷◌, [], drop, length, take, true};
+ghost use Rattle.std.specs.Prelude.{IfOk, List, OnOk};
+ghost use Rattle.std.specs.List.{All, list_all};
+ghost use Rattle.tangle_scan.specs.Texts.{text_of};
+ghost use Rattle.tangle_scan.specs.declared.texts.ItemTag.{ItemTag as TagRead};
+ghost use Rattle.tangle_plans.specs.ItemTags.{is_name, names_of, resolved_tags};
+ghost use Rattle.tangle_plans.specs.MakingBodies.{nothing_made, with_piece};
 ghost use Rattle.tangle_plans.specs.Meaning.{title_of};
 ghost use Rattle.tangle_plans.specs.NodeBodies.{AreItemsOf, HaveOneShape, body_items};
 ghost use Rattle.tangle_plans.specs.NodeBodies.{body_title, body_uses};
 ghost use Rattle.tangle_plans.specs.Nodes.{pieces_at};
+ghost use Rattle.tangle_plans.specs.WebShapes.{resolved_at};
 
-use crate::entries::entries_at;
 use crate::nodes::NodeBody;
 use crate::shapes::same_items;
-use crate::tags::{ItemKind, ItemTag};
-use itoa::Buffer;
 use std::alloc::Global;
 use std::marker::Model;
 use tangle_lines::NoMemory;
 use tangle_names::{NameTable, Names, Resolved};
-use tangle_scan::{Entry, Item, Span, Web};
+use tangle_scan::{ItemKind, ItemTag, OccurrenceNumber, PieceText, Web};
 
 /// Buffers in which the items of one node after another are made. They are kept for the next node,
 /// so that a body takes only the memory that it needs, and none if an old one has the same items.
@@ -68,7 +64,7 @@ impl BodyBuilder {
     {
         self.clear();
         for number in numbers {
-            self.add_piece(web, table, entries_at(web, *number))?;
+            self.add_piece(table, web.piece_text(*number))?;
         }
         Ok(())
     }
@@ -126,142 +122,112 @@ impl BodyBuilder {
         self.made.uses.clear();
     }
 
-    /// Adds a piece.
-    fn add_piece(&mut self, web: &Web, table: &NameTable, entries: &[Entry]) -> Result<(), NoMemory>
-        requires { All (IsEntryOf web.now.texts table.now) entries.now }
-        ensures { OnOk result (self.new
-            ≡ with_piece web.now.texts table.now self.old entries.now) }
-    {
-        self.add_empty(ItemKind::PieceStart)?;
-        for entry in entries {
-            self.add_entry(web, table, entry)?;
-        }
-        self.add_empty(ItemKind::PieceEnd)
-    }
-
-    /// Adds an entry of a piece.
-    // Runs and line ends are frequent, and need no look-up.
-    #[inline(always)]
-    fn add_entry(&mut self, web: &Web, table: &NameTable, entry: &Entry) -> Result<(), NoMemory>
-        requires { IsEntryOf web.now.texts table.now entry.now }
-        ensures { OnOk result (self.new
-            ≡ with_entry web.now.texts table.now self.old entry.now) }
-    {
-        match entry {
-            Entry::Run(span) => self.add_run(web, *span),
-            Entry::Item(Item::LineEnd) => self.add_byte(ItemKind::LineEnd, b'\n'),
-            Entry::Item(item) => self.add_item(web, table, *item),
-        }
-    }
-
-    /// Adds a run of items. All its bytes are copied at once, and it has one tag.
-    #[inline(always)]
-    fn add_run(&mut self, web: &Web, span: Span) -> Result<(), NoMemory>
-        requires { IsSpan web.now.texts span }
-        ensures { OnOk result (self.new ≡ record self.old {
-          tags = self.old.tags ++ run_tag span ∷ [];
-          bytes = self.old.bytes ++ span_text web.now.texts span;
-        }) }
-    {
-        self.add_bytes(ItemKind::Run, web.text(span))
-    }
-
-    /// Adds an item.
-    fn add_item(&mut self, web: &Web, table: &NameTable, item: Item) -> Result<(), NoMemory>
-        requires span { IsInRange web.now.texts item }
-        requires name { IsUseBelow (length table.now.resolved) item }
-        ensures { OnOk result (self.new
-            ≡ with_entry web.now.texts table.now self.old (entry.Item item)) }
-    {
-        match item {
-            Item::Word(span) => self.add_bytes(ItemKind::Word, web.text(span)),
-            Item::Sign(span) => self.add_bytes(ItemKind::Sign, web.text(span)),
-            Item::Quoted(span) => self.add_bytes(ItemKind::Quoted, web.text(span)),
-            Item::Verbatim(span) => self.add_bytes(ItemKind::Verbatim, web.text(span)),
-            Item::QuoteBreak => self.add_byte(ItemKind::QuoteBreak, b'\n'),
-            Item::Blank => self.add_byte(ItemKind::Blank, b' '),
-            Item::LineEnd => self.add_byte(ItemKind::LineEnd, b'\n'),
-            Item::Code(value) => {
-                let mut digits = Buffer::new();
-                self.add_bytes(ItemKind::AsciiConstant, digits.format(value).as_bytes())
-            }
-            Item::LineMark(_) => self.add_empty(ItemKind::Mark),
-            Item::UseOf(occurrence) => self.add_use(table.resolve(occurrence.number())),
-            Item::Defs => self.add_empty(ItemKind::AllMacros),
-        }
-    }
-
-    /// Adds a use, by what its occurrence resolves to.
-    fn add_use(&mut self, resolved: Resolved) -> Result<(), NoMemory>
-        ensures { OnOk result (self.new ≡ record self.old {
-          tags = self.old.tags ++ use_tag resolved ∷ [];
-          uses = self.old.uses ++ uses_resolved resolved;
-        }) }
-    {
-        match resolved {
-            Resolved::Name(id) => {
-                self.made.uses.push(id)?;
-                self.add_empty(ItemKind::Use)
-            }
-            Resolved::NoFullName | Resolved::Ambiguous => self.add_empty(ItemKind::NoUse),
-        }
-    }
-
-    /// Adds an item that has no bytes, or a border of a piece.
-    fn add_empty(&mut self, kind: ItemKind) -> Result<(), NoMemory>
+    /// Adds the tag of a border of a piece.
+    fn add_border(&mut self, kind: ItemKind) -> Result<(), NoMemory>
         ensures { OnOk result (self.new ≡ record self.old {
           tags = self.old.tags ++ record { kind = kind; size = 0 } ∷ [];
         }) }
     {
-        self.add_tag(ItemTag { kind, size: 0 })
-    }
-
-    /// Adds an item that has these bytes, or a run.
-    #[inline(always)]
-    fn add_bytes(&mut self, kind: ItemKind, bytes: &[u8]) -> Result<(), NoMemory>
-        requires { length bytes.now < 2 ^ 16 }
-        ensures { OnOk result (self.new ≡ record self.old {
-          tags = self.old.tags ++ record { kind = kind; size = length bytes.now } ∷ [];
-          bytes = self.old.bytes ++ bytes.now;
-        }) }
-    {
-        let size = bytes.len() as u16;
-        self.add_tag(ItemTag { kind, size })?;
-        self.made.bytes.extend_from_slice(bytes)?;
+        self.made.tags.push(ItemTag { kind, size: 0 })?;
         Ok(())
     }
 
-    /// Adds an item that has this byte.
-    #[inline(always)]
-    fn add_byte(&mut self, kind: ItemKind, byte: u8) -> Result<(), NoMemory>
-        ensures { OnOk result (self.new ≡ record self.old {
-          tags = self.old.tags ++ record { kind = kind; size = 1 } ∷ [];
-          bytes = self.old.bytes ++ byte ∷ [];
+    /// Adds the numbers of the names to which these occurrences resolve. Returns whether each
+    /// resolves to one.
+    fn add_uses(&mut self, table: &NameTable, uses: &[OccurrenceNumber]) -> Result<bool, NoMemory>
+        requires { All (λ n. n < length table.now.resolved) uses.now }
+        ensures uses { OnOk result (self.new ≡ record self.old {
+          uses = self.old.uses ++ names_of table.now uses.now;
         }) }
+        ensures all { IfOk result (λ all. all
+            ≡ list_all (λ n. is_name (resolved_at table.now n)) uses.now) }
     {
-        self.add_tag(ItemTag { kind, size: 1 })?;
-        self.made.bytes.push(byte)?;
-        Ok(())
-    }
-
-    #[inline(always)]
-    fn add_tag(&mut self, tag: ItemTag) -> Result<(), NoMemory>
-        ensures { OnOk result (self.new ≡ record self.old { tags = self.old.tags ++ tag ∷ [] }) }
-    {
-        if self.made.tags.len() < self.made.tags.capacity() {
-            self.made.tags.push_reserved(tag);
-            return Ok(());
+        let mut all = true;
+        for used in uses {
+            match table.resolve(used.number()) {
+                Resolved::Name(id) => self.made.uses.push(id)?,
+                Resolved::NoFullName | Resolved::Ambiguous => all = false,
+            }
         }
-        self.add_tag_with_allocation(tag)
+        Ok(all)
     }
 
-    /// Adds a tag where there is no capacity. This is a function of its own, which keeps the common
-    /// case short.
-    #[inline(never)]
-    fn add_tag_with_allocation(&mut self, tag: ItemTag) -> Result<(), NoMemory>
-        ensures { OnOk result (self.new ≡ record self.old { tags = self.old.tags ++ tag ∷ [] }) }
+    /// Adds the tags of a piece in which these occurrences are used. `all_resolve` says whether each
+    /// resolves to a name.
+    fn add_tags(
+        &mut self,
+        table: &NameTable,
+        tags: &[ItemTag],
+        uses: &[OccurrenceNumber],
+        all_resolve: bool,
+    ) -> Result<(), NoMemory>
+        requires uses { All (λ n. n < length table.now.resolved) uses.now }
+        requires all { all_resolve ≡ list_all (λ n. is_name (resolved_at table.now n)) uses.now }
+        ensures { OnOk result (self.new ≡ record self.old {
+          tags = self.old.tags ++ resolved_tags table.now tags.now uses.now;
+        }) }
     {
-        self.made.tags.push(tag)?;
+        let first = self.made.tags.len();
+        self.made.tags.extend_from_slice(tags)?;
+        if !all_resolve {
+            mark_unresolved(&mut self.made.tags, first, table, uses);
+        }
         Ok(())
+    }
+
+    /// Adds a piece.
+    fn add_piece(&mut self, table: &NameTable, text: PieceText) -> Result<(), NoMemory>
+        requires { All (λ n. n < length table.now.resolved) (text_of text).uses }
+        ensures { OnOk result (self.new ≡ with_piece table.now self.old (text_of text.entry)) }
+    {
+        let all_resolve = self.add_uses(table, text.uses)?;
+        self.add_border(ItemKind::PieceStart)?;
+        self.add_tags(table, text.tags, text.uses, all_resolve)?;
+        self.made.bytes.extend_from_slice(text.bytes)?;
+        self.add_border(ItemKind::PieceEnd)
+    }
+}
+
+/// A tag, with the kind that the first of these occurrences gives it if it is a use, and the
+/// occurrences in the uses after it.
+fn resolved_tag<'u>(
+    table: &NameTable,
+    tag: ItemTag,
+    uses: &'u [OccurrenceNumber],
+) -> (ItemTag, &'u [OccurrenceNumber])
+    requires { All (λ n. n < length table.now.resolved) uses.now }
+    ensures tag { (tags : List TagRead) → resolved_tags table.now (tag ∷ tags) uses.now
+        ≡ result.0 ∷ resolved_tags table.now tags result.1.now }
+    ensures left { All (λ n. n < length table.now.resolved) result.1.now }
+{
+    match (tag.kind, uses) {
+        (ItemKind::Use, [used, rest @ ..]) => {
+            let kind = match table.resolve(used.number()) {
+                Resolved::Name(_) => ItemKind::Use,
+                Resolved::NoFullName | Resolved::Ambiguous => ItemKind::NoUse,
+            };
+            (ItemTag { kind, ..tag }, rest)
+        }
+        _ => (tag, uses),
+    }
+}
+
+/// Marks the uses among the tags from this one on whose occurrences resolve to no name.
+fn mark_unresolved(
+    tags: &mut Vec<ItemTag>,
+    first: usize,
+    table: &NameTable,
+    uses: &[OccurrenceNumber],
+)
+    requires first { first ≤ length tags.old.items }
+    requires uses { All (λ n. n < length table.now.resolved) uses.now }
+    ensures { tags.new.items ≡ take first tags.old.items
+        ++ resolved_tags table.now (drop first tags.old.items) uses.now }
+{
+    let mut left = uses;
+    for i in first..tags.len() {
+        let (tag, rest) = resolved_tag(table, tags[i], left);
+        tags[i] = tag;
+        left = rest;
     }
 }

@@ -6,7 +6,7 @@ ghost use Rattle.tangle_plans.specs.NodeBodies.{HoldsShape};
 ghost use Rattle.tangle_plans.specs.Shapes.{Program, Shape};
 
 use crate::nodes::NodeBody;
-use crate::tags::ItemKind;
+use tangle_scan::ItemKind;
 
 /// The number of symbols that a tag of this kind gives besides its bytes.
 fn symbols_of_kind(kind: ItemKind) -> usize

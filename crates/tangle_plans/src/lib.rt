@@ -6,7 +6,6 @@
 
 mod body_builder;
 mod counting;
-mod entries;
 mod laws;
 mod nodes;
 mod shapes;
@@ -16,4 +15,4 @@ mod tags_left;
 pub use body_builder::BodyBuilder;
 pub use laws::{names_resolve_inside, tags_settle_the_shape};
 pub use nodes::NodeBody;
-pub use tags::{ItemKind, ItemTag};
+pub use tangle_scan::{ItemKind, ItemTag};

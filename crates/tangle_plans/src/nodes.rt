@@ -2,7 +2,7 @@
 ghost use Rattle.std.specs.Prelude.{◌≡◌};
 ghost use Rattle.tangle_plans.specs.NodeBodies.{body_uses};
 
-use crate::tags::ItemTag;
+use tangle_scan::ItemTag;
 
 /// The body of a node: its name, the bytes of all its items, their tags, by which the node is
 /// written and shapes are compared, and the numbers of the names that they use.

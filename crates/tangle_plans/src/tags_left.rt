@@ -1,11 +1,12 @@
 //! The tags of a body one after another, where each run is unfolded to its words, signs and spaces.
 ghost use Rattle.std.specs.Prelude.{◌≡◌, ◌∷◌, ◌≤◌, true, false, List};
 ghost use Rattle.std.specs.Prelude.{length, take, drop, min, slice_get, MatchOption};
-ghost use Rattle.tangle_plans.specs.UnfoldedTags.{part_tag, run_tags, unfolded_tags};
-ghost use Rattle.tangle_plans.specs.declared.tags.ItemTag.{ItemTag as TagRead};
+ghost use Rattle.tangle_scan.specs.UnfoldedTags.{part_tag, run_tags, unfolded_tags};
+ghost use Rattle.tangle_scan.specs.declared.texts.ItemTag.{ItemTag as TagRead};
 
-use crate::tags::{ItemKind, ItemTag, same_tag};
+use crate::tags::same_tag;
 use std::marker::Model;
+use tangle_scan::{ItemKind, ItemTag};
 use tangle_text::{RunPart, RunParts, Span};
 
 /// The tags and bytes of a body that remain.
@@ -19,8 +20,8 @@ pub(crate) struct TagsLeft<'o> {
 
 impl<'o> Model for TagsLeft<'o> {
     ghost use Rattle.std.specs.Prelude.{List, length, ◌≤◌};
-    ghost use Rattle.tangle_plans.specs.UnfoldedTags.{tags_left};
-    ghost use Rattle.tangle_plans.specs.declared.tags.ItemTag.{ItemTag as TagRead};
+    ghost use Rattle.tangle_scan.specs.UnfoldedTags.{tags_left};
+    ghost use Rattle.tangle_scan.specs.declared.texts.ItemTag.{ItemTag as TagRead};
 
     ghost Value = { List TagRead };
 

@@ -15,17 +15,17 @@ module _ (texts : List (List ℕ)) where
   bytes_in (item.Quoted span) = span_text texts span
   bytes_in item.QuoteBreak = line_feed ∷ []
   bytes_in (item.Verbatim span) = span_text texts span
-  bytes_in (item.Code value) = decimal value
+  bytes_in (item.AsciiConstant value) = decimal value
   bytes_in item.Blank = space ∷ []
   bytes_in item.LineEnd = line_feed ∷ []
   bytes_in (item.LineMark origin) = []
   bytes_in (item.UseOf occurrence) = []
-  bytes_in item.Defs = []
+  bytes_in item.AllMacros = []
 
   -- the bytes of an item of a piece, if these are written for uses, for marks after their first
   -- line feed, and for all macros
   abbrev pub piece_item_bytes : (ℕ → List ℕ) → (Origin → List ℕ) → List ℕ → Item → List ℕ
   piece_item_bytes used mark macros (item.UseOf occurrence) = space ∷ used occurrence
   piece_item_bytes used mark macros (item.LineMark origin) = line_feed ∷ mark origin
-  piece_item_bytes used mark macros item.Defs = line_feed ∷ macros
+  piece_item_bytes used mark macros item.AllMacros = line_feed ∷ macros
   piece_item_bytes used mark macros x = bytes_in x

@@ -11,4 +11,5 @@ pub mod KeptBytes
 pub mod ItemBytes
 pub mod MacroBytes
 pub mod ReadAsMeant
-pub mod Entries
+pub mod Texts
+pub mod UnfoldedTags

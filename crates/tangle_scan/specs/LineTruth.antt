@@ -83,7 +83,7 @@ module _ (lines : List SourceLine) where
       record { item = span_item kind s; line = s.line; in_stretch = stretch }
       ∷ locations (Some (token.Span kind s)) counted stretch es
   locations before counted stretch (token.AsciiConstant b line ∷ es) =
-      record { item = item.Code b; line = line; in_stretch = stretch }
+      record { item = item.AsciiConstant b; line = line; in_stretch = stretch }
       ∷ locations (Some (token.AsciiConstant b line)) counted stretch es
   locations before counted stretch (e ∷ es) = locations (Some e) counted stretch es
 
@@ -135,7 +135,7 @@ module _ (lines : List SourceLine) where
       AreAtTheirLines now (origin_after_mark now p origin) [] items ss)
   AreAtTheirLines read origin line (item.UseOf occurrence ∷ items) ss =
       (now : Bool) (counted : Option Origin) → AreAtTheirLines now counted [] items ss
-  AreAtTheirLines read origin line (item.Defs ∷ items) ss =
+  AreAtTheirLines read origin line (item.AllMacros ∷ items) ss =
       (now : Bool) (counted : Option Origin) → AreAtTheirLines now counted [] items ss
   AreAtTheirLines read origin line (item.QuoteBreak ∷ items) ss =
       AreAtTheirLines read (with_line_end origin) (line ++ item.QuoteBreak ∷ []) items ss

@@ -2,7 +2,7 @@
 use Rattle.std.specs.Prelude.{◌≡◌, ◌≤◌, ℕ, ◌+◌, suc, max, Bool, true, false, ◌==◌, nat_le, ◌&&◌, ◌||◌}
 use Rattle.std.specs.Prelude.{not}
 use Rattle.std.specs.Prelude.{if◌then◌else◌}
-use Rattle.std.specs.Prelude.{List, [], ◌∷◌, ◌++◌, length, take, replicate, slice_get, ◌-◌}
+use Rattle.std.specs.Prelude.{List, [], ◌∷◌, ◌++◌, length, take, replicate}
 use Rattle.std.specs.Prelude.{Option, Some, None, is_some, option_to_list}
 use Rattle.tangle_lines.specs.declared.origin.Origin.{Origin}
 use Rattle.tangle_lexer.specs.declared.tokens.Token.{Token}
@@ -10,11 +10,10 @@ use Rattle.tangle_lexer.specs.declared.tokens.Token.TheVariants as token
 use Rattle.tangle_lexer.specs.declared.tokens.SpanKind.TheVariants as span_kind
 use Rattle.tangle_text.specs.declared.spans.Span.{Span}
 use Rattle.tangle_text.specs.declared.runs.RunPart.{RunPart}
+use Rattle.tangle_text.specs.declared.runs.RunPart.TheVariants as part
 use Rattle.tangle_text.specs.Runs.{run_parts}
 use Rattle.tangle_scan.specs.declared.items.Item.{Item}
 use Rattle.tangle_scan.specs.declared.items.Item.TheVariants as item
-use Rattle.tangle_scan.specs.declared.items.Entry.{Entry}
-use Rattle.tangle_scan.specs.declared.items.Entry.TheVariants as entry
 use Rattle.tangle_scan.specs.declared.macro_items.Gap.{Gap}
 use Rattle.tangle_scan.specs.declared.macro_items.MacroState.{MacroState}
 use Rattle.tangle_scan.specs.declared.parts.CountedOrigin.{CountedOrigin}
@@ -26,16 +25,17 @@ use Rattle.tangle_scan.specs.declared.parts.Last.{Last}
 use Rattle.tangle_scan.specs.declared.parts.Last.TheVariants as last
 use Rattle.tangle_text.specs.Bytes.{number_sign, backslash, slash, is_word_byte}
 use Rattle.tangle_lines.specs.Reading.{SourceLine, origin_at}
-use Rattle.tangle_scan.specs.Directives.{item_ends_in, is_turn_word}
+use Rattle.tangle_scan.specs.Directives.{is_turn_word}
 use Rattle.tangle_scan.specs.Rules.{clean_tokens, white_inner_end, with_spaces, with_name_space}
 use Rattle.tangle_scan.specs.Rules.{may_follow_name, is_gap}
-use Rattle.tangle_scan.specs.Rules.{would_merge, is_constant, may_merge, is_character, full_stop}
+use Rattle.tangle_scan.specs.Rules.{would_merge, full_stop}
 use Rattle.tangle_scan.specs.Rules.{has_join}
 use Rattle.tangle_scan.specs.Rules.{without_joins, left_of_run, blanks, is_open, is_continued, at_line_front}
 use Rattle.tangle_scan.specs.Rules.{texts_of, span_text, span_item, next_line}
-use Rattle.tangle_lexer.specs.SpanBytes.{first_byte, last_byte}
-use Rattle.tangle_scan.specs.Entries.{part_item, items_of, entry_is_mark}
-use Rattle.std.specs.List.{list_any}
+use Rattle.tangle_lexer.specs.Runs.{is_run}
+use Rattle.tangle_lexer.specs.SpanBytes.{first_byte, last_byte, ends_in, ends_in_backslash}
+use Rattle.tangle_scan.specs.declared.texts.TextSize.{TextSize}
+use Rattle.tangle_scan.specs.Texts.{TextRead, IsTextOf}
 use Rattle.tangle_scan.specs.LineTruth.{is_expected, counted_after_line_end}
 use Rattle.tangle_scan.specs.Rules.{macro_blanks, unmarked_items, without_backslashes}
 use Rattle.tangle_scan.specs.Rules.{has_blank_at_line_end, next_item, is_name_part}
@@ -60,7 +60,7 @@ origin_of counted = record { file = counted.file; line = counted.line }
 abbrev pub item_of : Token → Option Item
 item_of (token.Span kind s) = Some (span_item kind s)
 item_of (token.QuoteBreak line) = Some item.QuoteBreak
-item_of (token.AsciiConstant b line) = Some (item.Code b)
+item_of (token.AsciiConstant b line) = Some (item.AsciiConstant b)
 item_of _ = None
 
 -- what other crates call how much of a turn is on a line of C
@@ -96,8 +96,8 @@ turn_after texts at e = turn_after_item texts at (item_of e)
 -- after a run, which does not begin with the sign #
 
 abbrev pub parts_begin_turn : List (List ℕ) → List RunPart → Bool
-parts_begin_turn texts [] = false
-parts_begin_turn texts (p ∷ ps) = is_turn_item texts (part_item p)
+parts_begin_turn texts (part.Word s ∷ ps) = is_turn_word (span_text texts s)
+parts_begin_turn texts _ = false
 
 abbrev pub turn_after_run : List (List ℕ) → Turn → Span → Turn
 turn_after_run texts turn.NoItem s = turn.Other
@@ -131,7 +131,7 @@ line_item lines continued turn counted line =
 abbrev pub items_at : List SourceLine → Token → List Item
 items_at lines (token.UseOf line occurrence) =
     item.UseOf occurrence ∷ item.LineMark (origin_at lines line) ∷ []
-items_at lines (token.AllMacros line) = item.Defs ∷ item.LineMark (origin_at lines line) ∷ []
+items_at lines (token.AllMacros line) = item.AllMacros ∷ item.LineMark (origin_at lines line) ∷ []
 items_at lines e = option_to_list (item_of e)
 
 -- the counted origin after such a token
@@ -141,50 +141,23 @@ counted_after_token lines counted (token.AllMacros line) = origin_at lines line
 counted_after_token lines counted (token.QuoteBreak line) = next_line counted
 counted_after_token lines counted e = counted
 
--- whether an entry, or the last of these entries, is a sign or a verbatim text that ends in this
--- byte, or ends with one
-
-abbrev pub entry_ends_in : ℕ → List (List ℕ) → Entry → Bool
-entry_ends_in b texts (entry.Item x) = item_ends_in b texts x
-entry_ends_in b texts (entry.Run s) = last_byte texts s == b
-
-abbrev pub last_ends_in : ℕ → List (List ℕ) → Option Entry → Bool
-last_ends_in b texts None = false
-last_ends_in b texts (Some x) = entry_ends_in b texts x
-
-abbrev pub last_entry : List Entry → Option Entry
-last_entry entries = slice_get entries (length entries - 1)
-
-abbrev pub entries_end_in : ℕ → List (List ℕ) → List Entry → Bool
-entries_end_in b texts entries = last_ends_in b texts (last_entry entries)
-
--- the next line continues a line that ends after these entries
-abbrev pub entries_continue : List (List ℕ) → List Entry → Bool
-entries_continue = entries_end_in backslash
-
--- rule 1 puts white space between the last entry and this token
-
-abbrev pub is_code : Option Entry → Bool
-is_code (Some (entry.Item (item.Code b))) = true
-is_code _ = false
+-- whether a token is, or ends with, a sign or a verbatim text that ends in this byte, which is no word
+-- byte and no space
+abbrev pub run_ends_in : ℕ → List (List ℕ) → Token → Bool
+run_ends_in b texts (token.Run s) = last_byte texts s == b
+run_ends_in b texts e = ends_in b texts e
 
 -- a byte of a run with which a number would be read as one
 abbrev pub is_merging_byte : ℕ → Bool
 is_merging_byte b = is_word_byte b || (b == full_stop || b == backslash)
 
-abbrev pub is_merging_end : List (List ℕ) → Option Entry → Bool
-is_merging_end texts (Some (entry.Item (item.Code b))) = true
-is_merging_end texts (Some (entry.Item (item.Word s))) = true
-is_merging_end texts (Some (entry.Item (item.Verbatim s))) = true
-is_merging_end texts (Some (entry.Item (item.Sign s))) =
-    first_byte texts s == full_stop || first_byte texts s == backslash
-is_merging_end texts (Some (entry.Run s)) = is_merging_byte (last_byte texts s)
-is_merging_end texts _ = false
-
-abbrev pub entries_merge : List (List ℕ) → List Entry → Token → Bool
-entries_merge texts entries e =
-    is_code (last_entry entries) && (may_merge texts e || is_character texts e)
-    || is_merging_end texts (last_entry entries) && is_constant e
+-- rule 1 puts white space between two tokens, which may be runs
+abbrev pub would_merge_in_run : List (List ℕ) → Token → Token → Bool
+would_merge_in_run texts (token.AsciiConstant value line) (token.Run s) =
+    is_merging_byte (first_byte texts s)
+would_merge_in_run texts (token.Run s) (token.AsciiConstant value line) =
+    is_merging_byte (last_byte texts s)
+would_merge_in_run texts before e = would_merge texts before e
 
 -- rule 4 and rule 5 in one pass: the items of tokens that rule 3 made, by the token before them on
 -- the line, by how much of a turn is on the line, and by the counted origin
@@ -242,78 +215,110 @@ is_item _ = false
 abbrev pub is_touching : PartState → Bool
 is_touching at = is_item at.last && not at.has_white
 
--- where the current gap of joins, white space and line ends begins: the number of entries before
--- it, how much of a turn is on its line, and the counted origin
-abbrev pub start_of_gap : List Entry → PartState → Start
-start_of_gap entries at =
-    if is_after_line_end at.last then at.start
-    else record { entries = length entries; turn = at.turn; counted = at.counted }
+-- the next line continues a line that ends here
+abbrev pub continues : List (List ℕ) → PartState → Bool
+continues texts at = is_item at.last && ends_in_backslash texts at.item
 
--- the items of the entries before the current gap, then those of the gap and the tokens after it;
--- `front`: the token before the gap
-abbrev pub from_gap : List SourceLine → List Entry → PartState → Option Token → List Token
+-- a piece that ends here needs a blank at its end
+abbrev pub is_open_after : List (List ℕ) → Last → Token → Bool
+is_open_after texts last.Front e = false
+is_open_after texts last.Continued e = true
+is_open_after texts _ e = run_ends_in slash texts e
+
+abbrev pub ends_open : List (List ℕ) → PartState → Bool
+ends_open texts at = is_open_after texts at.last at.item
+
+-- where the current gap of joins, white space and line ends begins: how much of a turn is on the
+-- line, and the counted origin
+
+abbrev pub turn_at_gap : PartState → Turn
+turn_at_gap at = if is_after_line_end at.last then at.start.turn else at.turn
+
+abbrev pub counted_at_gap : PartState → CountedOrigin
+counted_at_gap at = if is_after_line_end at.last then at.start.counted else at.counted
+
+-- the items before the current gap, then those of the gap and the tokens after it; `front`: the
+-- token before the gap
+abbrev pub from_gap : List SourceLine → List Item → PartState → Option Token → List Token
     → List Item
-from_gap lines entries at front es =
-    items_of (texts_of lines) (take (start_of_gap entries at).entries entries)
-    ++ items_after lines front (start_of_gap entries at).turn
-    (origin_of (start_of_gap entries at).counted) false es
+from_gap lines kept at front es =
+    kept ++ items_after lines front (turn_at_gap at) (origin_of (counted_at_gap at)) false es
 
--- a piece that ends with these entries needs a blank at its end
-abbrev pub are_open : List (List ℕ) → List Entry → Last → Bool
-are_open texts entries last.Continued = true
-are_open texts entries _ = entries_end_in slash texts entries
-
--- The entries so far and the state are those of the tokens so far, which end with the gap `gap`.
--- `front` is the token before the gap, `before` the last token on the current line, and `prev` the
--- last token.
-pub record IsRead (lines : List SourceLine) (entries : List Entry) (at : PartState) : Type 0 where
+-- The items so far, those of them that are before the current gap, and the state are those of the
+-- tokens so far, which end with the gap `gap`. `front` is the token before the gap, `before` the
+-- last token on the current line, and `prev` the last token.
+pub record IsRead (lines : List SourceLine) (items kept : List Item) (at : PartState) : Type 0 where
   pub gap : List Token
   pub front : Option Token
   pub before : Option Token
   pub prev : Token
-  pub start : at.start.entries ≤ length entries
   pub joined : has_join gap ≡ is_joined at.last
-  pub made : (es : List Token) → from_gap lines entries at front (left_of_run gap ++ es)
-      ≡ items_of (texts_of lines) entries
+  pub made : (es : List Token) → from_gap lines kept at front (left_of_run gap ++ es)
+      ≡ items
       ++ items_after lines before at.turn (origin_of at.counted)
       (keeps_white at.last && at.has_white) es
   pub keeps : is_joined at.last ≡ false → is_some before ≡ keeps_white at.last
-  pub continues : is_joined at.last ≡ false
-      → is_continued (texts_of lines) before ≡ entries_continue (texts_of lines) entries
-  pub front_open : is_open (texts_of lines) front ≡ entries_end_in slash (texts_of lines)
-      (take (start_of_gap entries at).entries entries)
-  pub before_open : is_open (texts_of lines) before ≡ are_open (texts_of lines) entries at.last
-  pub merges : (e : Token)
-      → would_merge (texts_of lines) prev e ≡ (is_touching at && entries_merge (texts_of lines) entries e)
+  pub continued : is_joined at.last ≡ false
+      → is_continued (texts_of lines) before ≡ continues (texts_of lines) at
+  pub front_open : is_open (texts_of lines) front ≡ run_ends_in slash (texts_of lines) at.item
+  pub before_open : is_open (texts_of lines) before ≡ ends_open (texts_of lines) at
+  pub merges : (e : Token) → is_run e ≡ false → would_merge (texts_of lines) prev e
+      ≡ (is_touching at && would_merge_in_run (texts_of lines) at.item e)
 
--- The items `whole` of a C part are those of the entries so far, then those of the tokens `es` that
+-- The items `whole` of a C part are those of the tokens so far, then those of the tokens `es` that
 -- were not read yet.
-pub record IsPassed (lines : List SourceLine) (whole : List Item) (entries : List Entry)
-    (at : PartState) (es : List Token) : Type 0 where
-  pub read : IsRead lines entries at
-  pub left : whole
-      ≡ from_gap lines entries at read.front (without_joins read.gap (spaced_after (texts_of lines) read.prev es))
+pub record IsPassed (lines : List SourceLine) (whole items kept : List Item) (at : PartState)
+    (es : List Token) : Type 0 where
+  pub read : IsRead lines items kept at
+  pub left : whole ≡ from_gap lines kept at read.front
+      (without_joins read.gap (spaced_after (texts_of lines) read.prev es))
 
--- a blank goes before the item of a token
-abbrev pub blank_before : List SourceLine → List Entry → PartState → Token → Bool
-blank_before lines entries at e =
-    is_touching at && entries_merge (texts_of lines) entries e
-    || keeps_white at.last && at.has_white
-
--- a blank goes before a run, by the first byte of the run
-abbrev pub blank_before_run : List SourceLine → List Entry → PartState → Span → Bool
-blank_before_run lines entries at s =
-    is_touching at && (is_code (last_entry entries) && is_merging_byte (first_byte (texts_of lines) s))
+-- a blank goes before an item or a run
+abbrev pub blank_before : List SourceLine → PartState → Token → Bool
+blank_before lines at e =
+    is_touching at && would_merge_in_run (texts_of lines) at.item e
     || keeps_white at.last && at.has_white
 
 abbrev pub blank_if : Bool → List Item
 blank_if blank = if blank then item.Blank ∷ [] else []
 
--- whether there is a mark among the entries so far, and among those before the current gap
-pub record IsMarked (entries : List Entry) (at : PartState) : Type 0 where
-  pub start : at.start.entries ≤ length entries
-  pub now : list_any entry_is_mark entries ≡ at.counted.has_mark
-  pub before : list_any entry_is_mark (take at.start.entries entries) ≡ at.start.counted.has_mark
+-- The text before the current gap. A join removes what is after it.
+
+abbrev pub size_of : TextRead → TextSize
+size_of text =
+    record { tags = length text.tags; bytes = length text.bytes; marks = length text.marks }
+
+abbrev pub cut_to : TextSize → TextRead → TextRead
+cut_to size text = record text {
+  tags = take size.tags text.tags;
+  bytes = take size.bytes text.bytes;
+  marks = take size.marks text.marks;
+}
+
+abbrev pub before_gap : TextRead → PartState → TextRead
+before_gap text at = if is_after_line_end at.last then cut_to at.start.size text else text
+
+abbrev pub start_of_gap : TextRead → PartState → Start
+start_of_gap text at =
+    if is_after_line_end at.last then at.start
+    else record { size = size_of text; turn = at.turn; counted = at.counted }
+
+-- a text has at least this size
+pub record HasSize (size : TextSize) (text : TextRead) : Type 0 where
+  pub tags : size.tags ≤ length text.tags
+  pub bytes : size.bytes ≤ length text.bytes
+  pub marks : size.marks ≤ length text.marks
+
+-- The text so far is that of the items so far, which are those of the tokens so far; `es` were not
+-- read yet, and the whole part has the items `whole`.
+pub record IsMade (lines : List SourceLine) (whole : List Item) (text : TextRead) (at : PartState)
+    (es : List Token) : Type 0 where
+  pub items : List Item
+  pub kept : List Item
+  pub passed : IsPassed lines whole items kept at es
+  pub all_text : IsTextOf (texts_of lines) items text
+  pub kept_text : IsTextOf (texts_of lines) kept (before_gap text at)
+  pub start : is_after_line_end at.last ≡ true → HasSize at.start.size text
 
 -- the higher of the two counted lines of the state, for which a limit is proved
 abbrev pub highest : PartState → ℕ

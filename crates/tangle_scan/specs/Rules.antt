@@ -272,9 +272,9 @@ token_items token.White = item.Blank ∷ []
 token_items (token.LineEnd line) = item.LineEnd ∷ []
 token_items (token.QuoteBreak line) = item.QuoteBreak ∷ []
 token_items (token.Span kind s) = span_item kind s ∷ []
-token_items (token.AsciiConstant value line) = item.Code value ∷ []
+token_items (token.AsciiConstant value line) = item.AsciiConstant value ∷ []
 token_items (token.UseOf line occurrence) = item.UseOf occurrence ∷ []
-token_items (token.AllMacros line) = item.Defs ∷ []
+token_items (token.AllMacros line) = item.AllMacros ∷ []
 token_items _ = []
 
 -- The mark after a token, as a list. `before` is the token before that token. Rule 3 leaves no

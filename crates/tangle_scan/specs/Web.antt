@@ -10,6 +10,7 @@ use Rattle.tangle_lines.specs.Reading.{SourceLine, SourceRead, place_of, origin_
 use Rattle.tangle_files.specs.Lines.{FileTable}
 use Rattle.tangle_scan.specs.declared.items.Item.{Item}
 use Rattle.tangle_scan.specs.declared.items.Item.TheVariants as item
+use Rattle.tangle_scan.specs.declared.pieces.Piece.{Piece}
 use Rattle.tangle_lexer.specs.declared.tokens.Token.{Token}
 use Rattle.tangle_lexer.specs.declared.tokens.Token.TheVariants as token
 use Rattle.tangle_lexer.specs.Lexemes.{OccurrenceOnLine}
@@ -32,6 +33,14 @@ pub record PieceRead : Type 0 where
   pub origin : Origin
   pub occurrence : Option ℕ
   pub items : List Item
+
+abbrev pub no_piece : PieceRead
+no_piece =
+    record { section = 0; origin = record { file = 0; line = 0 }; occurrence = None; items = [] }
+
+-- a piece as it is stored, without its items
+abbrev pub stored_piece : PieceRead → Piece
+stored_piece p = record { section = p.section; origin = p.origin; occurrence = p.occurrence }
 
 -- a line mark
 abbrev pub is_line_mark : Item → Bool

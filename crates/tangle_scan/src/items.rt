@@ -68,7 +68,7 @@ pub enum Item {
     /// A verbatim text, or one of the ranges that it is cut into.
     Verbatim(Span),
     /// An ASCII constant, by its value: the number that is written for it in decimal.
-    Code(u8),
+    AsciiConstant(u8),
     /// White space between two items, of any length: one space is written for it.
     Blank,
     /// A line end outside quoted texts.
@@ -78,14 +78,5 @@ pub enum Item {
     /// A use of a section name, by the number of its occurrence.
     UseOf(OccurrenceNumber),
     /// `@h`: all macros of the web are written here.
-    Defs,
-}
-
-/// An entry of a piece: an item, or a run of items.
-#[derive(Clone, Copy, Debug, PartialEq, Eq)]
-pub enum Entry {
-    /// One item.
-    Item(Item),
-    /// Words, signs and single spaces of a line, which are items one by one: each space is a blank.
-    Run(Span),
+    AllMacros,
 }

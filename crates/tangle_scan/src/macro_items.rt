@@ -15,11 +15,37 @@ ghost use Rattle.tangle_scan.specs.declared.items.Item.TheVariants as item;
 ghost use Rattle.tangle_lexer.specs.declared.tokens.Token.{Token as TokenRead};
 
 use crate::items::Item;
-use crate::parts::item_of;
-use crate::touching::{first_byte, is_character, may_merge, may_touch};
+use crate::touching::{first_byte, may_touch, would_merge};
 use std::alloc::Global;
 use tangle_lexer::{SpanKind, Token};
 use tangle_lines::{NoMemory, Source};
+use tangle_text::Span;
+
+/// The item for a span of this kind.
+#[inline(always)]
+fn span_item(kind: SpanKind, span: Span) -> Item
+    ensures { result ≡ rules.span_item kind span }
+{
+    match kind {
+        SpanKind::Word => Item::Word(span),
+        SpanKind::Sign => Item::Sign(span),
+        SpanKind::Quoted => Item::Quoted(span),
+        SpanKind::Verbatim => Item::Verbatim(span),
+    }
+}
+
+/// The item for a token, if that is the same item in C parts and in macros.
+#[inline(always)]
+pub(crate) fn item_of(token: Token) -> Option<Item>
+    ensures { result ≡ passes.item_of token }
+{
+    match token {
+        Token::Span(kind, span) => Some(span_item(kind, span)),
+        Token::QuoteBreak(_) => Some(Item::QuoteBreak),
+        Token::AsciiConstant(byte, _) => Some(Item::AsciiConstant(byte)),
+        _ => None,
+    }
+}
 
 /// What is between two items.
 #[derive(Clone, Copy)]
@@ -59,18 +85,6 @@ fn read_gap(tokens: &[Token]) -> (Gap, &[Token])
         left = rest;
     }
     (gap, left)
-}
-
-/// Whether two tokens, of which one is an ASCII constant, would be read as one number with nothing
-/// between them.
-fn would_merge(source: &Source, before: Token, token: Token) -> bool
-    ensures { result ≡ rules.would_merge (texts_of source.now.lines) before token }
-{
-    match (before, token) {
-        (Token::AsciiConstant(..), _) => { may_merge(source, token) || is_character(source, token) }
-        (_, Token::AsciiConstant(..)) => may_merge(source, before),
-        _ => false,
-    }
 }
 
 /// Whether a token may follow the name of a macro without white space.
@@ -232,11 +246,15 @@ fn add_token(
     })
 }
 
-/// The items of a macro.
 // It is not inlined into the long function that gathers a web, so that its state stays in
 // registers.
+/// The items of a macro, from its tokens. A web keeps only the bytes of macros.
+///
+/// # Errors
+///
+/// `NoMemory`, if an allocation failed.
 #[inline(never)]
-pub(crate) fn macro_items(
+pub fn items_of_macro(
     alloc: Global,
     source: &Source,
     tokens: &[Token],
@@ -259,6 +277,5 @@ pub(crate) fn macro_items(
         left = next;
     }
     push_line_ends(&mut items, at.gap.line_ends)?;
-    items.shrink_to_fit();
     Ok(items)
 }

@@ -1,42 +1,39 @@
-//! The entries of a C part, in one pass over its tokens. White space becomes a blank between two
-//! items of a line, and at the start of a line that continues another; other white space is
-//! dropped. A line end inside a comment or a control text of a directive is white space. A join
-//! removes the white space and the line ends around it: line ends are added at once, and removed
-//! again if a join follows in their gap. A blank goes between a word and an ASCII constant that
-//! touch, in either order, and between two constants that touch. A line mark follows each use and
-//! each `@h`. It also replaces a line end if a compiler would count another origin for the next
-//! source line, and at the end of a turn, except at the end of a continued line.
-ghost use Rattle.std.specs.Prelude.{◌≡◌, ◌≤◌, ◌<◌, ◌+◌, ◌^◌, ◌++◌, ◌∷◌, ◌&&◌, ◌||◌, [], map};
-ghost use Rattle.std.specs.Prelude.{List, max, if◌then◌else◌, true, false, None, take};
-ghost use Rattle.std.specs.Prelude.{Some, option_to_list, IfOk, OnOk};
+//! The text of a C part, in one pass over its tokens. White space becomes a blank between two items
+//! of a line, and at the start of a line that continues another; other white space is dropped. A
+//! line end inside a comment or a control text of a directive is white space. A join removes the
+//! white space and the line ends around it: line ends are added at once, and removed again if a
+//! join follows in their gap. A blank goes between a word and an ASCII constant that touch, in
+//! either order, and between two constants that touch. A line mark follows each use and each `@h`.
+//! It also replaces a line end if a compiler would count another origin for the next source line,
+//! and at the end of a turn, except at the end of a continued line.
+ghost use Rattle.std.specs.Prelude.{◌≡◌, ◌≤◌, ◌<◌, ◌+◌, ◌^◌, ◌++◌, ◌∷◌, ◌||◌, [], List, max};
+ghost use Rattle.std.specs.Prelude.{if◌then◌else◌, true, false, None, Some, IfOk, OnOk};
 ghost use Rattle.std.specs.List.{list_any, All};
-ghost use Rattle.tangle_lexer.specs.SpanBytes as span_bytes;
-ghost use Rattle.tangle_scan.specs.Rules as rules;
 ghost use Rattle.tangle_lines.specs.Reading.{origin_at};
-ghost use Rattle.tangle_scan.specs.Entries.{IsEntryInRange, entry_is_mark, items_of};
-ghost use Rattle.tangle_scan.specs.Directives.{item_ends_in};
-ghost use Rattle.tangle_scan.specs.Passes as passes;
-ghost use Rattle.tangle_scan.specs.RawStrings as raw;
-ghost use Rattle.tangle_scan.specs.Rules.{texts_of};
-ghost use Rattle.tangle_scan.specs.LineTruth.{is_expected, counted_after_line_end};
-ghost use Rattle.tangle_scan.specs.Web as web;
-ghost use Rattle.tangle_scan.specs.Web.{is_line_mark};
-ghost use Rattle.tangle_scan.specs.Passes.{origin_of, last_entry, entries_continue, highest};
-ghost use Rattle.tangle_scan.specs.Passes.{blank_if, blank_before, blank_before_run, start_of_gap};
-ghost use Rattle.tangle_scan.specs.Passes.{is_merging_byte};
-ghost use Rattle.tangle_scan.specs.Passes.{IsPassed, IsMarked};
 ghost use Rattle.tangle_lexer.specs.Heads.{is_head};
 ghost use Rattle.tangle_lexer.specs.Runs.{IsRunIn, IsRunOf, unfolded, unfolded_token};
+ghost use Rattle.tangle_lexer.specs.SpanBytes as span_bytes;
 ghost use Rattle.tangle_lexer.specs.declared.tokens.Token.{Token as TokenRead};
+ghost use Rattle.tangle_lexer.specs.declared.tokens.Token.TheVariants as token;
 ghost use Rattle.tangle_scan.specs.declared.items.Item.{Item as ItemRead};
 ghost use Rattle.tangle_scan.specs.declared.items.Item.TheVariants as item;
-ghost use Rattle.tangle_scan.specs.declared.items.Entry.TheVariants as entry;
+ghost use Rattle.tangle_text.specs.declared.spans.Span.{Span as SpanRead};
+ghost use Rattle.tangle_scan.specs.LineTruth.{counted_after_line_end};
+ghost use Rattle.tangle_scan.specs.Passes as passes;
+ghost use Rattle.tangle_scan.specs.Passes.{IsMade, before_gap, blank_if, highest, origin_of};
+ghost use Rattle.tangle_scan.specs.Passes.{start_of_gap};
+ghost use Rattle.tangle_scan.specs.RawStrings as raw;
+ghost use Rattle.tangle_scan.specs.Rules as rules;
+ghost use Rattle.tangle_scan.specs.Rules.{texts_of};
+ghost use Rattle.tangle_scan.specs.Texts.{IsTextOf, item_kind, no_text, with_items, with_run};
 ghost use Rattle.tangle_scan.specs.declared.parts.Last.TheVariants as last;
+ghost use Rattle.tangle_scan.specs.Web as web;
 
 use crate::faults::add_faults_if;
-use crate::items::{Entry, Item, OccurrenceNumber};
+use crate::items::OccurrenceNumber;
 use crate::raw_strings::begins_after_r;
-use crate::touching::{first_byte, is_character, last_byte, may_merge};
+use crate::texts::{ItemKind, PartText, TextSize};
+use crate::touching::{first_byte, last_byte, span_bytes, would_merge};
 use crate::turns::{Turn, is_whole, turn_after, turn_after_line_end, turn_after_run};
 use std::alloc::Global;
 use tangle_lexer::{SpanKind, Token};
@@ -45,11 +42,9 @@ use tangle_text::{Span, is_word_byte};
 
 /// The origin that a C compiler counts at a position, by the marks and line ends before it.
 #[derive(Clone, Copy)]
-pub(crate) struct CountedOrigin {
-    pub(crate) file: usize,
-    pub(crate) line: usize,
-    /// Whether a mark was added so far.
-    pub(crate) has_mark: bool,
+struct CountedOrigin {
+    file: usize,
+    line: usize,
 }
 
 /// What is before a position, if white space and faults are left out.
@@ -64,22 +59,24 @@ enum Last {
     Item,
 }
 
-/// Where a gap of joins, white space and line ends begins: the number of entries before it, how much
+/// Where a gap of joins, white space and line ends begins: the size of the text before it, how much
 /// of a turn is on its line, and the counted origin there.
 #[derive(Clone, Copy)]
 struct Start {
-    entries: usize,
+    size: TextSize,
     turn: Turn,
     counted: CountedOrigin,
 }
 
-/// The state of a C part while its entries are made. `start` is the start of the current gap; it
-/// has no meaning unless that gap has a line end.
+/// The state of a C part while its text is made. `start` is the start of the current gap; it has no
+/// meaning unless that gap has a line end.
 #[derive(Clone, Copy)]
 struct PartState {
     last: Last,
     /// Whether white space is between `last` and the position.
     has_white: bool,
+    /// The last item or run; white space, if there is none.
+    item: Token,
     /// How much of a turn is on the line of C.
     turn: Turn,
     counted: CountedOrigin,
@@ -124,17 +121,15 @@ fn last_after_line_end(is_continued: bool) -> Last
     }
 }
 
-/// The counted origin at the front of a C part whose head ends on this source line.
-pub(crate) fn counted_on(source: &Source, line: u32) -> CountedOrigin
-    ensures origin { origin_of result ≡ origin_at source.now.lines line }
+/// The counted origin after a mark with this origin.
+#[inline(always)]
+fn counted_at(origin: Origin) -> CountedOrigin
+    ensures origin { origin_of result ≡ origin }
     ensures limit { result.line < 2 ^ 32 }
-    ensures mark { result.has_mark ≡ false }
 {
-    let origin = source.origin(line as usize);
     CountedOrigin {
         file: origin.file as usize,
         line: origin.line as usize,
-        has_mark: false,
     }
 }
 
@@ -142,7 +137,7 @@ pub(crate) fn counted_on(source: &Source, line: u32) -> CountedOrigin
 fn next_line(counted: CountedOrigin) -> CountedOrigin
     requires { counted.line < 2 ^ 63 }
     ensures counted { origin_of result ≡ rules.next_line (origin_of counted) }
-    ensures mark { result.has_mark ≡ counted.has_mark }
+    ensures limit { result.line ≡ counted.line + 1 }
 {
     CountedOrigin {
         line: counted.line + 1,
@@ -176,197 +171,103 @@ fn marked_origin(
     Some(origin)
 }
 
-/// A mark with this origin, which is the counted one after it.
+/// Adds the item for the end of a source line, and returns the counted origin after it. The item is
+/// a line end if the line is continued, or if it is no turn and the count expects the next source
+/// line, else a mark.
 #[inline(always)]
-fn mark_at(origin: Origin) -> (Item, CountedOrigin)
-    ensures made { result.0 ≡ item.LineMark origin }
-    ensures counted { origin_of result.1 ≡ origin }
-    ensures limit { result.1.line < 2 ^ 32 }
-    ensures mark { result.1.has_mark ≡ true }
-{
-    let counted = CountedOrigin {
-        file: origin.file as usize,
-        line: origin.line as usize,
-        has_mark: true,
-    };
-    (Item::LineMark(origin), counted)
-}
-
-/// The item for the end of a source line, and the counted origin after it. The item is a line end
-/// if the line is continued, or if it is no turn and the count expects the next source line, else a
-/// mark.
-// It is inlined into both loops over the tokens of C parts, so that the counted origin stays in
-// registers.
-#[inline(always)]
-pub(crate) fn line_end_item(
+fn push_line_end(
     source: &Source,
+    text: &mut PartText,
     counted: CountedOrigin,
     line: u32,
     is_continued: bool,
     is_turn: bool,
-) -> (Item, CountedOrigin)
+) -> Result<CountedOrigin, NoMemory>
     requires { counted.line < 2 ^ 63 }
-    ensures made { result.0
-        ≡ passes.line_item source.now.lines is_continued is_turn (origin_of counted) line }
-    ensures counted { origin_of result.1
-        ≡ counted_after_line_end source.now.lines is_continued (origin_of counted) line }
-    ensures limit { result.1.line ≤ max (2 ^ 32) (counted.line + 1) }
-    ensures mark { result.1.has_mark
-        ≡ (is_line_mark
-        (passes.line_item source.now.lines is_continued is_turn (origin_of counted) line)
-        || counted.has_mark) }
+    ensures text { OnOk result (text.new ≡ with_items (texts_of source.now.lines) text.old
+        (passes.line_item source.now.lines is_continued is_turn (origin_of counted) line ∷ [])) }
+    ensures counted { IfOk result (λ next. origin_of next
+        ≡ counted_after_line_end source.now.lines is_continued (origin_of counted) line) }
+    ensures limit { IfOk result (λ next. next.line ≤ max (2 ^ 32) (counted.line + 1)) }
 {
     let marked = marked_origin(source, counted, line, is_turn);
     match marked {
-        Some(origin) if !is_continued => mark_at(origin),
-        _ => (Item::LineEnd, next_line(counted)),
+        Some(origin) if !is_continued => {
+            text.add_mark(origin)?;
+            Ok(counted_at(origin))
+        }
+        _ => {
+            text.add_byte(ItemKind::LineEnd, b'\n')?;
+            Ok(next_line(counted))
+        }
     }
 }
 
-/// The item for a span of this kind.
+/// The kind of an item with a span of this kind.
 #[inline(always)]
-fn span_item(kind: SpanKind, span: Span) -> Item
-    ensures { result ≡ rules.span_item kind span }
+fn kind_of(kind: SpanKind) -> ItemKind
+    ensures { (span : SpanRead) → result ≡ item_kind (rules.span_item kind span) }
 {
     match kind {
-        SpanKind::Word => Item::Word(span),
-        SpanKind::Sign => Item::Sign(span),
-        SpanKind::Quoted => Item::Quoted(span),
-        SpanKind::Verbatim => Item::Verbatim(span),
+        SpanKind::Word => ItemKind::Word,
+        SpanKind::Sign => ItemKind::Sign,
+        SpanKind::Quoted => ItemKind::Quoted,
+        SpanKind::Verbatim => ItemKind::Verbatim,
     }
 }
 
-/// The item for a token, if that is the same item in C parts and in macros.
+/// Adds the items of a token other than white space and line ends, with a mark after a use or `@h`.
+/// Returns the counted origin after them.
 #[inline(always)]
-pub(crate) fn item_of(token: Token) -> Option<Item>
-    ensures { result ≡ passes.item_of token }
-{
-    match token {
-        Token::Span(kind, span) => Some(span_item(kind, span)),
-        Token::QuoteBreak(_) => Some(Item::QuoteBreak),
-        Token::AsciiConstant(byte, _) => Some(Item::Code(byte)),
-        _ => None,
-    }
-}
-
-/// The items of a token, and the counted origin after them.
-#[derive(Clone, Copy)]
-pub(crate) struct TokenItems {
-    pub(crate) item: Option<Item>,
-    /// The mark after a use or `@h`.
-    pub(crate) mark: Option<Item>,
-    pub(crate) counted: CountedOrigin,
-}
-
-/// An item and the mark with this origin after it.
-#[inline(always)]
-fn with_mark(marked: Item, origin: Origin) -> TokenItems
-    ensures items { option_to_list result.item ++ option_to_list result.mark
-        ≡ marked ∷ item.LineMark origin ∷ [] }
-    ensures counted { origin_of result.counted ≡ origin }
-    ensures limit { result.counted.line < 2 ^ 32 }
-    ensures mark { result.counted.has_mark ≡ true }
-{
-    let (mark, counted) = mark_at(origin);
-    TokenItems {
-        item: Some(marked),
-        mark: Some(mark),
-        counted,
-    }
-}
-
-/// The items of a token other than white space and line ends, with a mark after a use or `@h`.
-// It is inlined for the same reason as `line_end_item`.
-#[inline(always)]
-pub(crate) fn token_items(source: &Source, counted: CountedOrigin, token: Token) -> TokenItems
+fn push_items(
+    source: &Source,
+    text: &mut PartText,
+    counted: CountedOrigin,
+    token: Token,
+) -> Result<CountedOrigin, NoMemory>
     requires { counted.line < 2 ^ 63 }
-    ensures items { option_to_list result.item ++ option_to_list result.mark
-        ≡ passes.items_at source.now.lines token }
-    ensures counted { origin_of result.counted
-        ≡ passes.counted_after_token source.now.lines (origin_of counted) token }
-    ensures limit { result.counted.line ≤ max (2 ^ 32) (counted.line + 1) }
-    ensures mark { result.counted.has_mark
-        ≡ (list_any is_line_mark (passes.items_at source.now.lines token) || counted.has_mark) }
+    ensures text { OnOk result (text.new ≡ with_items (texts_of source.now.lines) text.old
+        (passes.items_at source.now.lines token)) }
+    ensures counted { IfOk result (λ next. origin_of next
+        ≡ passes.counted_after_token source.now.lines (origin_of counted) token) }
+    ensures limit { IfOk result (λ next. next.line ≤ max (2 ^ 32) (counted.line + 1)) }
 {
     match token {
-        Token::UseOf(line, occurrence) => {
-            let item = Item::UseOf(OccurrenceNumber::new(occurrence));
-            with_mark(item, source.origin(line as usize))
+        Token::Span(kind, span) => {
+            text.add_bytes(kind_of(kind), span_bytes(source, span))?;
+            Ok(counted)
         }
-        Token::AllMacros(line) => with_mark(Item::Defs, source.origin(line as usize)),
-        Token::QuoteBreak(_) => TokenItems {
-            item: Some(Item::QuoteBreak),
-            mark: None,
-            counted: next_line(counted),
-        },
-        _ => TokenItems {
-            item: item_of(token),
-            mark: None,
-            counted,
-        },
+        Token::AsciiConstant(value, _) => {
+            text.add_constant(value)?;
+            Ok(counted)
+        }
+        Token::QuoteBreak(_) => {
+            text.add_byte(ItemKind::QuoteBreak, b'\n')?;
+            Ok(next_line(counted))
+        }
+        Token::UseOf(line, occurrence) => {
+            text.add_use(OccurrenceNumber::new(occurrence))?;
+            push_mark(source, text, line)
+        }
+        Token::AllMacros(line) => {
+            text.add_all_macros()?;
+            push_mark(source, text, line)
+        }
+        _ => Ok(counted),
     }
 }
 
-/// Adds an item as an entry, if there is one.
-// It is inlined, so that no item is made where the caller knows that there is none.
+/// Adds a mark with the origin of a source line, and returns the counted origin after it.
 #[inline(always)]
-fn push_entry(entries: &mut Vec<Entry>, item: Option<Item>) -> Result<(), NoMemory>
-    ensures { OnOk result (entries.new.items
-        ≡ entries.old.items ++ map entry.Item (option_to_list item)) }
+fn push_mark(source: &Source, text: &mut PartText, line: u32) -> Result<CountedOrigin, NoMemory>
+    ensures text { OnOk result (text.new ≡ with_items (texts_of source.now.lines) text.old
+        (item.LineMark (origin_at source.now.lines line) ∷ [])) }
+    ensures counted { IfOk result (λ next. origin_of next ≡ origin_at source.now.lines line) }
+    ensures limit { IfOk result (λ next. next.line < 2 ^ 32) }
 {
-    if let Some(item) = item {
-        entries.push(Entry::Item(item))?;
-    }
-    Ok(())
-}
-
-/// Whether an item is a sign or a verbatim text that ends in this byte.
-#[inline(always)]
-fn item_ends_in(source: &Source, item: Item, byte: u8) -> bool
-    ensures { result ≡ item_ends_in byte (texts_of source.now.lines) item }
-{
-    match item {
-        Item::Sign(span) => first_byte(source, span) == byte,
-        Item::Verbatim(span) => last_byte(source, span) == byte,
-        _ => false,
-    }
-}
-
-/// Whether the last of these entries is, or ends with, a sign or a verbatim text that ends in this
-/// byte, which is no word byte and no space.
-#[inline(always)]
-fn end_in(source: &Source, entries: &[Entry], byte: u8) -> bool
-    ensures { result ≡ passes.entries_end_in byte (texts_of source.now.lines) entries.now }
-{
-    match entries.last() {
-        Some(Entry::Item(item)) => item_ends_in(source, *item, byte),
-        Some(Entry::Run(span)) => last_byte(source, *span) == byte,
-        None => false,
-    }
-}
-
-/// Whether the next line continues the one that these entries end.
-// No run ends in a backslash, so that its last byte need not be looked up.
-#[inline(always)]
-fn continue_line(source: &Source, entries: &[Entry]) -> bool
-    requires { All (IsEntryInRange (texts_of source.now.lines)) entries.now }
-    ensures { result ≡ entries_continue (texts_of source.now.lines) entries.now }
-{
-    match entries.last() {
-        Some(Entry::Item(item)) => item_ends_in(source, *item, b'\\'),
-        _ => false,
-    }
-}
-
-/// Whether the last entry is an ASCII constant.
-#[inline(always)]
-fn ends_in_constant(entries: &[Entry]) -> bool
-    ensures { result ≡ passes.is_code (last_entry entries.now) }
-{
-    match entries.last() {
-        Some(entry) => matches!(*entry, Entry::Item(Item::Code(_))),
-        None => false,
-    }
+    let origin = source.origin(line as usize);
+    text.add_mark(origin)?;
+    Ok(counted_at(origin))
 }
 
 /// Whether a number beside a run that begins or ends with this byte would be read as one with it.
@@ -376,149 +277,139 @@ fn is_merging_byte(byte: u8) -> bool
     is_word_byte(byte) || byte == b'.' || byte == b'\\'
 }
 
-/// Whether an ASCII constant after this item would be read as one with it.
+/// Whether two tokens, which may be runs, would be read as one with nothing between them.
 #[inline(always)]
-fn item_merges(source: &Source, item: Item) -> bool
-    ensures { result ≡ passes.is_merging_end (texts_of source.now.lines) (Some (entry.Item item)) }
+fn would_merge_in_run(source: &Source, before: Token, token: Token) -> bool
+    ensures { result ≡ passes.would_merge_in_run (texts_of source.now.lines) before token }
 {
-    match item {
-        Item::Code(_) | Item::Word(_) | Item::Verbatim(_) => true,
-        Item::Sign(span) => matches!(first_byte(source, span), b'.' | b'\\'),
+    match (before, token) {
+        (Token::AsciiConstant(..), Token::Run(span)) => is_merging_byte(first_byte(source, span)),
+        (Token::Run(span), Token::AsciiConstant(..)) => is_merging_byte(last_byte(source, span)),
+        _ => would_merge(source, before, token),
+    }
+}
+
+/// Whether a token is a sign or a verbatim text that ends in this byte.
+#[inline(always)]
+fn ends_in(source: &Source, token: Token, byte: u8) -> bool
+    ensures { result ≡ span_bytes.ends_in byte (texts_of source.now.lines) token }
+{
+    match token {
+        Token::Span(SpanKind::Sign, span) => first_byte(source, span) == byte,
+        Token::Span(SpanKind::Verbatim, span) => last_byte(source, span) == byte,
         _ => false,
     }
 }
 
-/// Whether an ASCII constant after the last entry would be read as one with it.
-fn ends_merging(source: &Source, entries: &[Entry]) -> bool
-    ensures { result ≡ passes.is_merging_end (texts_of source.now.lines) (last_entry entries.now) }
-{
-    match entries.last() {
-        Some(Entry::Item(item)) => item_merges(source, *item),
-        Some(Entry::Run(span)) => is_merging_byte(last_byte(source, *span)),
-        None => false,
-    }
-}
-
-/// Whether the last item is directly before the next token.
+/// Whether the next line continues the one that ends here.
+// No run ends in a backslash, so that its last byte need not be looked up.
 #[inline(always)]
-fn is_touching(at: &PartState) -> bool
-    ensures { result ≡ passes.is_touching at.now }
+fn continue_line(source: &Source, at: &PartState) -> bool
+    ensures { result ≡ passes.continues (texts_of source.now.lines) at.now }
 {
-    matches!(at.last, Last::Item) && !at.has_white
+    matches!(at.last, Last::Item) && ends_in(source, at.item, b'\\')
 }
 
-/// Whether an item of this token would be written as one with the last item.
-#[inline(always)]
-fn would_merge(source: &Source, entries: &[Entry], at: &PartState, token: Token) -> bool
-    ensures { result ≡ (passes.is_touching at.now
-        && passes.entries_merge (texts_of source.now.lines) entries.now token) }
-{
-    match token {
-        Token::AsciiConstant(..) => is_touching(at) && ends_merging(source, entries),
-        _ => {
-            is_touching(at)
-                && ends_in_constant(entries)
-                && (may_merge(source, token) || is_character(source, token))
-        }
-    }
-}
-
-/// Whether the front of a run would be written as one with the last item.
-// The run's first byte is looked up only after an ASCII constant.
-#[inline(always)]
-fn run_would_merge(source: &Source, entries: &[Entry], at: &PartState, span: Span) -> bool
-    ensures { result ≡ (passes.is_touching at.now && (passes.is_code (last_entry entries.now)
-        && is_merging_byte (span_bytes.first_byte (texts_of source.now.lines) span))) }
-{
-    is_touching(at) && ends_in_constant(entries) && is_merging_byte(first_byte(source, span))
-}
-
-/// Ends the gap before an item. Adds a blank if the item would merge with the one before it, or if
+/// Whether a blank goes before an item or a run: it would merge with the item directly before it, or
 /// white space before it is kept.
 #[inline(always)]
-fn end_gap(entries: &mut Vec<Entry>, at: &mut PartState, merges: bool) -> Result<(), NoMemory>
-    ensures entries { OnOk result (entries.new.items ≡ entries.old.items ++ map entry.Item
-        (blank_if (merges || passes.keeps_white at.old.last && at.old.has_white))) }
-    ensures at { OnOk result (at.new ≡ record at.old { last = last.Item; has_white = false }) }
+fn has_blank_before(source: &Source, at: &PartState, token: Token) -> bool
+    ensures { result ≡ passes.blank_before source.now.lines at.now token }
 {
-    if merges || keeps_white(at.last) && at.has_white {
-        entries.push(Entry::Item(Item::Blank))?;
+    if at.has_white {
+        return keeps_white(at.last);
+    }
+    matches!(at.last, Last::Item) && would_merge_in_run(source, at.item, token)
+}
+
+/// Ends the gap before an item or a run.
+#[inline(always)]
+fn end_gap(
+    source: &Source,
+    text: &mut PartText,
+    at: &mut PartState,
+    token: Token,
+) -> Result<(), NoMemory>
+    ensures text { OnOk result (text.new ≡ with_items (texts_of source.now.lines) text.old
+        (blank_if (passes.blank_before source.now.lines at.old token))) }
+    ensures at { OnOk result
+        (at.new ≡ record at.old { last = last.Item; has_white = false; item = token }) }
+{
+    if has_blank_before(source, at, token) {
+        text.add_byte(ItemKind::Blank, b' ')?;
     }
     at.last = Last::Item;
     at.has_white = false;
+    at.item = token;
     Ok(())
 }
 
-/// Adds the entry of a run.
+/// Adds a run.
 #[inline(always)]
 fn add_run(
     source: &Source,
-    entries: &mut Vec<Entry>,
+    text: &mut PartText,
     at: &mut PartState,
     span: Span,
 ) -> Result<(), NoMemory>
     requires { IsRunOf (texts_of source.now.lines) span }
-    ensures entries { OnOk result (entries.new.items
-        ≡ (entries.old.items ++ map entry.Item (blank_if
-        (blank_before_run source.now.lines entries.old.items at.old span)))
-        ++ entry.Run span ∷ []) }
+    ensures text { OnOk result (let texts = texts_of source.now.lines in
+        text.new ≡ with_run texts (with_items texts text.old
+        (blank_if (passes.blank_before source.now.lines at.old (token.Run span)))) span) }
     ensures at { OnOk result (at.new ≡ record at.old {
       last = last.Item;
       has_white = false;
+      item = token.Run span;
       turn = passes.turn_after_run (texts_of source.now.lines) at.old.turn span;
     }) }
 {
-    let merges = run_would_merge(source, entries, at, span);
-    end_gap(entries, at, merges)?;
-    entries.push(Entry::Run(span))?;
+    end_gap(source, text, at, Token::Run(span))?;
+    text.add_bytes(ItemKind::Run, span_bytes(source, span))?;
     at.turn = turn_after_run(source, at.turn, span);
     Ok(())
 }
 
-/// Adds the entries of a token that is an item.
+/// Adds the items of a token that is an item.
 #[inline(always)]
 fn add_item(
     source: &Source,
-    entries: &mut Vec<Entry>,
+    text: &mut PartText,
     at: &mut PartState,
     token: Token,
 ) -> Result<(), NoMemory>
     requires { at.old.counted.line < 2 ^ 63 }
-    ensures entries { OnOk result (entries.new.items ≡ (entries.old.items ++ map entry.Item
-        (blank_if (blank_before source.now.lines entries.old.items at.old token)))
-        ++ map entry.Item (passes.items_at source.now.lines token)) }
+    ensures text { OnOk result (let texts = texts_of source.now.lines in
+        text.new ≡ with_items texts (with_items texts text.old
+        (blank_if (passes.blank_before source.now.lines at.old token)))
+        (passes.items_at source.now.lines token)) }
     ensures at { OnOk result (at.new ≡ record at.old {
       last = last.Item;
       has_white = false;
+      item = token;
       turn = passes.turn_after (texts_of source.now.lines) at.old.turn token;
       counted = at.new.counted;
     }) }
     ensures counted { OnOk result (origin_of at.new.counted
         ≡ passes.counted_after_token source.now.lines (origin_of at.old.counted) token) }
     ensures limit { OnOk result (at.new.counted.line ≤ max (2 ^ 32) (at.old.counted.line + 1)) }
-    ensures mark { OnOk result (at.new.counted.has_mark
-        ≡ (list_any is_line_mark (passes.items_at source.now.lines token)
-        || at.old.counted.has_mark)) }
 {
-    let merges = would_merge(source, entries, at, token);
-    end_gap(entries, at, merges)?;
-    let made = token_items(source, at.counted, token);
-    push_entry(entries, made.item)?;
-    push_entry(entries, made.mark)?;
+    end_gap(source, text, at, token)?;
+    at.counted = push_items(source, text, at.counted, token)?;
     at.turn = turn_after(source, at.turn, token);
-    at.counted = made.counted;
     Ok(())
 }
 
 /// Notes where the gap of a line end begins, unless the gap has a line end already.
 #[inline(always)]
-fn note_gap(entries: &[Entry], at: &mut PartState)
-    ensures { at.new ≡ record at.old { start = start_of_gap entries.now at.old } }
+fn note_gap(text: &PartText, at: &mut PartState)
+    ensures { at.new ≡ record at.old { start = start_of_gap text.now at.old } }
 {
     if !is_after_line_end(at.last) {
-        at.start.entries = entries.len();
-        at.start.turn = at.turn;
-        at.start.counted = at.counted;
+        at.start = Start {
+            size: text.size(),
+            turn: at.turn,
+            counted: at.counted,
+        };
     }
 }
 
@@ -535,62 +426,51 @@ fn note_inner_line_end(at: &mut PartState)
 #[inline(always)]
 fn add_line_end(
     source: &Source,
-    entries: &mut Vec<Entry>,
+    text: &mut PartText,
     at: &mut PartState,
     line: u32,
 ) -> Result<(), NoMemory>
-    requires line { at.old.counted.line < 2 ^ 63 }
-    requires runs { All (IsEntryInRange (texts_of source.now.lines)) entries.old.items }
-    ensures entries { OnOk result (entries.new.items
-        ≡ entries.old.items ++ entry.Item (passes.line_item source.now.lines
-        (entries_continue (texts_of source.now.lines) entries.old.items)
-        (passes.is_whole at.old.turn) (origin_of at.old.counted) line) ∷ []) }
-    ensures at { OnOk result (at.new ≡ record at.old {
-      last = passes.last_after_line_end
-          (entries_continue (texts_of source.now.lines) entries.old.items);
-      has_white = false;
-      turn = passes.turn_after_line_end source.now.lines
-          (entries_continue (texts_of source.now.lines) entries.old.items) line at.old.turn;
-      start = start_of_gap entries.old.items at.old;
-      counted = at.new.counted;
-    }) }
+    requires { at.old.counted.line < 2 ^ 63 }
+    ensures text { OnOk result (let texts = texts_of source.now.lines in
+        text.new ≡ with_items texts text.old (passes.line_item source.now.lines
+        (passes.continues texts at.old) (passes.is_whole at.old.turn)
+        (origin_of at.old.counted) line ∷ [])) }
+    ensures at { OnOk result (let continued = passes.continues (texts_of source.now.lines) at.old in
+        at.new ≡ record at.old {
+          last = passes.last_after_line_end continued;
+          has_white = false;
+          turn = passes.turn_after_line_end source.now.lines continued line at.old.turn;
+          start = start_of_gap text.old at.old;
+          counted = at.new.counted;
+        }) }
     ensures counted { OnOk result (origin_of at.new.counted
         ≡ counted_after_line_end source.now.lines
-        (entries_continue (texts_of source.now.lines) entries.old.items)
-        (origin_of at.old.counted) line) }
+        (passes.continues (texts_of source.now.lines) at.old) (origin_of at.old.counted) line) }
     ensures limit { OnOk result (at.new.counted.line ≤ max (2 ^ 32) (at.old.counted.line + 1)) }
-    ensures mark { OnOk result (at.new.counted.has_mark
-        ≡ (is_line_mark (passes.line_item source.now.lines
-        (entries_continue (texts_of source.now.lines) entries.old.items)
-        (passes.is_whole at.old.turn) (origin_of at.old.counted) line)
-        || at.old.counted.has_mark)) }
 {
-    note_gap(entries, at);
-    let is_continued = continue_line(source, entries);
+    note_gap(text, at);
+    let is_continued = continue_line(source, at);
     let is_turn = is_whole(at.turn);
-    let (item, counted) = line_end_item(source, at.counted, line, is_continued, is_turn);
-    entries.push(Entry::Item(item))?;
+    at.counted = push_line_end(source, text, at.counted, line, is_continued, is_turn)?;
     at.last = last_after_line_end(is_continued);
     at.has_white = false;
     at.turn = turn_after_line_end(source, is_continued, line, at.turn);
-    at.counted = counted;
     Ok(())
 }
 
 /// Applies a join: removes the line ends of its gap, and sets the counted origin and what is on the
 /// line of C back to those at the start of the gap.
 #[inline(always)]
-fn apply_join(entries: &mut Vec<Entry>, at: &mut PartState)
-    ensures entries { entries.new.items
-        ≡ take (start_of_gap entries.old.items at.old).entries entries.old.items }
+fn apply_join(text: &mut PartText, at: &mut PartState)
+    ensures text { text.new ≡ before_gap text.old at.old }
     ensures at { at.new ≡ record at.old {
       last = last.Joined;
-      turn = (start_of_gap entries.old.items at.old).turn;
-      counted = (start_of_gap entries.old.items at.old).counted;
+      turn = passes.turn_at_gap at.old;
+      counted = passes.counted_at_gap at.old;
     } }
 {
     if is_after_line_end(at.last) {
-        entries.truncate(at.start.entries);
+        text.cut(at.start.size);
         at.turn = at.start.turn;
         at.counted = at.start.counted;
     }
@@ -619,11 +499,11 @@ fn note_item(source: &Source, notes: &mut TokenNotes, token: Token)
     }
 }
 
-/// Adds the entries of a token of a C part, and notes what is rare of it.
+/// Adds the text of a token of a C part, and notes what is rare of it.
 #[inline(always)]
 fn add_token(
     source: &Source,
-    entries: &mut Vec<Entry>,
+    text: &mut PartText,
     at: &mut PartState,
     notes: &mut TokenNotes,
     token: &Token,
@@ -631,16 +511,11 @@ fn add_token(
     requires no_head { is_head token.now ≡ false }
     requires line { highest at.old < 2 ^ 63 }
     requires run { IsRunIn (texts_of source.now.lines) token.now }
-    requires runs { All (IsEntryInRange (texts_of source.now.lines)) entries.old.items }
-    ensures passed { OnOk result ((whole : List ItemRead) (rest : List TokenRead) →
-        IsPassed source.now.lines whole entries.old.items at.old
+    ensures made { OnOk result ((whole : List ItemRead) (rest : List TokenRead) →
+        IsMade source.now.lines whole text.old at.old
         (unfolded_token (texts_of source.now.lines) token.now ++ rest)
-        → IsPassed source.now.lines whole entries.new.items at.new rest) }
+        → IsMade source.now.lines whole text.new at.new rest) }
     ensures limit { OnOk result (highest at.new ≤ max (2 ^ 32) (highest at.old + 1)) }
-    ensures mark { OnOk result
-        (IsMarked entries.old.items at.old → IsMarked entries.new.items at.new) }
-    ensures runs { OnOk result
-        (All (IsEntryInRange (texts_of source.now.lines)) entries.new.items) }
     ensures all_macros { OnOk result (notes.new.has_all_macros
         ≡ (notes.old.has_all_macros || web.is_all_macros token.now)) }
     ensures fault { OnOk result (notes.new.may_have_fault ≡ (notes.old.may_have_fault
@@ -659,15 +534,15 @@ fn add_token(
             if let Last::Joined = at.last {
                 return Ok(());
             }
-            add_line_end(source, entries, at, line)?;
+            add_line_end(source, text, at, line)?;
             Ok(())
         }
         Token::Run(span) => {
-            add_run(source, entries, at, span)?;
+            add_run(source, text, at, span)?;
             Ok(())
         }
         Token::Join => {
-            apply_join(entries, at);
+            apply_join(text, at);
             Ok(())
         }
         Token::Fault(..) => {
@@ -675,81 +550,79 @@ fn add_token(
             Ok(())
         }
         _ => {
-            add_item(source, entries, at, *token)?;
+            add_item(source, text, at, *token)?;
             note_item(source, notes, *token);
             Ok(())
         }
     }
 }
 
-/// Adds a blank at the end of a piece where the slash of its closing mark has to be kept apart.
-fn add_last_blank(source: &Source, entries: &mut Vec<Entry>, at: &PartState) -> Result<(), NoMemory>
-    ensures { OnOk result (entries.new.items ≡ entries.old.items ++ map entry.Item
-        (blank_if (passes.are_open (texts_of source.now.lines) entries.old.items at.now.last))) }
+/// Whether the slash of the mark that closes a piece has to be kept apart from the items before it.
+fn is_open(source: &Source, at: &PartState) -> bool
+    ensures { result ≡ passes.ends_open (texts_of source.now.lines) at.now }
 {
-    if matches!(at.last, Last::Continued) || end_in(source, entries, b'/') {
-        entries.push(Entry::Item(Item::Blank))?;
+    match (at.last, at.item) {
+        (Last::Continued, _) => true,
+        (Last::Front, _) => false,
+        (_, Token::Run(span)) => last_byte(source, span) == b'/',
+        (_, token) => ends_in(source, token, b'/'),
     }
-    Ok(())
 }
 
-/// What was noted while the entries of a C part were made.
-#[derive(Clone, Copy)]
-pub(crate) struct PartNotes {
-    /// Whether some of its entries are line marks.
-    pub(crate) has_mark: bool,
-    /// Whether some of its tokens are `@h`.
-    pub(crate) has_all_macros: bool,
+/// The state at the front of a C part whose head ends on this source line.
+fn first_state(source: &Source, text: &PartText, line: u32) -> PartState
+    requires { text.now ≡ no_text }
+    ensures made { (tokens : List TokenRead) → IsMade source.now.lines
+        (rules.part_items source.now.lines line tokens) text.now result tokens }
+    ensures limit { highest result < 2 ^ 32 }
+{
+    let counted = counted_at(source.origin(line as usize));
+    PartState {
+        last: Last::Front,
+        has_white: false,
+        item: Token::White,
+        turn: Turn::NoItem,
+        counted,
+        start: Start {
+            size: text.size(),
+            turn: Turn::NoItem,
+            counted,
+        },
+    }
 }
 
-/// Replaces `entries` by those of a C part whose head ends on this line, and adds the faults among
-/// its tokens.
+/// Replaces `text` by that of a C part whose head ends on this line, and adds the faults among its
+/// tokens. Returns whether some of its tokens are `@h`.
 pub(crate) fn fill_part(
     alloc: Global,
     source: &Source,
     faults: &mut Vec<Fault>,
-    entries: &mut Vec<Entry>,
+    text: &mut PartText,
     line: u32,
     tokens: &[Token],
-) -> Result<PartNotes, NoMemory>
+) -> Result<bool, NoMemory>
     requires no_head { list_any is_head tokens.now ≡ false }
     requires runs { All (IsRunIn (texts_of source.now.lines)) tokens.now }
-    ensures items { OnOk result (items_of (texts_of source.now.lines) entries.new.items
-        ≡ rules.part_items source.now.lines line
-        (unfolded (texts_of source.now.lines) tokens.now)) }
-    ensures runs { OnOk result
-        (All (IsEntryInRange (texts_of source.now.lines)) entries.new.items) }
-    ensures mark { IfOk result (λ notes. notes.has_mark
-        ≡ list_any entry_is_mark entries.new.items) }
+    ensures text { OnOk result (IsTextOf (texts_of source.now.lines)
+        (rules.part_items source.now.lines line
+        (unfolded (texts_of source.now.lines) tokens.now)) text.new) }
     ensures all_macros { IfOk result
-        (λ notes. notes.has_all_macros ≡ list_any web.is_all_macros tokens.now) }
+        (λ has_all_macros. has_all_macros ≡ list_any web.is_all_macros tokens.now) }
     ensures faults { OnOk result (faults.new.items ≡ faults.old.items
         ++ web.token_faults source.now.files source.now.lines None tokens.now) }
 {
-    entries.clear();
-    let counted = counted_on(source, line);
-    let mut at = PartState {
-        last: Last::Front,
-        has_white: false,
-        turn: Turn::NoItem,
-        counted,
-        start: Start {
-            entries: 0,
-            turn: Turn::NoItem,
-            counted,
-        },
-    };
+    text.clear();
+    let mut at = first_state(source, text, line);
     let mut notes = TokenNotes {
         has_all_macros: false,
         may_have_fault: false,
     };
     for token in tokens {
-        add_token(source, entries, &mut at, &mut notes, token)?;
+        add_token(source, text, &mut at, &mut notes, token)?;
     }
     add_faults_if(alloc, source, faults, tokens, notes.may_have_fault)?;
-    add_last_blank(source, entries, &at)?;
-    Ok(PartNotes {
-        has_mark: at.counted.has_mark,
-        has_all_macros: notes.has_all_macros,
-    })
+    if is_open(source, &at) {
+        text.add_byte(ItemKind::Blank, b' ')?;
+    }
+    Ok(notes.has_all_macros)
 }

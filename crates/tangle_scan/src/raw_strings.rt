@@ -9,8 +9,8 @@ ghost use Rattle.tangle_scan.specs.Rules.{texts_of};
 ghost use Rattle.tangle_scan.specs.Web as web;
 
 use crate::faults::add_fault;
+use crate::runs::parts_of_run;
 use crate::touching::{bytes_from, first_byte, source_byte, span_bytes};
-use crate::views::parts_of_run;
 use std::alloc::Global;
 use tangle_lexer::{SpanKind, Token};
 use tangle_lines::{Fault, FaultKind, NoMemory, Source};

@@ -1,5 +1,5 @@
 //! Which items may touch.
-ghost use Rattle.std.specs.Prelude.{◌≡◌, drop, get_or, []};
+ghost use Rattle.std.specs.Prelude.{◌≡◌, ◌<◌, ◌^◌, drop, get_or, length, []};
 ghost use Rattle.tangle_lexer.specs.SpanBytes as span_bytes;
 ghost use Rattle.tangle_scan.specs.Rules as rules;
 ghost use Rattle.tangle_scan.specs.Rules.{texts_of};
@@ -68,8 +68,10 @@ pub(crate) fn bytes_from<'s>(source: &'s Source, line: u32, column: usize) -> &'
 }
 
 /// The bytes of a span of the source, as far as the source has them.
+#[inline(always)]
 pub(crate) fn span_bytes<'s>(source: &'s Source, span: Span) -> &'s [u8]
-    ensures { result.now ≡ rules.span_text (texts_of source.now.lines) span }
+    ensures text { result.now ≡ rules.span_text (texts_of source.now.lines) span }
+    ensures short { length result.now < 2 ^ 16 }
 {
     let line = source.line(span.line as usize);
     let start = span.start as usize;
@@ -80,7 +82,7 @@ pub(crate) fn span_bytes<'s>(source: &'s Source, span: Span) -> &'s [u8]
 /// Whether a number beside this token would be read as one with it: an ASCII constant, a word, a
 /// verbatim text, a full stop or a backslash.
 #[inline(always)]
-pub(crate) fn may_merge(source: &Source, token: Token) -> bool
+fn may_merge(source: &Source, token: Token) -> bool
     ensures { result ≡ rules.may_merge (texts_of source.now.lines) token }
 {
     match token {
@@ -93,11 +95,24 @@ pub(crate) fn may_merge(source: &Source, token: Token) -> bool
 
 /// Whether a token is a quoted text that an apostrophe begins.
 #[inline(always)]
-pub(crate) fn is_character(source: &Source, token: Token) -> bool
+fn is_character(source: &Source, token: Token) -> bool
     ensures { result ≡ rules.is_character (texts_of source.now.lines) token }
 {
     match token {
         Token::Span(SpanKind::Quoted, span) => first_byte(source, span) == b'\'',
+        _ => false,
+    }
+}
+
+/// Whether two tokens, of which one is an ASCII constant, would be read as one number with nothing
+/// between them.
+#[inline(always)]
+pub(crate) fn would_merge(source: &Source, before: Token, token: Token) -> bool
+    ensures { result ≡ rules.would_merge (texts_of source.now.lines) before token }
+{
+    match (before, token) {
+        (Token::AsciiConstant(..), _) => { may_merge(source, token) || is_character(source, token) }
+        (_, Token::AsciiConstant(..)) => may_merge(source, before),
         _ => false,
     }
 }

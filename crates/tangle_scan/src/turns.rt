@@ -7,12 +7,12 @@ ghost use Rattle.tangle_scan.specs.Passes as passes;
 ghost use Rattle.tangle_scan.specs.Rules.{texts_of};
 
 use crate::items::Item;
-use crate::parts::item_of;
+use crate::macro_items::item_of;
+use crate::runs::parts_of_run;
 use crate::touching::{first_byte, span_bytes};
-use crate::views::{item_of_part, parts_of_run};
 use tangle_lexer::Token;
 use tangle_lines::Source;
-use tangle_text::Span;
+use tangle_text::{RunPart, Span};
 
 /// How much of a turn is on a line of C.
 #[derive(Clone, Copy)]
@@ -104,14 +104,16 @@ pub(crate) fn turn_after_run(source: &Source, at: Turn, span: Span) -> Turn
 }
 
 /// Whether the first part of a run is a word that turns or ends a group.
+// Few runs are after the sign `#`, so that this is not inlined.
+#[inline(never)]
 fn begins_turn(source: &Source, span: Span) -> bool
     requires { IsRunOf (texts_of source.now.lines) span }
     ensures { result ≡ passes.parts_begin_turn (texts_of source.now.lines)
         (run_parts (texts_of source.now.lines) span) }
 {
     match parts_of_run(source, span).next() {
-        Some(part) => is_turn_item(source, item_of_part(part)),
-        None => false,
+        Some(RunPart::Word(word)) => is_turn_word(span_bytes(source, word)),
+        _ => false,
     }
 }
 

@@ -3,62 +3,32 @@ ghost use Rattle.std.specs.Prelude.{◌≡◌, ◌≤◌, ◌<◌, ◌+◌, ◌^
 ghost use Rattle.std.specs.Prelude.{map, if◌then◌else◌, true, false, None, IfOk, OnOk};
 ghost use Rattle.std.specs.List.{All, list_any};
 ghost use Rattle.tangle_faults.specs.declared.faults.FaultKind.TheVariants as fault;
-ghost use Rattle.tangle_scan.specs.Passes as passes;
 ghost use Rattle.tangle_scan.specs.Rules as rules;
 ghost use Rattle.tangle_lines.specs.Reading.{origin_at};
 ghost use Rattle.tangle_scan.specs.Web as web;
 ghost use Rattle.tangle_lexer.specs.Heads.{is_head};
 ghost use Rattle.tangle_lexer.specs.Runs.{unfolded, HasNoRun, IsRunIn};
 ghost use Rattle.tangle_lexer.specs.declared.tokens.Token.TheVariants as token;
-ghost use Rattle.tangle_scan.specs.declared.items.Entry.TheVariants as entry;
-ghost use Rattle.tangle_scan.specs.Entries.{IsEntryInRange, RunsAreInRange};
-ghost use Rattle.tangle_scan.specs.Entries.{entry_is_mark, items_of};
+ghost use Rattle.tangle_scan.specs.MacroBytes.{macro_bytes};
 ghost use Rattle.tangle_scan.specs.Rules.{texts_of};
-ghost use Rattle.tangle_scan.specs.WebBuilder.{nothing_stored, builder_read, builder_with};
+ghost use Rattle.tangle_scan.specs.WebBuilder.{IsGathered, WebBuilderRead, builder_with};
+ghost use Rattle.tangle_scan.specs.WebBuilder.{nothing_stored};
 
 use crate::faults::{add_fault, add_faults, add_macro_faults};
-use crate::items::{Entry, Item, OccurrenceNumber};
-use crate::macro_items::macro_items;
-use crate::parts::{PartNotes, fill_part};
-use crate::pieces::{Macro, Piece};
+use crate::items::{Item, OccurrenceNumber};
+use crate::macro_bytes::push_macro;
+use crate::macro_items::items_of_macro;
+use crate::parts::fill_part;
+use crate::pieces::Piece;
+use crate::texts::{PartText, PieceTexts};
 use crate::touching::first_byte;
 use std::alloc::Global;
 use std::marker::Model;
 use tangle_lexer::Token;
 use tangle_lines::{Fault, FaultKind, NoMemory, Source};
 
-/// The entries of a C part whose head ends on this line, and what was noted of it. Adds the faults
-/// among its tokens.
-// The vector has capacity for one entry for each token. A part has at most a few entries more, and
-// capacity that is left is freed.
-fn part_entries(
-    alloc: Global,
-    source: &Source,
-    faults: &mut Vec<Fault>,
-    line: u32,
-    tokens: &[Token],
-) -> Result<(Vec<Entry>, PartNotes), NoMemory>
-    requires no_head { list_any is_head tokens.now ≡ false }
-    requires runs { All (IsRunIn (texts_of source.now.lines)) tokens.now }
-    ensures items { IfOk result (λ r. items_of (texts_of source.now.lines) r.0.items
-        ≡ rules.part_items source.now.lines line
-        (unfolded (texts_of source.now.lines) tokens.now)) }
-    ensures runs { IfOk result
-        (λ r. All (IsEntryInRange (texts_of source.now.lines)) r.0.items) }
-    ensures mark { IfOk result (λ r. r.1.has_mark ≡ list_any entry_is_mark r.0.items) }
-    ensures all_macros { IfOk result
-        (λ r. r.1.has_all_macros ≡ list_any web.is_all_macros tokens.now) }
-    ensures faults { OnOk result (faults.new.items ≡ faults.old.items
-        ++ web.token_faults source.now.files source.now.lines None tokens.now) }
-{
-    let mut entries = Vec::with_capacity(alloc, tokens.len())?;
-    let notes = fill_part(alloc, source, faults, &mut entries, line, tokens)?;
-    entries.shrink_to_fit();
-    Ok((entries, notes))
-}
-
 /// Whether items begin with an identifier, as those of a macro have to.
-fn is_macro(source: &Source, items: &[Item]) -> bool
+pub fn is_macro(source: &Source, items: &[Item]) -> bool
     ensures { result ≡ rules.is_macro (texts_of source.now.lines) items.now }
 {
     match items.first() {
@@ -72,7 +42,11 @@ fn is_macro(source: &Source, items: &[Item]) -> bool
 pub(crate) struct WebBuilder {
     pub(crate) sections: usize,
     pub(crate) pieces: Vec<Piece>,
-    pub(crate) macros: Vec<Macro>,
+    pub(crate) texts: PieceTexts,
+    /// The text of a C part while it is made. It is kept for the next part.
+    part: PartText,
+    /// The bytes of all macros.
+    pub(crate) macros: Vec<u8>,
     pub(crate) has_all_macros: bool,
     pub(crate) faults: Vec<Fault>,
 }
@@ -85,6 +59,7 @@ impl Model for WebBuilder {
     ghost view = { λ g. record {
       sections = g.sections;
       pieces = g.pieces.items;
+      texts = g.texts;
       macros = g.macros.items;
       has_all_macros = g.has_all_macros;
       faults = g.faults.items;
@@ -99,6 +74,8 @@ impl WebBuilder {
         WebBuilder {
             sections: 0,
             pieces: Vec::new(alloc),
+            texts: PieceTexts::new(alloc),
+            part: PartText::new(alloc),
             macros: Vec::new(alloc),
             has_all_macros: false,
             faults: Vec::new(alloc),
@@ -115,9 +92,8 @@ impl WebBuilder {
         requires no_head { list_any is_head tokens.now ≡ false }
         requires runs { All (IsRunIn (texts_of source.now.lines)) tokens.now }
         ensures builder { OnOk result (let texts = texts_of source.now.lines in
-            builder_read texts self.new
-            ≡ builder_with source.now (builder_read texts self.old) (unfolded texts tokens.now)) }
-        ensures pieces { OnOk result (self.new.pieces ≡ self.old.pieces) }
+            (read : WebBuilderRead) → IsGathered texts self.old read
+            → IsGathered texts self.new (builder_with source.now read (unfolded texts tokens.now))) }
         ensures sections { OnOk result (self.new.sections ≡ self.old.sections) }
     {
         add_faults(alloc, source, &mut self.faults, tokens)?;
@@ -155,28 +131,38 @@ impl WebBuilder {
     ) -> Result<(), NoMemory>
         requires no_head { list_any is_head tokens.now ≡ false }
         requires runs { All (IsRunIn (texts_of source.now.lines)) tokens.now }
-        requires kept { RunsAreInRange (texts_of source.now.lines) self.old.pieces }
         ensures piece { OnOk result (let texts = texts_of source.now.lines in
-            builder_read texts self.new ≡ record (builder_read texts self.old) {
-              pieces = (builder_read texts self.old).pieces ++ record {
-                section = self.old.sections;
+            (read : WebBuilderRead) → IsGathered texts self.old read
+            → IsGathered texts self.new (record read {
+              pieces = read.pieces ++ record {
+                section = read.sections;
                 origin = origin_at source.now.lines line;
                 occurrence = occurrence;
                 items = rules.part_items source.now.lines line (unfolded texts tokens.now);
               } ∷ [];
               has_all_macros =
-                  self.old.has_all_macros || list_any web.is_all_macros (unfolded texts tokens.now);
-              faults = self.old.faults
+                  read.has_all_macros || list_any web.is_all_macros (unfolded texts tokens.now);
+              faults = read.faults
                   ++ web.token_faults source.now.files source.now.lines None
                   (unfolded texts tokens.now);
-            }) }
-        ensures kept { OnOk result (RunsAreInRange (texts_of source.now.lines) self.new.pieces) }
+            })) }
+        ensures sections { OnOk result (self.new.sections ≡ self.old.sections) }
     {
-        let (entries, notes) = part_entries(alloc, source, &mut self.faults, line, tokens)?;
-        let origin = source.origin(line as usize);
-        let piece = Piece::new(self.sections, origin, occurrence, entries, notes.has_mark);
-        self.pieces.push(piece)?;
-        self.has_all_macros = self.has_all_macros | notes.has_all_macros;
+        let has_all_macros = fill_part(
+            alloc,
+            source,
+            &mut self.faults,
+            &mut self.part,
+            line,
+            tokens,
+        )?;
+        self.texts.push(&self.part)?;
+        self.pieces.push(Piece {
+            section: self.sections,
+            origin: source.origin(line as usize),
+            occurrence,
+        })?;
+        self.has_all_macros = self.has_all_macros | has_all_macros;
         Ok(())
     }
 
@@ -194,15 +180,16 @@ impl WebBuilder {
             (let items = rules.macro_items (texts_of source.now.lines) tokens.now in
             let is_macro = rules.is_macro (texts_of source.now.lines) items in
             self.new ≡ record self.old {
-              macros = self.old.macros ++ (if is_macro then items ∷ [] else []);
+              macros = self.old.macros
+                  ++ (if is_macro then macro_bytes (texts_of source.now.lines) items else []);
               faults = (self.old.faults ++ (if is_macro then []
                   else web.fault_on source.now.files source.now.lines fault.MacroName line ∷ []))
                   ++ web.macro_token_faults source.now.files source.now.lines tokens.now;
             }) }
     {
-        let items = macro_items(alloc, source, tokens)?;
+        let items = items_of_macro(alloc, source, tokens)?;
         if is_macro(source, &items) {
-            self.macros.push(Macro::new(items))?;
+            push_macro(&mut self.macros, source, &items)?;
         } else {
             add_fault(alloc, source, &mut self.faults, FaultKind::MacroName, line)?;
         }
@@ -222,12 +209,10 @@ impl WebBuilder {
         requires no_head { list_any is_head tokens.now ≡ false }
         requires runs { All (IsRunIn (texts_of source.now.lines)) tokens.now }
         requires no_run { (line : ℕ) → head ≡ token.MacroStart line → HasNoRun tokens.now }
-        requires kept { RunsAreInRange (texts_of source.now.lines) self.old.pieces }
         ensures builder { OnOk result (let texts = texts_of source.now.lines in
-            builder_read texts self.new
-            ≡ builder_with source.now (builder_read texts self.old)
-            (head ∷ unfolded texts tokens.now)) }
-        ensures kept { OnOk result (RunsAreInRange (texts_of source.now.lines) self.new.pieces) }
+            (read : WebBuilderRead) → IsGathered texts self.old read
+            → IsGathered texts self.new
+            (builder_with source.now read (head ∷ unfolded texts tokens.now))) }
         ensures sections { OnOk result (self.new.sections ≤ self.old.sections + 1) }
     {
         match head {

@@ -1,20 +1,20 @@
 //! The scanned web.
-ghost use Rattle.std.specs.Prelude.{◌≡◌, ◌≤◌, [], get_or, length, map};
+ghost use Rattle.std.specs.Prelude.{◌≡◌, ◌≤◌, ◌<◌, [], flat_map, get_or, length, map, slice_index_or};
 ghost use Rattle.std.specs.List.{All};
-ghost use Rattle.tangle_scan.specs.Entries.{IsEntryInRange, RunsAreInRange, items_of, piece_read};
 ghost use Rattle.tangle_files.specs.Adding.{most_files};
-ghost use Rattle.tangle_scan.specs.Rules.{span_text, texts_of};
-ghost use Rattle.tangle_scan.specs.ItemSpans.{IsSpan};
+ghost use Rattle.tangle_scan.specs.MacroBytes.{macro_bytes};
+ghost use Rattle.tangle_scan.specs.Rules.{texts_of};
+ghost use Rattle.tangle_scan.specs.Texts.{IsTextOf, text_of};
+ghost use Rattle.tangle_scan.specs.Web.{no_piece, stored_piece, web_of};
+ghost use Rattle.tangle_scan.specs.WebBuilder.{IsGathered, gathered_of};
 ghost use Rattle.tangle_scan.specs.WellFormed.{IsWellFormed};
-ghost use Rattle.tangle_scan.specs.WebBuilder.{stored_web};
 
-use crate::pieces::{Macro, Piece};
-use crate::views::Items;
+use crate::pieces::Piece;
+use crate::texts::PieceText;
 use crate::web_builder::WebBuilder;
 use std::marker::Model;
 use tangle_lexer::Occurrence;
 use tangle_lines::{Fault, Origin, Source};
-use tangle_text::Span;
 
 /// A scanned web. It borrows the source, for the bytes of the lines and the names of the files.
 /// Every web is well formed: the texts of its items are ranges of source lines, and the numbers of
@@ -27,18 +27,21 @@ pub struct Web<'s, 'a> {
 }
 
 impl<'s, 'a> Model for Web<'s, 'a> {
-    ghost use Rattle.tangle_scan.specs.Entries.{RunsAreInRange};
     ghost use Rattle.tangle_scan.specs.Rules.{texts_of};
-    ghost use Rattle.tangle_scan.specs.Web.{WebRead};
-    ghost use Rattle.tangle_scan.specs.WebBuilder.{stored_web};
+    ghost use Rattle.tangle_scan.specs.Web.{WebRead, web_of};
+    ghost use Rattle.tangle_scan.specs.WebBuilder.{IsGathered, gathered_of};
     ghost use Rattle.tangle_scan.specs.WellFormed.{IsWellFormed};
+    ghost use Rattle.std.specs.Prelude.{◌≡◌};
 
     ghost Value = { WebRead };
 
-    ghost view = { λ w. stored_web w.source.now w.builder w.occurrences.items };
+    ghost view = { λ w. web_of w.source.now };
 
-    ghost invariant = { λ w. IsWellFormed (stored_web w.source.now w.builder w.occurrences.items)
-        × RunsAreInRange (texts_of w.source.now.lines) w.builder.pieces };
+    ghost invariant = { λ w. record {
+      gathered : IsGathered (texts_of w.source.now.lines) w.builder (gathered_of (web_of w.source.now));
+      occurrences : w.occurrences.items ≡ (web_of w.source.now).occurrences;
+      well_formed : IsWellFormed (web_of w.source.now);
+    } };
 }
 
 impl<'s, 'a> Web<'s, 'a> {
@@ -48,9 +51,11 @@ impl<'s, 'a> Web<'s, 'a> {
         builder: WebBuilder,
         occurrences: Vec<Occurrence>,
     ) -> Self
-        requires well_formed { IsWellFormed (stored_web source.now builder occurrences.items) }
-        requires runs { RunsAreInRange (texts_of source.now.lines) builder.pieces }
-        ensures { result ≡ stored_web source.now builder occurrences.items }
+        requires gathered { IsGathered (texts_of source.now.lines) builder
+            (gathered_of (web_of source.now)) }
+        requires occurrences { occurrences.items ≡ (web_of source.now).occurrences }
+        requires well_formed { IsWellFormed (web_of source.now) }
+        ensures { result ≡ web_of source.now }
     {
         Web {
             source,
@@ -69,26 +74,26 @@ impl<'s, 'a> Web<'s, 'a> {
     /// The pieces, in the order of the source. A use in a piece has the number of an occurrence,
     /// which is its position in `occurrences`.
     pub fn pieces(&self) -> &[Piece]
-        ensures pieces { map (piece_read self.now.texts) result.now ≡ self.now.pieces }
-        ensures runs { All (λ p. All (IsEntryInRange self.now.texts) p.entries) result.now }
+        ensures pieces { result.now ≡ map stored_piece self.now.pieces }
         ensures well_formed { IsWellFormed self.now }
     {
         self.builder.pieces.as_slice()
     }
 
-    /// The items of a piece of this web, one by one.
-    pub fn items<'w>(&'w self, piece: &'w Piece) -> Items<'w, 'a>
-        requires { All (IsEntryInRange self.now.texts) piece.now.entries }
-        ensures { result ≡ items_of self.now.texts piece.now.entries }
+    /// The text of the piece with this number.
+    pub fn piece_text(&self, number: usize) -> PieceText<'_>
+        requires { number < length self.now.pieces }
+        ensures text { IsTextOf self.now.texts (slice_index_or self.now.pieces number no_piece).items
+            (text_of result) }
+        ensures uses { All (λ n. n < length self.now.occurrences) (text_of result).uses }
     {
-        Items::new(self.source, piece.entries())
+        self.builder.texts.at(number)
     }
 
-    /// The macros, in the order of the source, without those that are dropped since they do not
-    /// begin with an identifier. No macro has a use.
-    pub fn macros(&self) -> &[Macro]
-        ensures macros { result.now ≡ self.now.macros }
-        ensures well_formed { IsWellFormed self.now }
+    /// The bytes of all macros, in the order of the source, without those macros that are dropped
+    /// since they do not begin with an identifier. Each `@h` of the web is replaced by these bytes.
+    pub fn macro_bytes(&self) -> &[u8]
+        ensures { result.now ≡ flat_map (macro_bytes self.now.texts) self.now.macros }
     {
         self.builder.macros.as_slice()
     }
@@ -102,7 +107,7 @@ impl<'s, 'a> Web<'s, 'a> {
     }
 
     /// Whether some C part has `@h`.
-    pub fn has_defs_code(&self) -> bool
+    pub fn has_all_macros(&self) -> bool
         ensures { result ≡ self.now.has_all_macros }
     {
         self.builder.has_all_macros
@@ -122,23 +127,6 @@ impl<'s, 'a> Web<'s, 'a> {
     {
         let builder = self.builder;
         (self.occurrences, builder.faults)
-    }
-
-    /// The text of an item with this span, which is that range of the source.
-    pub fn text(&self, span: Span) -> &[u8]
-        requires { IsSpan self.now.texts span }
-        ensures { result.now ≡ span_text self.now.texts span }
-    {
-        let line = self.source.line(span.line as usize);
-        &line[span.start as usize..span.end as usize]
-    }
-
-    /// The bytes of the source line of this number, counted from 0, without the line end; no bytes
-    /// if the source has no such line.
-    pub fn line(&self, number: u32) -> &[u8]
-        ensures { result.now ≡ get_or self.now.texts number [] }
-    {
-        self.source.line(number as usize)
     }
 
     /// The number of files of the source, at most 256. The file of each origin has a lower number.

@@ -1,10 +1,9 @@
 -- The web and the change file are there after an edit that is not refused.
 use Rattle.std.proofs.Common.{rules}
 use Rattle.std.proofs.lemmas.Bool.Decides.{nat_tests}
-use Rattle.std.proofs.Common.{◌+◌, ◌≡◌, ◌∙◌, inl, inr, ℕ, Bool, true, false, List, [], ◌∷◌, Option}
+use Rattle.std.proofs.Common.{◌+◌, ◌≡◌, ◌∙◌, ℕ, Bool, true, false, List, [], ◌∷◌, Option}
 use Rattle.std.proofs.Common.{None}
-use Rattle.std.proofs.Common.{Some, Result, Err, refl, ap, sym, arith}
-use Rattle.std.specs.Prelude.{◌⊎◌, IfSome, IfNone, IsOkUnless}
+use Rattle.std.proofs.Common.{Some, refl, ap, sym, arith}
 use Rattle.std.specs.Map.{remove_entry}
 use Rattle.std.specs.Option.{option_map, option_map_or}
 use Rattle.std.specs.Str.{bytes_eq}
@@ -14,15 +13,15 @@ use Rattle.std.proofs.lemmas.Map.Made.{is_some-lookup}
 use Rattle.tangle_files.specs.Edited.{edited, edited_all, with_lines_edited}
 use Rattle.tangle_files.specs.Edits.{refusal_if}
 use Rattle.tangle_files.specs.Lines.{FileTable}
-use Rattle.tangle_files.specs.Adding.{has_file, or_else}
+use Rattle.tangle_files.specs.Adding.{has_file}
 use Rattle.tangle_files.specs.Roles.{RolesRead, fits}
 use Rattle.tangle_files.specs.declared.edits.Edit.{Edit}
 use Rattle.tangle_files.specs.declared.edits.Edit.TheVariants.{Discard}
 use Rattle.tangle_files.proofs.TableLemmas.{has_file-append}
 use Rattle.tangle_files.specs.declared.marks.MarkMode.{MarkMode}
 use Rattle.tangle_files.specs.declared.refusal.Refusal.{Refusal}
-use Rattle.tangle_files.specs.declared.refusal.Refusal.TheVariants.{NoMemory, RoleFile}
-use Rattle.tangle_session.specs.Edits.{first_refused, has_role, list_memory, list_refusal, numbered, of_first}
+use Rattle.tangle_files.specs.declared.refusal.Refusal.TheVariants.{RoleFile}
+use Rattle.tangle_session.specs.Edits.{first_refused, has_role, list_refusal, of_first}
 use Rattle.tangle_session.specs.Edits.{role_refusal, session_refusal}
 use Rattle.tangle_session.specs.declared.refusing.ListRefusal.{ListRefusal}
 
@@ -128,22 +127,3 @@ from_none files roles edits = from_later 0 files roles edits ∙ later_by_none (
 pub refused_alike : (files : FileTable) (roles : RolesRead) (marks : MarkMode) (edit : Edit)
     → session_refusal files (record roles { marks = marks }) edit ≡ session_refusal files roles edit
 refused_alike files roles marks edit = search rules
-
-abbrev failed : {T : Type 0} → Refusal → Result T Refusal
-failed refusal = Err refusal
-
--- an edit of the files failed: the session refuses it, or memory ran out
-pub refused_in_session : (T : Type 0) (of_files of_role : Option Refusal) (refusal : Refusal)
-    → IfSome of_files (λ e. failed {T = T} refusal ≡ Err e)
-    → IfNone of_files (IsOkUnless (failed {T = T} refusal) NoMemory)
-    → (or_else of_files of_role ≡ Some refusal) ⊎ (refusal ≡ NoMemory)
-refused_in_session T of_files of_role refusal some none = search rules
-
--- the first remaining edit was not made: the list is refused for it, or memory ran out
-pub numbered_refusal : (at : ℕ) (of_edit : Option Refusal) (after : Option ListRefusal)
-    (refusal : Refusal)
-    → (of_edit ≡ Some refusal) ⊎ (refusal ≡ NoMemory)
-    → (refused_at at of_edit after ≡ Some (numbered at refusal)) ⊎ (numbered at refusal ≡ list_memory)
-numbered_refusal at of_edit after refusal (inl is) =
-    search rules
-numbered_refusal at of_edit after refusal (inr is) = inr (ap (numbered at) is)

@@ -14,7 +14,7 @@ use Rattle.tangle_lines.specs.Reading.{reads_in}
 use Rattle.tangle_lexer.specs.Steps.{lexeme, occurrences_from, tokens_from}
 use Rattle.tangle_scan.specs.Web.{WebRead}
 use Rattle.tangle_plans.specs.Shapes.{LineEnd, Mark, NoUse, Word, Written}
-use Rattle.tangle_session.specs.Edits.{list_refusal, numbered, session_refusal}
+use Rattle.tangle_session.specs.Edits.{list_refusal, session_refusal}
 use Rattle.tangle_session.specs.Headline.{Apply, ApplyAll, Call, IsAnswered, accepted, files_after, roles_with}
 use Rattle.tangle_session.specs.Headline.{source_at, web_at}
 use Rattle.tangle_session.specs.Moves.{IsMoved, piece_form}
@@ -50,7 +50,6 @@ module _ (a h b c text : Vec ℕ Global) (are_a : a.items ≡ codes "a.w") (are_
     -- each edit is looked at in the files that the earlier ones left
     pub made : list_refusal files roles (Create c ∷ Insert c 1 text ∷ Remove c 1 ∷ Discard c ∷ []) ≡ None
     pub gone : list_refusal files roles (Create c ∷ Discard c ∷ Remove c 1 ∷ []) ≡ refused 2 UnknownFile
-    pub no_memory : Some (numbered 3 NoMemory) ≡ refused 0 NoMemory
 
   refusals : Refusals
   refusals = search (rules, are_a, are_h, are_b, are_c, are_text)

@@ -8,8 +8,7 @@ use Rattle.tangle_files.specs.Edits.{edit_refusal, refusal_if}
 use Rattle.tangle_files.specs.Lines.{FileTable}
 use Rattle.tangle_files.specs.Roles.{RolesRead}
 use Rattle.tangle_files.specs.declared.edits.Edit.{Edit}
-use Rattle.tangle_files.specs.declared.edits.Edit.TheVariants.{Insert, Remove, Replace, Create}
-use Rattle.tangle_files.specs.declared.edits.Edit.TheVariants.{Discard, Marks}
+use Rattle.tangle_files.specs.declared.edits.Edit.TheVariants.{Discard}
 use Rattle.tangle_files.specs.declared.refusal.Refusal.{Refusal}
 use Rattle.tangle_files.specs.declared.refusal.Refusal.TheVariants.{NoMemory, RoleFile}
 use Rattle.tangle_session.specs.declared.refusing.ListRefusal.{ListRefusal}
@@ -21,11 +20,7 @@ has_role roles name = bytes_eq name roles.web || option_map_or (bytes_eq name) r
 -- a file with a role is not discarded
 abbrev pub role_refusal : RolesRead → Edit → Option Refusal
 role_refusal roles (Discard file) = refusal_if (has_role roles file.items) RoleFile
-role_refusal roles (Insert file at text) = None
-role_refusal roles (Remove file at) = None
-role_refusal roles (Replace file at text) = None
-role_refusal roles (Create file) = None
-role_refusal roles (Marks mode) = None
+role_refusal roles edit = None
 
 -- The first refusal that applies to an edit. The files refuse to discard what is no file name or
 -- isn't there; this refusal comes before that of the role.
@@ -55,8 +50,3 @@ list_refusal files roles (edit ∷ edits) =
 -- running out of memory belongs to no single edit, so its number is 0
 abbrev pub list_memory : ListRefusal
 list_memory = of_first NoMemory
-
--- the refusal of the edit with this number; out of memory has the number 0
-abbrev pub numbered : ℕ → Refusal → ListRefusal
-numbered at NoMemory = list_memory
-numbered at refusal = record { at = at; refusal = refusal }

@@ -1,6 +1,6 @@
 //! Why an edit is refused in a session.
 ghost use Rattle.std.specs.Prelude.{◌≡◌};
-ghost use Rattle.tangle_session.specs.Edits.{has_role, numbered, role_refusal, session_refusal};
+ghost use Rattle.tangle_session.specs.Edits.{has_role, session_refusal};
 
 use tangle_lines::{Edit, Files, NoMemory, Refusal, Roles};
 
@@ -12,18 +12,6 @@ pub struct ListRefusal {
     pub at: usize,
     /// Why this edit is refused.
     pub refusal: Refusal,
-}
-
-impl ListRefusal {
-    /// The refusal of a list whose edit with this number is refused.
-    pub(crate) fn of_edit(at: usize, refusal: Refusal) -> Self
-        ensures { result ≡ numbered at refusal }
-    {
-        match refusal {
-            Refusal::NoMemory => ListRefusal::from(NoMemory),
-            _ => ListRefusal { at, refusal },
-        }
-    }
 }
 
 impl From<NoMemory> for ListRefusal {
@@ -53,21 +41,6 @@ fn has_role(roles: &Roles, name: &[u8]) -> bool
     }
 }
 
-/// Refuses to discard a file that has a role.
-pub(crate) fn refusal_of_role(roles: &Roles, edit: &Edit) -> Option<Refusal>
-    ensures { result ≡ role_refusal roles.now edit.now }
-{
-    match edit {
-        Edit::Discard { file } => {
-            if has_role(roles, file) {
-                return Some(Refusal::RoleFile);
-            }
-            None
-        }
-        _ => None,
-    }
-}
-
 /// Why a session refuses an edit, other than out of memory. The role of a file counts only if the
 /// file is there.
 pub(crate) fn refusal_to_apply(files: &Files, roles: &Roles, edit: &Edit) -> Option<Refusal>
@@ -76,5 +49,8 @@ pub(crate) fn refusal_to_apply(files: &Files, roles: &Roles, edit: &Edit) -> Opt
     if let Some(refusal) = files.refusal_to_edit(edit) {
         return Some(refusal);
     }
-    refusal_of_role(roles, edit)
+    match edit {
+        Edit::Discard { file } if has_role(roles, file) => Some(Refusal::RoleFile),
+        _ => None,
+    }
 }

@@ -3,19 +3,18 @@ ghost use Rattle.std.specs.Prelude.{◌≡◌, ◌⊎◌, None, Some, find, map,
 ghost use Rattle.std.specs.List.{IsDistinct};
 ghost use Rattle.std.specs.Option.{option_copied};
 ghost use Rattle.std.specs.Str.{bytes_eq};
-ghost use Rattle.tangle_files.specs.Edited.{edited, edited_all, roles_after};
-ghost use Rattle.tangle_files.specs.declared.refusal.Refusal.TheVariants.{NoMemory as no_memory};
-ghost use Rattle.tangle_session.specs.Edits.{list_memory, list_refusal, session_refusal};
+ghost use Rattle.tangle_files.specs.Edited.{edited_all, roles_after};
+ghost use Rattle.tangle_session.specs.Edits.{list_memory, list_refusal};
 ghost use Rattle.tangle_session.specs.Headline.{web_at};
 ghost use Rattle.tangle_session.specs.Sessions.{ListsAffectedOfWebs};
 ghost use Rattle.tangle_session.specs.States.{AgreesWithFiles};
 
 use crate::analysis::Analysis;
-use crate::refusing::{ListRefusal, refusal_of_role};
+use crate::refusing::{ListRefusal, refusal_to_apply};
 use std::alloc::Global;
 use tangle_affected::expand_again;
 use tangle_expansion::{Kept, Output, Work};
-use tangle_lines::{Edit, Files, MarkMode, Refusal, Roles};
+use tangle_lines::{Edit, Files, MarkMode, NoMemory, Roles};
 
 /// Files with what tangling makes of them: the analysis, the expansions, and the list of the nodes
 /// that were expanded.
@@ -66,21 +65,6 @@ pub(crate) fn marks_after(roles: &Roles, edits: &[Edit]) -> MarkMode
     marks
 }
 
-/// Makes an edit in a copy of the files. If the edit is refused for the role of its file, the copy
-/// is already edited and must be dropped.
-fn edit_copy(copy: &mut Files, roles: &Roles, edit: &Edit) -> Result<(), Refusal>
-    ensures made { OnOk result (copy.new ≡ edited copy.old edit.now) }
-    ensures unrefused { OnOk result (session_refusal copy.old roles.now edit.now ≡ None) }
-    ensures refused { IfErr result (λ refusal.
-        (session_refusal copy.old roles.now edit.now ≡ Some refusal) ⊎ (refusal ≡ no_memory)) }
-{
-    copy.edit(edit)?;
-    match refusal_of_role(roles, edit) {
-        Some(refusal) => Err(refusal),
-        None => Ok(()),
-    }
-}
-
 /// Copies the files and makes the edits in the copy, each in what the earlier ones left.
 fn edited_copy(files: &Files, roles: &Roles, edits: &[Edit]) -> Result<Files, ListRefusal>
     ensures made { IfOk result (λ copy. copy ≡ edited_all files.now edits.now) }
@@ -90,8 +74,11 @@ fn edited_copy(files: &Files, roles: &Roles, edits: &[Edit]) -> Result<Files, Li
 {
     let mut copy = files.copy()?;
     for (at, edit) in edits.iter().enumerate() {
-        if let Err(refusal) = edit_copy(&mut copy, roles, edit) {
-            return Err(ListRefusal::of_edit(at, refusal));
+        if let Some(refusal) = refusal_to_apply(&copy, roles, edit) {
+            return Err(ListRefusal { at, refusal });
+        }
+        if copy.edit(edit).is_err() {
+            return Err(ListRefusal::from(NoMemory));
         }
     }
     Ok(copy)

@@ -98,5 +98,4 @@ module _ (texts : List (List ℕ)) where
   pub kept-name : (ts : List Token) → is_macro texts (macro_items texts ts) ≡ true
       → name_is_range (front_tokens texts ts) ≡ false
   kept-name ts kept =
-      let front = front_tokens texts ts in
-      search (rules, no-macro, backslashes-left, name-left)
+      search (rules, front_tokens, no-macro, backslashes-left, name-left)

@@ -41,8 +41,7 @@ digit-begins b (c ∷ a) h = grind (arith, nat_tests)
 pub separated-number : (b : ℕ) (a : List ℕ) → is_digit b ≡ true → list_all is_separated_byte (b ∷ a) ≡ true →
     apostrophes_separate (b ∷ a) ≡ true → is_number (b ∷ a) ≡ true
 separated-number b a digit all separate =
-    number-from (b ∷ a) (digit-begins b a digit) (separated-bytes (b ∷ a) all) (separated-signs (b ∷ a) all) separate
-    (separated-names (b ∷ a) all)
+    search (rules, number-from, digit-begins, separated-bytes, separated-signs, separated-names)
 
 -- a word has no apostrophes
 
@@ -58,14 +57,11 @@ pub separates-more : (c : ℕ) (a : List ℕ) → is_word_byte c ≡ true → li
     apostrophes_separate (c ∷ a) ≡ true → apostrophes_separate (apostrophe ∷ c ∷ a) ≡ true
 separates-more c [] word all h = search (rules, and_from, or_right)
 separates-more c (d ∷ a) word all h =
-    let unsigned = separated-unsigned d (and_parts (is_separated_byte d) (list_all is_separated_byte a) all).0 in
-    and_from (not (apostrophe == apostrophe) || is_word_byte c && not (is_sign d)) (apostrophes_separate (c ∷ d ∷ a))
-    (and_from (is_word_byte c) (not (is_sign d)) word unsigned) h
+    search (rules, separated-unsigned, and_parts, and_from)
 
 -- a byte of a word before what goes on as a number of a word does
 pub separates-word : (b : ℕ) (a : List ℕ) → is_word_byte b ≡ true → apostrophes_separate a ≡ true →
     apostrophes_separate (b ∷ a) ≡ true
 separates-word b [] word h = ap not (word-unquoted b word)
 separates-word b (c ∷ a) word h =
-    and_from (not (b == apostrophe) || is_word_byte c && not (begins_with_sign a)) (apostrophes_separate (c ∷ a))
-    (or_left (not (b == apostrophe)) (is_word_byte c && not (begins_with_sign a)) (ap not (word-unquoted b word))) h
+    search (rules, and_from, or_left, word-unquoted)

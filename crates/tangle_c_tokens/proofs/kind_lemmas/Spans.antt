@@ -1,4 +1,5 @@
 -- The spans of words and signs have bytes of their kinds.
+use Rattle.std.proofs.Common.{rules}
 use Rattle.std.proofs.Common.{◌≡◌, ℕ, suc, ◌+◌, Bool, true, false, List, ◌∷◌, Option, Some, None, get_or, take}
 use Rattle.std.proofs.Common.{refl, ap, sym, ◌∙◌, subst, arith}
 use Rattle.std.specs.Prelude.{◌||◌, ◌==◌, not, if◌then◌else◌}
@@ -55,10 +56,7 @@ unit-two true false e = cc
 unit-two false false e = cc
 
 more-separated : (b : ℕ) (a : List ℕ) → is_word_byte b ≡ true → IsSeparated a → IsSeparated (b ∷ a)
-more-separated b a word h = (
-  and_from (is_separated_byte b) (list_all is_separated_byte a) (or_left (is_word_byte b) (b == apostrophe) word) h.0,
-  separates-word b a word h.1,
-)
+more-separated b a word h = search (rules, and_from, is_separated_byte, or_left, separates-word)
 
 number-bytes : (text : List Cell) → IsSeparated (take (count_before region.Number text) (line_bytes text))
 number-bytes =

@@ -64,12 +64,7 @@ number-text b a h = record {
 
 pub plain-text : (b : ℕ) (a : List ℕ) → is_digit b ≡ false → list_all is_word_byte (b ∷ a) ≡ true
     → IsTextOfKind Plain (b ∷ a)
-plain-text b a digit h = record {
-  is = search (rules, word-spliced);
-  bytes = refl;
-  begins = or_left (is_word_byte b) (is_quote b) (and_parts (is_word_byte b) (list_all is_word_byte a) h).0;
-  ends = or_left (is_word_byte (last_byte b a)) (is_quote (last_byte b a)) (word-last b a h);
-}
+plain-text b a digit h = search (rules, word-spliced, or_left, and_parts, word-last)
 
 one-closed : (b : ℕ) → ends_in_comment (b ∷ []) ≡ false
 one-closed b = grind (arith, nat_tests)

@@ -1,4 +1,5 @@
 -- If tokens follow one another line by line, their items are at their own lines.
+use Rattle.std.proofs.Common.{rules}
 use Rattle.std.proofs.lemmas.Bool.Decides.{nat_tests}
 use Rattle.std.proofs.Common.{◌≡◌, ℕ, ◌+◌, ◌<◌, Bool, true, false, if◌then◌else◌, Option, Some}
 use Rattle.std.proofs.Common.{List, [], ◌∷◌, ◌++◌, length, refl, arith, append_assoc, append-nil}
@@ -222,71 +223,30 @@ module _ (lines : List SourceLine) where
   item-true (token.LineEnd n) es fs gs gap next before at counted stretch number read origin line h ordered = cc
   item-true (token.InnerLineEnd n) es fs gs gap next before at counted stretch number read origin line h ordered = cc
   item-true (token.QuoteBreak n) es fs gs gap next before at counted stretch number read origin line h ordered =
-      next (Some (token.QuoteBreak n)) _ false (next_line counted) (not (is_expected lines counted n)) (number + 1) read
-      (with_line_end origin) (line ++ item.QuoteBreak ∷ []) (record {
-        counts = λ out real. expected-is counted n number ordered.0 real (not-out (is_expected lines counted n) out);
-        obeys = λ is real. rw (h.obeys is (omega arith)) refl;
-        turns = λ real. turn-snoc texts line item.QuoteBreak ∙ rw (h.turns (omega arith)) refl;
-        goes = goes-snoc texts line item.QuoteBreak;
-      }) ordered.1
+      search (rules, expected-is, not-out, turn-snoc, goes-snoc)
   item-true (token.UseOf n occurrence) es fs gs gap next before at counted stretch number read origin line h ordered =
-      λ now from.
-      next (Some (token.UseOf n occurrence)) turn.NoItem false (origin_at lines n) false n now
-      (origin_after_mark now (origin_at lines n) from) []
-      (record { counts = λ out real. refl; obeys = λ is real. rw is refl; turns = λ real. refl; goes = refl }) ordered.1
+      search rules
   item-true (token.AllMacros n) es fs gs gap next before at counted stretch number read origin line h ordered =
-      λ now from.
-      next (Some (token.AllMacros n)) turn.NoItem false (origin_at lines n) false number now
-      (origin_after_mark now (origin_at lines n) from) [] (record {
-        counts = λ out real. ap (origin_at lines) ordered.0;
-        obeys = λ is real. rw is refl;
-        turns = λ real. refl;
-        goes = refl;
-      }) ordered.1
+      search rules
   item-true (token.Span span_kind.Word s) es fs gs gap next before at counted stretch number read origin line h ordered = (
     own counted stretch number s.line read origin (item.Word s) ordered.0.0 (rw (← ordered.0.0) ordered.0.1.line) h.counts h.obeys,
-    next (Some (token.Span span_kind.Word s)) _ false counted stretch number read origin (line ++ item.Word s ∷ []) (record {
-      counts = h.counts;
-      obeys = h.obeys;
-      turns = λ real. turn-snoc texts line (item.Word s) ∙ rw (h.turns real) refl;
-      goes = goes-snoc texts line (item.Word s);
-    }) ordered.1,
+    search (rules, turn-snoc, goes-snoc),
   )
   item-true (token.Span span_kind.Sign s) es fs gs gap next before at counted stretch number read origin line h ordered = (
     own counted stretch number s.line read origin (item.Sign s) ordered.0.0 (rw (← ordered.0.0) ordered.0.1.line) h.counts h.obeys,
-    next (Some (token.Span span_kind.Sign s)) _ false counted stretch number read origin (line ++ item.Sign s ∷ []) (record {
-      counts = h.counts;
-      obeys = h.obeys;
-      turns = λ real. turn-snoc texts line (item.Sign s) ∙ rw (h.turns real) refl;
-      goes = goes-snoc texts line (item.Sign s);
-    }) ordered.1,
+    search (rules, turn-snoc, goes-snoc),
   )
   item-true (token.Span span_kind.Quoted s) es fs gs gap next before at counted stretch number read origin line h ordered = (
     own counted stretch number s.line read origin (item.Quoted s) ordered.0.0 (rw (← ordered.0.0) ordered.0.1.line) h.counts h.obeys,
-    next (Some (token.Span span_kind.Quoted s)) _ false counted stretch number read origin (line ++ item.Quoted s ∷ []) (record {
-      counts = h.counts;
-      obeys = h.obeys;
-      turns = λ real. turn-snoc texts line (item.Quoted s) ∙ rw (h.turns real) refl;
-      goes = goes-snoc texts line (item.Quoted s);
-    }) ordered.1,
+    search (rules, turn-snoc, goes-snoc),
   )
   item-true (token.Span span_kind.Verbatim s) es fs gs gap next before at counted stretch number read origin line h ordered = (
     own counted stretch number s.line read origin (item.Verbatim s) ordered.0.0 (rw (← ordered.0.0) ordered.0.1.line) h.counts h.obeys,
-    next (Some (token.Span span_kind.Verbatim s)) _ false counted stretch number read origin (line ++ item.Verbatim s ∷ []) (record {
-      counts = h.counts;
-      obeys = h.obeys;
-      turns = λ real. turn-snoc texts line (item.Verbatim s) ∙ rw (h.turns real) refl;
-      goes = goes-snoc texts line (item.Verbatim s);
-    }) ordered.1,
+    search (rules, turn-snoc, goes-snoc),
   )
   item-true (token.AsciiConstant b n) es fs gs gap next before at counted stretch number read origin line h ordered = (
-    own counted stretch number n read origin (item.Code b) ordered.0.0 ordered.0.1 h.counts h.obeys,
-    next (Some (token.AsciiConstant b n)) _ false counted stretch number read origin (line ++ item.Code b ∷ []) (record {
-      counts = h.counts;
-      obeys = h.obeys;
-      turns = λ real. turn-snoc texts line (item.Code b) ∙ rw (h.turns real) refl;
-      goes = goes-snoc texts line (item.Code b);
-    }) ordered.1,
+    own counted stretch number n read origin (item.AsciiConstant b) ordered.0.0 ordered.0.1 h.counts h.obeys,
+    search (rules, turn-snoc, goes-snoc),
   )
   item-true e es fs gs gap next before at counted stretch number read origin line h ordered = absurd ordered.0
 
@@ -392,12 +352,7 @@ module _ (lines : List SourceLine) where
   kept-true (token.White ∷ run) es fs gs gaps none next before at white counted stretch number read origin line h ordered =
       kept-true run es fs gs gaps none next before at true counted stretch number read origin line h ordered.1
   kept-true (token.InnerLineEnd n ∷ run) es fs gs gaps none next before at white counted stretch number read origin line h ordered =
-      kept-true run es fs gs gaps none next before at true counted true (number + 1) read origin line (record {
-        counts = λ out real. cc;
-        obeys = λ is real. h.obeys is (omega arith);
-        turns = λ real. h.turns (omega arith);
-        goes = h.goes;
-      }) ordered.1
+      kept-true run es fs gs gaps none next before at true counted true (number + 1) read origin line (search rules) ordered.1
   kept-true (token.LineEnd n ∷ run) es fs gs gaps none next before at white counted stretch number read origin line h ordered =
       end-true n _ _ before at counted stretch number read origin line h ordered.0
       (λ now from more known. kept-true run es fs gs gaps none next (at_line_front texts before n) _ false _ _ (number + 1)

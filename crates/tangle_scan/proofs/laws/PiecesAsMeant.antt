@@ -7,7 +7,7 @@ use Rattle.std.proofs.Common.{append_assoc, append-nil, Option, Some, None, is_s
 use Rattle.std.proofs.lemmas.Slice.Eq.{bytes_eq-Decides}
 use Rattle.std.proofs.lemmas.Bool.{and_parts}
 use Rattle.std.proofs.Math.Bool.{and-false}
-use Rattle.tangle_files.specs.Bytes.{space, line_feed}
+use Rattle.tangle_files.specs.Bytes.{line_feed}
 use Rattle.tangle_text.specs.Bytes.{backslash}
 use Rattle.tangle_lines.specs.declared.origin.Origin.{Origin}
 use Rattle.tangle_lines.specs.Reading.{SourceLine, origin_at}
@@ -268,8 +268,7 @@ module _ (lines : List SourceLine) (used : ℕ → List ℕ) (mark : Origin → 
   reads (token.White ∷ es) =
       let next = reads es in
       record {
-        plain = λ meant white last before at counted gap is.
-            next.plain (meant ++ space ∷ []) true last before at counted gap (search (rules, spaces-append));
+        plain = search (rules, spaces-append);
         continued = λ meant white last before at counted. next.continued meant true last before at counted;
       }
   reads (token.LineEnd line ∷ es) =

@@ -141,8 +141,7 @@ module _ (lines : List SourceLine) where
       → made (Some e) (line ++ x ∷ []) counted rest
       ≡ items_by_origin lines (Some e) (turn_after_item texts at (Some x)) counted rest
   made-one e x line at counted rest solid turns next =
-      next (line ++ x ∷ []) (turn_after_item texts at (Some x)) counted
-      (turn-snoc texts line x ∙ rw (solid, turns) refl)
+      search (rules, turn-snoc)
 
   made-item : (e : Token) (left before : Option Token) (line : List Item) (at : Turn)
       (counted : Origin) (rest : List Token) → is_front_gap e ≡ false → turn_of texts line ≡ at → IsMade e rest
@@ -150,27 +149,21 @@ module _ (lines : List SourceLine) where
   made-item token.White left before line at counted rest solid turns next = cc
   made-item (token.LineEnd number) left before line at counted rest solid turns next = cc
   made-item (token.UseOf number occurrence) left before line at counted rest solid turns next =
-      ap (λ t. item.UseOf occurrence ∷ item.LineMark (origin_at lines number) ∷ t)
-      (next [] turn.NoItem (origin_at lines number) refl)
+      search rules
   made-item (token.AllMacros number) left before line at counted rest solid turns next =
-      ap (λ t. item.Defs ∷ item.LineMark (origin_at lines number) ∷ t)
-      (next [] turn.NoItem (origin_at lines number) refl)
+      search rules
   made-item (token.QuoteBreak number) left before line at counted rest solid turns next =
-      ap (λ t. item.QuoteBreak ∷ t)
-      (made-one (token.QuoteBreak number) item.QuoteBreak line at (next_line counted) rest refl turns next)
+      search (rules, made-one)
   made-item (token.AsciiConstant value number) left before line at counted rest solid turns next =
-      ap (λ t. item.Code value ∷ t)
-      (made-one (token.AsciiConstant value number) (item.Code value) line at counted rest refl turns next)
+      search (rules, made-one)
   made-item (token.Span span_kind.Word s) left before line at counted rest solid turns next =
       ap (λ t. item.Word s ∷ t) (made-one (token.Span span_kind.Word s) (item.Word s) line at counted rest refl turns next)
   made-item (token.Span span_kind.Sign s) left before line at counted rest solid turns next =
       ap (λ t. item.Sign s ∷ t) (made-one (token.Span span_kind.Sign s) (item.Sign s) line at counted rest refl turns next)
   made-item (token.Span span_kind.Quoted s) left before line at counted rest solid turns next =
-      ap (λ t. item.Quoted s ∷ t)
-      (made-one (token.Span span_kind.Quoted s) (item.Quoted s) line at counted rest refl turns next)
+      search (rules, made-one)
   made-item (token.Span span_kind.Verbatim s) left before line at counted rest solid turns next =
-      ap (λ t. item.Verbatim s ∷ t)
-      (made-one (token.Span span_kind.Verbatim s) (item.Verbatim s) line at counted rest refl turns next)
+      search (rules, made-one)
   made-item e left before line at counted rest solid turns next = next line at counted turns
 
   -- an item, with a blank before it or not
@@ -179,8 +172,7 @@ module _ (lines : List SourceLine) where
       let tokens : List Token = (if blank then token.White ∷ [] else []) ++ e ∷ rest in
       made left line counted tokens ≡ items_by_origin lines before at counted tokens
   made-blank true e left before line at counted rest solid turns next =
-      ap (λ t. item.Blank ∷ t) (made-item e (Some token.White) before (line ++ item.Blank ∷ []) at counted rest solid
-      (turn-snoc texts line item.Blank ∙ turns) next)
+      search (rules, made-item, turn-snoc)
   made-blank false e left before line at counted rest solid turns next =
       made-item e left before line at counted rest solid turns next
 

@@ -3,8 +3,8 @@ use Rattle.std.proofs.Common.{arith}
 use Rattle.std.proofs.Common.{◌≡◌, ◌<◌, ℕ, ◌+◌, zero, suc, List, [], ◌∷◌, length, drop, get_or, slice_get, Some, refl}
 use Rattle.tangle_text.specs.Regions.{unit_of}
 use Rattle.tangle_text.specs.declared.regions.Region.TheVariants as region
-use Rattle.tangle_scan.specs.RawStrings.{size_by, quoted_size, is_cut, follows_r, may_have_fault}
-use Rattle.std.proofs.Common.{Bool, false, true, List, ◌||◌, Option, None}
+use Rattle.tangle_scan.specs.RawStrings.{size_by, quoted_size, follows_r, may_have_fault}
+use Rattle.std.proofs.Common.{false, List, Option, None}
 use Rattle.std.specs.List.{list_any}
 use Rattle.std.proofs.lemmas.Bool.{or_parts}
 use Rattle.tangle_files.specs.Lines.{FileTable}

@@ -1,8 +1,9 @@
 -- The first of some tokens, and the rest, as a loop over them takes them.
+use Rattle.std.proofs.Common.{rules}
 use Rattle.std.proofs.Common.{arith}
 use Rattle.std.proofs.lemmas.Grind.{common_steps}
 use Rattle.std.proofs.Common.{◌≡◌, ◌≤◌, ◌-◌, suc, List, [], ◌∷◌, ◌++◌, length, take, drop, get_or, Option, None}
-use Rattle.std.proofs.Common.{if◌then◌else◌, refl}
+use Rattle.std.proofs.Common.{if◌then◌else◌}
 use Rattle.std.specs.List.{All, list_any}
 use Rattle.std.proofs.Common.{◌+◌, ◌||◌, false}
 use Rattle.std.proofs.lemmas.Bool.{or_parts}
@@ -37,8 +38,7 @@ pub faults-step : (files : FileTable) (lines : List SourceLine) (word : Option S
     ++ token_faults files lines (word_at_end (texts_of lines) (first ts)) (rest ts)
 faults-step files lines word [] h = absurd (omega arith)
 faults-step files lines word (t ∷ ts) h =
-    let same : rest (t ∷ ts) ≡ ts = grind (arith, common_steps) in
-    rw same refl
+    search (rules, common_steps)
 
 pub macro-step : (files : FileTable) (lines : List SourceLine) (ts : List Token) → 1 ≤ length ts
     → macro_token_faults files lines ts
@@ -47,24 +47,20 @@ pub macro-step : (files : FileTable) (lines : List SourceLine) (ts : List Token)
     else token_faults files lines None (rest ts))
 macro-step files lines [] h = absurd (omega arith)
 macro-step files lines (t ∷ ts) h =
-    let same : rest (t ∷ ts) ≡ ts = grind (arith, common_steps) in
-    rw same refl
+    search (rules, common_steps)
 
 pub length-rest : (ts : List Token) → 1 ≤ length ts → length (rest ts) + 1 ≡ length ts
 length-rest [] h = absurd (omega arith)
 length-rest (t ∷ ts) h =
-    let same : rest (t ∷ ts) ≡ ts = grind (arith, common_steps) in
-    rw same (omega arith)
+    search (rules, common_steps)
 
 pub macros-step : (ts : List Token) → 1 ≤ length ts
     → list_any is_all_macros ts ≡ (is_all_macros (first ts) || list_any is_all_macros (rest ts))
 macros-step [] h = absurd (omega arith)
 macros-step (t ∷ ts) h =
-    let same : rest (t ∷ ts) ≡ ts = grind (arith, common_steps) in
-    rw same refl
+    search (rules, common_steps)
 
 pub heads-step : (ts : List Token) → 1 ≤ length ts → list_any is_head ts ≡ false → list_any is_head (rest ts) ≡ false
 heads-step [] h none = absurd (omega arith)
 heads-step (t ∷ ts) h none =
-    let same : rest (t ∷ ts) ≡ ts = grind (arith, common_steps) in
-    rw same ((or_parts (is_head t) (list_any is_head ts) none).1)
+    search (rules, common_steps, or_parts)

@@ -15,18 +15,21 @@ use Rattle.tangle_text.proofs.RunChunks.{differs, AreWordBytes, IsChunk, AreChun
 use Rattle.tangle_text.proofs.RunChunks.{chunk_passed, span_chunks, part-by, part-word}
 use Rattle.tangle_lexer.specs.declared.tokens.Token.{Token}
 use Rattle.tangle_lexer.specs.declared.tokens.Token.TheVariants as token
-use Rattle.tangle_lexer.specs.Runs.{part_token, unfolded_token, IsRunOf}
+use Rattle.tangle_lexer.specs.Runs.{is_run, part_token, unfolded_token, IsRunOf}
 use Rattle.tangle_scan.specs.Rules.{may_merge}
 use Rattle.tangle_lexer.specs.SpanBytes.{first_byte, last_byte, ends_in}
 use Rattle.std.proofs.Common.{subst}
 use Rattle.tangle_text.specs.Bytes.{number_sign}
-use Rattle.tangle_scan.specs.Entries.{part_item}
+use Rattle.tangle_scan.specs.Texts.{part_item}
 use Rattle.tangle_scan.specs.Passes.{is_merging_byte, is_number_sign}
 
 -- a token other than a run stands for itself
 pub unfolded-one : (texts : List (List ℕ)) (e : Token) → ((s : Span) → e ≡ token.Run s → ⊥)
     → unfolded_token texts e ≡ e ∷ []
 unfolded-one texts x other = grind arith
+
+pub no-run : (e : Token) → ((s : Span) → e ≡ token.Run s → ⊥) → is_run e ≡ false
+no-run x other = grind arith
 
 -- The first and the last part of a run, by its bytes. A test of parts stands for one of bytes: it gives for each chunk
 -- what that gives for the chunk's last byte.

@@ -1,19 +1,18 @@
 -- Gathering a web block by block.
 use Rattle.std.proofs.Common.{rules}
 use Rattle.std.proofs.lemmas.Bool.Decides.{nat_tests}
-use Rattle.std.proofs.Common.{◌≡◌, ◌≤◌, ◌<◌, ◌+◌, true, List, [], ◌∷◌, ◌++◌, length, map, refl, arith}
+use Rattle.std.proofs.Common.{◌≡◌, ◌≤◌, ◌<◌, ◌+◌, true, List, [], ◌∷◌, ◌++◌, length, refl, arith}
 use Rattle.std.proofs.Common.{Option, option_to_list}
 use Rattle.std.specs.Option.{IfSome, IfNone}
 use Rattle.tangle_lines.specs.Reading.{SourceRead}
 use Rattle.tangle_lexer.specs.declared.tokens.Token.{Token}
 use Rattle.tangle_lexer.specs.declared.modes.LexerState.{LexerState}
 use Rattle.tangle_text.specs.Text.{Cell}
-use Rattle.tangle_lexer.specs.Steps.{tokens_from, occurrences_from, all_tokens, all_occurrences}
+use Rattle.tangle_lexer.specs.Steps.{tokens_from, occurrences_from, all_tokens}
 use Rattle.tangle_scan.specs.Web.{web_of}
 use Rattle.tangle_lexer.specs.LinesOfParts.{body}
-use Rattle.tangle_lexer.specs.Occurrences.{OccurrenceRead, occurrence_of}
 use Rattle.tangle_lexer.specs.Heads.{is_head}
-use Rattle.tangle_scan.specs.WebBuilder.{WebBuilderRead, nothing, builder_with, web_from}
+use Rattle.tangle_scan.specs.WebBuilder.{WebBuilderRead, gathered_of, nothing, builder_with}
 use Rattle.tangle_scan.proofs.lemmas.WebBuilderLemmas.{builder-cut}
 
 pub tokens-end : (s : LexerState) → tokens_from s [] ≡ []
@@ -57,10 +56,8 @@ pub block-shorter : (text rest : List Cell) (next_head : Option Token)
     → length (option_to_list next_head) + length rest ≤ length text
 block-shorter text rest x some end = grind arith
 
--- the web of all that was gathered is the web of the source
-pub web-whole : (source : SourceRead) (all : WebBuilderRead) (occurrences : List OccurrenceRead)
-    → all ≡ builder_with source nothing (all_tokens source.lines)
-    → occurrences ≡ map (occurrence_of source.lines) (all_occurrences source.lines) →
-    web_from source all occurrences ≡ web_of source
+-- all that is gathered of a source is that of its web
+pub gathered-whole : (source : SourceRead)
+    → builder_with source nothing (all_tokens source.lines) ≡ gathered_of (web_of source)
 unfolding builder_with
-web-whole source all occurrences a b = rw (a, b) refl
+gathered-whole source = refl

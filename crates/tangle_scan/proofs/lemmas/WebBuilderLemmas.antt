@@ -1,4 +1,5 @@
 -- Gathering a web block by block.
+use Rattle.std.proofs.Common.{rules}
 use Rattle.std.proofs.lemmas.Bool.Decides.{nat_tests}
 use Rattle.std.proofs.Common.{arith}
 use Rattle.std.proofs.Common.{◌≡◌, ℕ, ◌+◌, true, false, List, [], ◌∷◌, ◌++◌, refl, ap, sym, ◌∙◌, if◌then◌else◌}
@@ -52,15 +53,7 @@ pub front-whole : (source : SourceRead) (before : WebBuilderRead) (es : List Tok
     ≡ builder_with source before es
 unfolding builder_with
 front-whole source before es h =
-    rw (
-      no-section before.sections es h,
-      no-blocks before.sections es h,
-      body-whole es h,
-      no-head_faults source.files source.lines es h,
-      append-nil before.pieces,
-      append-nil before.macros,
-      append-nil (token_faults source.files source.lines None es),
-    ) (grind arith)
+    search (rules, no-section, no-blocks, body-whole, no-head_faults)
 
 -- a head, and then tokens without one
 pub block-whole : (source : SourceRead) (before : WebBuilderRead) (head : Token) (es : List Token)
@@ -68,17 +61,7 @@ pub block-whole : (source : SourceRead) (before : WebBuilderRead) (head : Token)
     → with_block source before head es ≡ builder_with source before (head ∷ es)
 unfolding builder_with
 block-whole source before head es is h =
-    let count = section_after before.sections head in
-    let here = block_at before.sections head es in
-    rw (
-      is,
-      no-section count es h,
-      no-blocks count es h,
-      body-whole es h,
-      no-head_faults source.files source.lines es h,
-      append-nil here,
-      append-nil (block_faults source.files source.lines head es),
-    ) refl
+    search (rules, no-section, no-blocks, body-whole, no-head_faults)
 
 -- a section, and then tokens without a head
 pub section-gathered : (source : SourceRead) (before : WebBuilderRead) (es : List Token) → list_any is_head es ≡ false

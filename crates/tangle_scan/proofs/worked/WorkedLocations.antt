@@ -87,7 +87,7 @@ record Examples : Type 0 where
   -- an ASCII constant has its line
   pub constant_line :
       locations (source (origin 2)) None (origin 0) false (token.AsciiConstant 65 7 ∷ [])
-      ≡ record { item = item.Code 65; line = 7; in_stretch = false } ∷ []
+      ≡ record { item = item.AsciiConstant 65; line = 7; in_stretch = false } ∷ []
   -- a mark follows the end of a line that is not continued
   pub all_marks :
       with_all_marks (source other) None (sign 1 ∷ token.LineEnd 1 ∷ word 2 ∷ token.LineEnd 2 ∷ word 3 ∷ [])

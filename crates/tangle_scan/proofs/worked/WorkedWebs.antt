@@ -47,10 +47,10 @@ item_shown texts (item.Verbatim s) = span_text texts s
 item_shown texts item.QuoteBreak = 10 ∷ []
 item_shown texts item.LineEnd = 10 ∷ []
 item_shown texts item.Blank = 32 ∷ []
-item_shown texts (item.Code b) = digits b
+item_shown texts (item.AsciiConstant b) = digits b
 item_shown texts (item.LineMark p) = 10 ∷ 35 ∷ digits p.line ++ 10 ∷ []
 item_shown texts (item.UseOf n) = 60 ∷ digits n ++ 62 ∷ []
-item_shown texts item.Defs = 72 ∷ []
+item_shown texts item.AllMacros = 72 ∷ []
 
 -- the pieces, each with its section and the line of its opening mark
 abbrev shown_pieces : WebRead → List ℕ

@@ -1,7 +1,8 @@
 use Rattle.std.proofs.Common.{rules}
-use Rattle.std.proofs.Common.{◌<◌, length, ap, arith}
+use Rattle.std.proofs.Common.{◌<◌, length, ap, arith, sym}
 use Rattle.std.proofs.lemmas.List.{length-map}
-use Rattle.tangle_scan.specs.Entries.{piece_read}
+use Rattle.tangle_scan.specs.Web.{stored_piece}
+use Rattle.tangle_scan.specs.declared.pieces.Piece.{Piece}
 use Rattle.tangle_graph.proofs.GraphLemmas.{resolves_inside}
 use Rattle.tangle_graph.proofs.StoredLemmas.{defined_inside, next_position}
 use Rattle.tangle_graph.proofs.pieces.node_at.Goals as goal
@@ -15,9 +16,10 @@ node_of_piece-requires-clause-occurrence c =
     let stored = c.pieces-pieces.result.now in
     let is = c.pieces-pieces.ensures.pieces in
     let low : c.args.i < length stored =
-    omega (arith, c.requires.piece, ap length is, length-map stored (piece_read web.texts)) in
+    omega (arith, c.requires.piece, ap length is, length-map web.pieces stored_piece) in
     defined_inside web c.args.table.now stored c.args.i c.index-pieces-i.result is low c.index-pieces-i.is
-    c.requires.table c.pieces-pieces.ensures.well_formed c.occurrence.result c.occurrence.ensures
+    c.requires.table c.pieces-pieces.ensures.well_formed _
+    (ap (λ (q : Piece). q.occurrence) (sym c.index-pieces-i.is))
 
 pub returns-clause-next : goal.returns-clause-next
 returns-clause-next c =

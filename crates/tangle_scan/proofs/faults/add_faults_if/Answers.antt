@@ -1,4 +1,4 @@
-use Rattle.std.proofs.Common.{arith, append-nil, sym, ◌∙◌, None}
+use Rattle.std.proofs.Common.{append-nil, sym, ◌∙◌, None}
 use Rattle.tangle_scan.proofs.lemmas.RawLemmas.{no_fault}
 use Rattle.tangle_scan.proofs.faults.add_faults_if.Goals as goal
 

@@ -6,9 +6,8 @@ use Rattle.tangle_lexer.specs.declared.tokens.Token.TheVariants as token
 use Rattle.tangle_lexer.specs.Steps.{tokens_from, occurrences_from, all_tokens, all_occurrences}
 use Rattle.tangle_lexer.specs.Heads.{is_head}
 use Rattle.tangle_lexer.specs.Occurrences.{occurrence_of}
-use Rattle.tangle_scan.specs.Entries.{RunsAreInRange}
 use Rattle.tangle_scan.specs.Rules.{texts_of}
-use Rattle.tangle_scan.specs.WebBuilder.{nothing, builder_read, builder_with}
+use Rattle.tangle_scan.specs.WebBuilder.{IsGathered, WebBuilderRead, nothing, builder_with}
 use Rattle.tangle_scan.proofs.scanning.gather.Given as goal
 
 abbrev pub invariant-loop-next_head : goal.invariant-loop-next_head
@@ -18,8 +17,9 @@ invariant-loop-next_head l = record {
   end : IfNone l.next_head (l.reader ≡ []);
   ours : IsRestOf l.source.lines l.reader;
   in_macro : (line : ℕ) → l.next_head ≡ Some (token.MacroStart line) → l.state.mode ≡ mode.Macro;
-  kept : RunsAreInRange (texts_of l.source.lines) l.builder.pieces;
-  builder : builder_with l.source (builder_read (texts_of l.source.lines) l.builder)
+  read : WebBuilderRead;
+  gathered : IsGathered (texts_of l.source.lines) l.builder read;
+  builder : builder_with l.source read
       (option_to_list l.next_head ++ tokens_from l.state l.reader)
       ≡ builder_with l.source nothing (all_tokens l.source.lines);
   occurrences : l.buffers.occurrences.items ++ map (occurrence_of l.source.lines) (occurrences_from l.state l.reader)

@@ -1,18 +1,21 @@
+use Rattle.std.proofs.Common.{rules}
 use Rattle.std.proofs.Common.{arith}
 use Rattle.std.proofs.lemmas.Bool.Decides.{nat_tests}
-use Rattle.tangle_scan.proofs.lemmas.ScanLemmas.{web-whole}
+use Rattle.tangle_scan.proofs.lemmas.ScanLemmas.{gathered-whole}
 use Rattle.tangle_scan.proofs.laws.WebLaws.{web-line-truth}
 use Rattle.tangle_scan.proofs.laws.WebsAsMeant.{web-as-meant}
 use Rattle.tangle_scan.proofs.laws.WellFormedWebs.{web-well-formed}
 use Rattle.tangle_scan.proofs.scanning.scan.Goals as goal
 
+pub new-requires-clause-gathered : goal.new-requires-clause-gathered
+new-requires-clause-gathered c =
+    search (rules, gathered-whole)
+
 pub new-requires-clause-well_formed : goal.new-requires-clause-well_formed
-new-requires-clause-well_formed c =
-    let builder = c.in_ok-builder.ensures in
-    rw (web-whole c.args.source.now _ _ builder.builder builder.occurrences) (web-well-formed c.args.source.now)
+new-requires-clause-well_formed c = web-well-formed c.args.source.now
 
 pub returns-clause-web : goal.returns-clause-web
-returns-clause-web c = grind (arith, nat_tests, web-whole)
+returns-clause-web c = grind (arith, nat_tests)
 
 pub returns-clause-well_formed : goal.returns-clause-well_formed
 returns-clause-well_formed c = rw (returns-clause-web c) (web-well-formed c.args.source.now)

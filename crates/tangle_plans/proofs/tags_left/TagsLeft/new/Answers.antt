@@ -1,6 +1,6 @@
 use Rattle.std.proofs.Common.{◌++◌, ap}
-use Rattle.tangle_plans.specs.UnfoldedTags.{unfolded_tags}
-use Rattle.tangle_plans.proofs.RunLemmas.{no_run_tags}
+use Rattle.tangle_scan.specs.UnfoldedTags.{unfolded_tags}
+use Rattle.tangle_scan.proofs.lemmas.RunTags.{no_run_tags}
 use Rattle.tangle_plans.proofs.tags_left.TagsLeft.new.Goals as goal
 
 pub returns : goal.returns

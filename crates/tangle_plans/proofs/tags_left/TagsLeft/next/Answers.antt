@@ -1,5 +1,4 @@
 use Rattle.std.proofs.Common.{rules}
-use Rattle.std.proofs.Common.{◌-◌}
 use Rattle.std.proofs.lemmas.List.{take_rest, drop_min, nil_from_length}
 use Rattle.tangle_plans.proofs.LeftLemmas.{none_left, other_left, run_begun, part_left}
 use Rattle.tangle_plans.proofs.tags_left.TagsLeft.next.Goals as goal

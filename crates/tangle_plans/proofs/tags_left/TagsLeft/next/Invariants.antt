@@ -1,5 +1,5 @@
 use Rattle.std.proofs.Common.{◌≡◌, ◌≤◌, length}
-use Rattle.tangle_plans.specs.UnfoldedTags.{tags_left}
+use Rattle.tangle_scan.specs.UnfoldedTags.{tags_left}
 use Rattle.tangle_plans.proofs.tags_left.TagsLeft.next.Given as goal
 
 abbrev pub invariant-loop-self : goal.invariant-loop-self

@@ -1,0 +1,4 @@
+use Rattle.tangle_layers.proofs.source_parts.read_parts.Goals as goal
+
+pub next_block-requires-clause-ours : goal.next_block-requires-clause-ours
+next_block-requires-clause-ours c = (0, c.new-reader.ensures.text)

@@ -1,0 +1,165 @@
+-- Items and runs are put at the end of a text, and a text is cut back.
+use Rattle.std.proofs.Common.{rules}
+use Rattle.std.proofs.Common.{◌≡◌, ◌∙◌, ◌≤◌, ℕ, ◌+◌, List, [], ◌∷◌, ◌++◌, map, length, take, drop, get_or, refl, sym, subst}
+use Rattle.std.proofs.Common.{append_assoc, append-nil, arith, length-append, length-drop}
+use Rattle.std.specs.Prelude.{flat_map}
+use Rattle.std.proofs.lemmas.List.{map-append, take_all, take-append-le, drop-append-le}
+use Rattle.std.proofs.lemmas.List.Concat.{flat_map-append}
+use Rattle.std.proofs.Math.Seq.{take-append_seam}
+use Rattle.tangle_text.specs.Runs.{chunks, part_of, parts_of, run_parts}
+use Rattle.tangle_text.specs.Text.{span_text}
+use Rattle.tangle_text.specs.declared.spans.Span.{Span}
+use Rattle.tangle_text.specs.declared.runs.RunPart.{RunPart}
+use Rattle.tangle_text.proofs.RunChunks.{IsChunk, AreChunks, joined, chunks_are, chunk_passed, span_chunks}
+use Rattle.tangle_files.specs.Bytes.{space}
+use Rattle.tangle_scan.specs.declared.items.Item.{Item}
+use Rattle.tangle_scan.specs.declared.items.Item.TheVariants as item
+use Rattle.tangle_scan.specs.declared.texts.ItemKind.TheVariants as tag
+use Rattle.tangle_scan.specs.declared.texts.ItemTag.{ItemTag}
+use Rattle.tangle_scan.specs.declared.texts.TextSize.{TextSize}
+use Rattle.tangle_scan.specs.ItemBytes.{bytes_in}
+use Rattle.tangle_scan.specs.Passes.{HasSize, cut_to, size_of}
+use Rattle.tangle_scan.specs.Texts.{TextRead, IsTextOf, item_kind, item_origins, item_uses, no_text, part_item, tag_of}
+use Rattle.tangle_scan.specs.Texts.{with_items, with_run}
+use Rattle.tangle_scan.specs.UnfoldedTags.{StandFor, chunk_tag, kind_tags, part_tag, run_tags, tag_sizes, unfolded_tags}
+use Rattle.tangle_scan.proofs.lemmas.RunTags.{chunk_size, part_bytes, part_moved, run_bytes}
+
+-- tags that have all of their bytes stand for themselves and for those after them
+
+unfolded_append : (tags more : List ItemTag) (bytes rest : List ℕ) → tag_sizes tags ≡ length bytes
+    → unfolded_tags (tags ++ more) (bytes ++ rest) ≡ unfolded_tags tags bytes ++ unfolded_tags more rest
+unfolded_append [] more [] rest h = refl
+unfolded_append [] more (b ∷ bytes) rest h = absurd (omega (arith, h))
+unfolded_append (t ∷ tags) more bytes rest h =
+    let within : t.size ≤ length bytes = omega (arith, h) in
+    rw (
+      take-append-le t.size bytes rest within,
+      drop-append-le t.size bytes rest within,
+      unfolded_append tags more (drop t.size bytes) rest (omega (arith, h, length-drop t.size bytes)),
+    )
+    (sym (append_assoc (kind_tags t.kind t (take t.size bytes)) _ _))
+
+sizes_append : (tags more : List ItemTag) → tag_sizes (tags ++ more) ≡ tag_sizes tags + tag_sizes more
+sizes_append [] more = omega arith
+sizes_append (t ∷ tags) more = omega (arith, sizes_append tags more)
+
+pub stand_none : StandFor [] [] []
+stand_none = record { are = refl; sizes = refl }
+
+pub stand_append : (tags tags' : List ItemTag) (bytes bytes' : List ℕ) (unfolded unfolded' : List ItemTag)
+    → StandFor tags bytes unfolded → StandFor tags' bytes' unfolded'
+    → StandFor (tags ++ tags') (bytes ++ bytes') (unfolded ++ unfolded')
+stand_append tags tags' bytes bytes' unfolded unfolded' one other = record {
+  are = rw (unfolded_append tags tags' bytes bytes' one.sizes, one.are, other.are) refl;
+  sizes = omega (arith, sizes_append tags tags', length-append bytes bytes', one.sizes, other.sizes);
+}
+
+-- one tag, with its bytes
+pub stand_one : (t : ItemTag) (bytes : List ℕ) → t.size ≡ length bytes → StandFor (t ∷ []) bytes (kind_tags t.kind t bytes)
+stand_one t bytes e = record {
+  are = rw (take_all t.size bytes (omega (arith, e)), append-nil (kind_tags t.kind t bytes)) refl;
+  sizes = omega (arith, e);
+}
+
+-- a run uses no occurrence, and has no mark
+
+of-no-part : {X : Type 0} (f : Item → List X) → ((p : RunPart) → f (part_item p) ≡ []) → (ps : List RunPart)
+    → flat_map f (map part_item ps) ≡ []
+of-no-part f none [] = refl
+of-no-part f none (p ∷ ps) = cc (none p, of-no-part f none ps)
+
+no-uses : (ps : List RunPart) → flat_map item_uses (map part_item ps) ≡ []
+no-uses ps = of-no-part item_uses (λ x. grind arith) ps
+
+no-origins : (ps : List RunPart) → flat_map item_origins (map part_item ps) ≡ []
+no-origins ps = of-no-part item_origins (λ x. grind arith) ps
+
+module _ (texts : List (List ℕ)) where
+  pub no-items : IsTextOf texts [] no_text
+  no-items = record { tags = stand_none; bytes = refl; uses = refl; marks = refl }
+
+  -- the tag of an item stands for itself
+  item-stands : (x : Item) → StandFor (tag_of texts x ∷ []) (bytes_in texts x) (tag_of texts x ∷ [])
+  item-stands x = subst (StandFor (tag_of texts x ∷ []) (bytes_in texts x)) (itself x)
+      (stand_one (tag_of texts x) (bytes_in texts x) refl)
+    where
+      itself : (x : Item) → kind_tags (item_kind x) (tag_of texts x) (bytes_in texts x) ≡ tag_of texts x ∷ []
+      itself x = grind arith
+
+  items-stand : (items : List Item)
+      → StandFor (map (tag_of texts) items) (flat_map (bytes_in texts) items) (map (tag_of texts) items)
+  items-stand [] = stand_none
+  items-stand (x ∷ items) =
+      stand_append (tag_of texts x ∷ []) _ (bytes_in texts x) _ (tag_of texts x ∷ []) _ (item-stands x) (items-stand items)
+
+  pub text-items : (items more : List Item) (text : TextRead) → IsTextOf texts items text
+      → IsTextOf texts (items ++ more) (with_items texts text more)
+  text-items items more text h = record {
+    tags = rw (map-append (tag_of texts) items more)
+        (stand_append text.tags _ text.bytes _ _ _ h.tags (items-stand more));
+    bytes = rw (flat_map-append (bytes_in texts) items more, h.bytes) refl;
+    uses = rw (flat_map-append item_uses items more, h.uses) refl;
+    marks = rw (flat_map-append item_origins items more, h.marks) refl;
+  }
+
+  -- the tags of the parts of a run
+
+  kind-tagged : (p : RunPart) → item_kind (part_item p) ≡ (part_tag p).kind
+  kind-tagged x = grind arith
+
+  part-tagged : (line column : ℕ) (c rest : List ℕ)
+      → IsChunk c → drop column (get_or texts line []) ≡ c ++ rest
+      → tag_of texts (part_item (part_of line column c)) ≡ chunk_tag c
+  part-tagged line column c rest h is =
+      search (rules, part_moved, kind-tagged, part_bytes, chunk_size)
+
+  parts-tagged : (line column : ℕ) (cs : List (List ℕ)) (rest : List ℕ)
+      → AreChunks cs → drop column (get_or texts line []) ≡ joined cs ++ rest
+      → map (tag_of texts) (map part_item (parts_of line column cs)) ≡ map chunk_tag cs
+  parts-tagged line column [] rest h is = refl
+  parts-tagged line column (c ∷ cs) rest h is = λ i.
+      part-tagged line column c (joined cs ++ rest) h.0 (is ∙ append_assoc c (joined cs) rest) i
+      ∷ parts-tagged line (column + length c) cs rest h.1
+      (chunk_passed column (get_or texts line []) c cs rest is) i
+
+  run-tagged : (s : Span) → run_tags (span_text texts s) ≡ map (tag_of texts) (map part_item (run_parts texts s))
+  unfolding run_parts run_tags
+  run-tagged s = sym (parts-tagged s.line s.start (chunks (span_text texts s)) _ (chunks_are (span_text texts s)) (span_chunks texts s))
+
+  pub text-run : (items : List Item) (s : Span) (text : TextRead) → IsTextOf texts items text
+      → IsTextOf texts (items ++ map part_item (run_parts texts s)) (with_run texts text s)
+  text-run items s text h =
+      let parts = run_parts texts s in
+      record {
+        tags = rw (map-append (tag_of texts) items (map part_item parts), ← run-tagged s)
+            (stand_append text.tags _ text.bytes _ _ _ h.tags (stand_one (record { kind = tag.Run; size = length (span_text texts s) }) (span_text texts s) refl));
+        bytes = rw (flat_map-append (bytes_in texts) items (map part_item parts), h.bytes, run_bytes texts s) refl;
+        uses = rw (flat_map-append item_uses items (map part_item parts), no-uses parts, append-nil (flat_map item_uses items)) h.uses;
+        marks = rw (flat_map-append item_origins items (map part_item parts), no-origins parts, append-nil (flat_map item_origins items)) h.marks;
+      }
+
+  -- a text to which an item was added that is no use, cut back
+
+  pub cut-more : (size : TextSize) (text : TextRead) (x : Item) → HasSize size text → item_uses x ≡ []
+      → cut_to size (with_items texts text (x ∷ [])) ≡ cut_to size text
+  cut-more size text x h none = search (rules, take-append-le)
+
+  pub cut-back : (text : TextRead) (x : Item) → item_uses x ≡ []
+      → cut_to (size_of text) (with_items texts text (x ∷ [])) ≡ text
+  cut-back text x none = search (rules, take-append_seam)
+
+  pub size-more : (size : TextSize) (text : TextRead) (items : List Item) → HasSize size text
+      → HasSize size (with_items texts text items)
+  size-more size text items h = record {
+    tags = omega (arith, h.tags, length-append text.tags (map (tag_of texts) items));
+    bytes = omega (arith, h.bytes, length-append text.bytes (flat_map (bytes_in texts) items));
+    marks = omega (arith, h.marks, length-append text.marks (flat_map item_origins items));
+  }
+
+  pub size-own : (text : TextRead) (items : List Item) → HasSize (size_of text) (with_items texts text items)
+  size-own text items = size-more (size_of text) text items (record { tags = omega arith; bytes = omega arith; marks = omega arith })
+
+  pub blank-added : (text : TextRead)
+      → record text { tags = text.tags ++ record { kind = tag.Blank; size = 1 } ∷ []; bytes = text.bytes ++ space ∷ [] }
+      ≡ with_items texts text (item.Blank ∷ [])
+  blank-added text = rw (append-nil text.uses, append-nil text.marks) refl

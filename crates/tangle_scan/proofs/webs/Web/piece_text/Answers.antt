@@ -1,0 +1,24 @@
+use Rattle.std.proofs.Common.{◌<◌, length, get_or, ap, subst, sym, ◌∙◌}
+use Rattle.std.specs.List.{All}
+use Rattle.tangle_scan.specs.Texts.{IsTextOf, text_at, text_of}
+use Rattle.tangle_scan.specs.Web.{WebRead, no_piece, web_of}
+use Rattle.tangle_scan.specs.declared.webs.Web.TheInside.{Inside}
+use Rattle.tangle_scan.proofs.lemmas.GatheredLemmas.{web-text, web-uses}
+use Rattle.tangle_scan.proofs.webs.Web.piece_text.Goals as goal
+
+pub returns-clause-text : goal.returns-clause-text
+returns-clause-text c =
+    let n = c.args.number in
+    subst (λ (w : WebRead). IsTextOf w.texts (get_or w.pieces n no_piece).items (text_of c.at.result)) c.self.view_is
+    (web-text (web_of c.self.inside.source.now) _ n (text_of c.at.result) c.self.invariant.gathered.piece_texts
+    (subst (λ (w : WebRead). n < length w.pieces) (sym c.self.view_is) c.requires)
+    (c.at.ensures ∙ ap (λ (i : Inside). text_at i.builder.texts n) c.self-inside.view_is))
+
+pub returns-clause-uses : goal.returns-clause-uses
+returns-clause-uses c =
+    let n = c.args.number in
+    subst (λ (w : WebRead). All (λ u. u < length w.occurrences) (text_of c.at.result).uses) c.self.view_is
+    (web-uses (web_of c.self.inside.source.now) _ n (text_of c.at.result) c.self.invariant.gathered.piece_texts
+    c.self.invariant.well_formed
+    (subst (λ (w : WebRead). n < length w.pieces) (sym c.self.view_is) c.requires)
+    (c.at.ensures ∙ ap (λ (i : Inside). text_at i.builder.texts n) c.self-inside.view_is))
