@@ -44,7 +44,7 @@ fn gather(alloc: Global, source: &Source) -> Result<(WebBuilder, Vec<Occurrence>
 /// Scans the lines of a source: finds its sections, C parts, macros and section names, by the rules
 /// of `docs/scanning.md`. No source is refused: what breaks a rule is a fault of the web.
 ///
-/// The web borrows the source. The text of an item is a range of a source line.
+/// The web borrows the source, and has copies of what its pieces and macros write.
 ///
 /// A C compiler that counts by the marks and line ends of a piece counts for each text the line
 /// that the text is on, except in stretches. A stretch begins at a line end inside a quoted text or

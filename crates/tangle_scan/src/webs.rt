@@ -16,9 +16,8 @@ use std::marker::Model;
 use tangle_lexer::Occurrence;
 use tangle_lines::{Fault, Origin, Source};
 
-/// A scanned web. It borrows the source, for the bytes of the lines and the names of the files.
-/// Every web is well formed: the texts of its items are ranges of source lines, and the numbers of
-/// occurrences in its uses and pieces are below the count of its occurrences.
+/// A scanned web. It borrows the source, for the names of the files. Every web is well formed: the
+/// numbers of occurrences in its uses and pieces are below the count of its occurrences.
 #[derive(Drop)]
 pub struct Web<'s, 'a> {
     source: &'s Source<'a>,
@@ -80,9 +79,8 @@ impl<'s, 'a> Web<'s, 'a> {
         self.builder.pieces.as_slice()
     }
 
-    /// The text of the piece with this number.
+    /// The text of the piece with this number, from 0; an empty text if there is none.
     pub fn piece_text(&self, number: usize) -> PieceText<'_>
-        requires { number < length self.now.pieces }
         ensures text { IsTextOf self.now.texts (slice_index_or self.now.pieces number no_piece).items
             (text_of result) }
         ensures uses { All (λ n. n < length self.now.occurrences) (text_of result).uses }

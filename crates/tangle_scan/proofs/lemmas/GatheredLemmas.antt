@@ -4,7 +4,7 @@ use Rattle.std.proofs.Common.{◌≡◌, ◌∙◌, ◌<◌, ℕ, zero, suc, ◌
 use Rattle.std.proofs.Common.{None, Option, ap, append-nil, arith, get_or, refl, subst, sym}
 use Rattle.std.specs.List.{All, AllZip, list_any}
 use Rattle.std.specs.Prelude.{flat_map}
-use Rattle.std.proofs.lemmas.List.{map-append, get_or-map}
+use Rattle.std.proofs.lemmas.List.{map-append}
 use Rattle.digraph.specs.Graph.{row_at}
 use Rattle.tangle_faults.specs.declared.faults.FaultKind.TheVariants as fault
 use Rattle.tangle_lexer.specs.Heads.{is_head}
@@ -25,6 +25,7 @@ use Rattle.tangle_scan.specs.UnfoldedTags.{StandFor}
 use Rattle.tangle_scan.specs.Web.{PieceRead, WebRead, fault_on, is_all_macros, no_piece, macro_token_faults, stored_piece, token_faults}
 use Rattle.tangle_scan.specs.WebBuilder.{AreTextsOf, IsGathered, StoredBuilder, WebBuilderRead, builder_with, nothing, nothing_stored}
 use Rattle.tangle_scan.proofs.lemmas.UnfoldedTokens.{all_macros-unfolded, faults-unfolded, unfolded-no_head}
+use Rattle.tangle_scan.proofs.lemmas.TextLemmas.{stand_none}
 use Rattle.tangle_scan.proofs.lemmas.WebBuilderLemmas.{front-whole, macro-gathered, section-gathered}
 
 pub nothing-gathered : (texts : List (List ℕ)) (stored : StoredBuilder) → stored ≡ nothing_stored
@@ -93,12 +94,24 @@ zip-push P (x' ∷ xs) [] x y h k = absurd h
 zip-push P (x' ∷ xs) (y' ∷ ys) x y h k = (h.0, zip-push P xs ys x y h.1 k)
 
 zip-at : {X Y : Type 0} (P : X → Y → Type 0) (xs : List X) (ys : List Y) (x : X) (y : Y) (n : ℕ)
-    → AllZip P xs ys → n < length ys → P (get_or xs n x) (get_or ys n y)
-zip-at P [] [] x y n h low = absurd (omega arith)
-zip-at P [] (y' ∷ ys) x y n h low = absurd h
-zip-at P (x' ∷ xs) [] x y n h low = absurd h
-zip-at P (x' ∷ xs) (y' ∷ ys) x y zero h low = h.0
-zip-at P (x' ∷ xs) (y' ∷ ys) x y (suc n) h low = zip-at P xs ys x y n h.1 (omega arith)
+    → P x y → AllZip P xs ys → P (get_or xs n x) (get_or ys n y)
+zip-at P [] [] x y n none h = none
+zip-at P [] (y' ∷ ys) x y n none h = absurd h
+zip-at P (x' ∷ xs) [] x y n none h = absurd h
+zip-at P (x' ∷ xs) (y' ∷ ys) x y zero none h = h.0
+zip-at P (x' ∷ xs) (y' ∷ ys) x y (suc n) none h = zip-at P xs ys x y n none h.1
+
+row-of : {X : Type 0} (f : PieceRead → List X) (pieces : List PieceRead) (n : ℕ) → f no_piece ≡ []
+    → row_at (map f pieces) n ≡ f (get_or pieces n no_piece)
+row-of f [] n none = sym none
+row-of f (p ∷ pieces) zero none = refl
+row-of f (p ∷ pieces) (suc n) none = row-of f pieces n none
+
+items-at : (P : PieceRead → Type 0) (pieces : List PieceRead) (n : ℕ) → P no_piece → All P pieces
+    → P (get_or pieces n no_piece)
+items-at P [] n none all = none
+items-at P (p ∷ pieces) zero none all = All-head P p pieces all
+items-at P (p ∷ pieces) (suc n) none all = items-at P pieces n none (All-tail P p pieces all)
 
 pub piece-stored : (source : SourceRead) (stored : StoredBuilder) (read : WebBuilderRead) (occurrence : Option ℕ) (line : ℕ)
     (tokens : List Token) (text : TextRead) → All (IsRunIn (texts_of source.lines)) tokens →
@@ -142,17 +155,17 @@ piece-stored source stored read occurrence line tokens text runs is h =
 
 -- the text of the piece with this number
 text-stored : (texts : List (List ℕ)) (pieces : List PieceRead) (stored : TextsRead) (n : ℕ)
-    → AreTextsOf texts pieces stored → n < length pieces → IsTextOf texts (get_or pieces n no_piece).items (text_at stored n)
-text-stored texts pieces stored n h low =
+    → AreTextsOf texts pieces stored → IsTextOf texts (get_or pieces n no_piece).items (text_at stored n)
+text-stored texts pieces stored n h =
     let piece = get_or pieces n no_piece in
     let bytes : row_at stored.bytes n ≡ flat_map (bytes_in texts) piece.items =
-    ap (λ rows. row_at rows n) h.bytes ∙ get_or-map (λ (p : PieceRead). flat_map (bytes_in texts) p.items) pieces n no_piece [] low in
+    ap (λ rows. row_at rows n) h.bytes ∙ row-of (λ (p : PieceRead). flat_map (bytes_in texts) p.items) pieces n refl in
     record {
       tags = subst (λ bs. StandFor (row_at stored.tags n) bs (map (tag_of texts) piece.items)) (sym bytes)
-          (zip-at _ stored.tags pieces [] no_piece n h.tags low);
+          (zip-at _ stored.tags pieces [] no_piece n stand_none h.tags);
       bytes = bytes;
-      uses = ap (λ rows. row_at rows n) h.uses ∙ get_or-map (λ (p : PieceRead). flat_map item_uses p.items) pieces n no_piece [] low;
-      marks = ap (λ rows. row_at rows n) h.marks ∙ get_or-map (λ (p : PieceRead). flat_map item_origins p.items) pieces n no_piece [] low;
+      uses = ap (λ rows. row_at rows n) h.uses ∙ row-of (λ (p : PieceRead). flat_map item_uses p.items) pieces n refl;
+      marks = ap (λ rows. row_at rows n) h.marks ∙ row-of (λ (p : PieceRead). flat_map item_origins p.items) pieces n refl;
     }
 
 -- the numbers of occurrences in the uses of items
@@ -167,11 +180,13 @@ uses-below count (x ∷ items) h = assumption (uses-below count items (All-tail 
 -- the text that is read of a piece of a web
 
 pub web-text : (web : WebRead) (stored : TextsRead) (n : ℕ) (text : TextRead) → AreTextsOf web.texts web.pieces stored
-    → n < length web.pieces → text ≡ text_at stored n → IsTextOf web.texts (get_or web.pieces n no_piece).items text
-web-text web stored n text h low is = rw is (text-stored web.texts web.pieces stored n h low)
+    → text ≡ text_at stored n → IsTextOf web.texts (get_or web.pieces n no_piece).items text
+web-text web stored n text h is = rw is (text-stored web.texts web.pieces stored n h)
 
 pub web-uses : (web : WebRead) (stored : TextsRead) (n : ℕ) (text : TextRead) → AreTextsOf web.texts web.pieces stored
-    → IsWellFormed web → n < length web.pieces → text ≡ text_at stored n → All (λ u. u < length web.occurrences) text.uses
-web-uses web stored n text h formed low is =
-    rw (web-text web stored n text h low is).uses
-    (uses-below (length web.occurrences) (get_or web.pieces n no_piece).items (formed.uses n no_piece low))
+    → IsWellFormed web → text ≡ text_at stored n → All (λ u. u < length web.occurrences) text.uses
+web-uses web stored n text h formed is =
+    rw (web-text web stored n text h is).uses
+    (uses-below (length web.occurrences) (get_or web.pieces n no_piece).items
+    (items-at (λ p. All (IsUseBelow (length web.occurrences)) p.items) web.pieces n
+    (All-nil (IsUseBelow (length web.occurrences))) formed.uses))

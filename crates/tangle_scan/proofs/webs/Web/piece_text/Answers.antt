@@ -11,7 +11,6 @@ returns-clause-text c =
     let n = c.args.number in
     subst (λ (w : WebRead). IsTextOf w.texts (get_or w.pieces n no_piece).items (text_of c.at.result)) c.self.view_is
     (web-text (web_of c.self.inside.source.now) _ n (text_of c.at.result) c.self.invariant.gathered.piece_texts
-    (subst (λ (w : WebRead). n < length w.pieces) (sym c.self.view_is) c.requires)
     (c.at.ensures ∙ ap (λ (i : Inside). text_at i.builder.texts n) c.self-inside.view_is))
 
 pub returns-clause-uses : goal.returns-clause-uses
@@ -20,5 +19,4 @@ returns-clause-uses c =
     subst (λ (w : WebRead). All (λ u. u < length w.occurrences) (text_of c.at.result).uses) c.self.view_is
     (web-uses (web_of c.self.inside.source.now) _ n (text_of c.at.result) c.self.invariant.gathered.piece_texts
     c.self.invariant.well_formed
-    (subst (λ (w : WebRead). n < length w.pieces) (sym c.self.view_is) c.requires)
     (c.at.ensures ∙ ap (λ (i : Inside). text_at i.builder.texts n) c.self-inside.view_is))
