@@ -24,7 +24,7 @@ PAGES = {
     'docs/scanning.md': ['tangle_text', 'tangle_lexer', 'tangle_scan'],
     'docs/names.md': [
         'tangle_text/NameBytes', 'tangle_lexer/Names', 'tangle_lexer/Occurrences', 'tangle_names'],
-    'docs/tokens.md': ['c_tokens', 'tangle_c_tokens'],
+    'docs/tokens.md': ['c_tokens', 'tangle_c_tokens', 'ctangle_cli/WhatTheCompilerReads'],
     'docs/graphs.md': ['digraph'],
     'docs/expansion.md': ['tangle_plans', 'tangle_expansion', 'tangle_graph'],
     'docs/output.md': [

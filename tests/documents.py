@@ -92,7 +92,7 @@ CALLS = {
     'write_text': [],
     'write_file': ['tangle_expansion/outputs.rt: file_size', 'tangle_session/session.rt: write_output_at'],
     'create_output': ['ctangle_cli/writing.rt: create_outputs'],
-    'Session::start': ['ctangle_cli/run.rt: run_loaded', 'retangle/main.rt: run_named'],
+    'Session::start': ['ctangle_cli/run.rt: start_session'],
     'Analysis::build': ['tangle_session/session.rt: start', 'tangle_session/tangling.rt: tangle_again'],
     'tangle_again': ['tangle_session/session.rt: apply_all'],
     'apply_all': ['tangle_session/session.rt: apply', 'ctangle_cli/conversation.rt: commit'],
@@ -566,8 +566,8 @@ def check_calls(crates):
 
 
 def is_law(text):
-    """A function without a body states a law."""
-    return re.search(r'\)\s*(ensures.*)?\{\s*\}\s*\Z', re.sub(r'^\s*(//|#\[).*$', '', text, flags=re.M).rstrip(), re.S)
+    """A function without a body states a law, and so does one whose body only calls laws."""
+    return re.search(r'\)\s*(ensures.*)?\{(\s*\w+\(\);)*\s*\}\s*\Z', re.sub(r'^\s*(//|#\[).*$', '', text, flags=re.M).rstrip(), re.S)
 
 
 def edited_functions(here, edit):

@@ -36,7 +36,7 @@ from running import run
 from tangling import Tangling
 
 LEAST = 90              # the premises hold for at least this percentage of parts without faults
-FILES = 950             # at least as many output files that have tokens are read as a whole
+FILES = 1200            # at least as many output files that have tokens are read as a whole
 
 LINE_MARK = re.compile(rb'\n#line [0-9]+ "(?:\\.|[^"\\\n])*"(?=\n)')
 
@@ -54,6 +54,9 @@ class Part:
         """The tokens of the groups, one after another."""
         front = [b'#', b'define'] if self.is_macro else []
         return front + [token for text in self.texts for token in tokens(text)]
+
+    def has_all_macros(self):
+        return any(group[0].kind == 'AllMacros' for group in self.groups)
 
     def is_read_as_meant(self, written):
         """The law, if this is what is written."""
@@ -167,12 +170,13 @@ class Web:
                 yield output.name, found + self._tokens_of(output.node)
 
     def _parts_of(self, output):
-        """The macros, and the pieces of which the file is made."""
+        """The pieces of which the file is made, and the macros, if it begins with them or has @h."""
         graph, nodes = self.tangling.graph, [output.node]
         for node in nodes:                      # which grows meanwhile
             nodes += [used for used in graph.uses[node] if used not in nodes]
-        sections = [piece.section for node in nodes for piece in graph.pieces[node]]
-        return self.macros + [self.pieces[section] for section in sections]
+        pieces = [self.pieces[piece.section] for node in nodes for piece in graph.pieces[node]]
+        has_macros = output.has_macros or any(part and part.has_all_macros() for part in pieces)
+        return pieces + (self.macros if has_macros else [])
 
     def _tokens_of(self, node):
         """The tokens of the pieces of a node; those of a name that they use are in its place."""

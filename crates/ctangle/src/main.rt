@@ -2,17 +2,13 @@
 #![tactic(auto)]
 
 use ctangle_cli::{Disk, LoadFault, command_line, lines_to, run_before_exit, write_load};
-use std::io::ErrorKind;
 use std::process::ExitCode;
 use tangle_lines::Sink;
 
-// Runs `ctangle`, and returns its status. If an argument is not UTF-8, all arguments are left out,
-// so the usage line is written.
+// Runs `ctangle`, and returns its status.
 fn run<E: Sink>(rt: &HostRuntime, err: &mut E) -> u8 {
-    let arguments = match command_line(rt) {
-        Ok(arguments) => arguments,
-        Err(error) if error.kind() == ErrorKind::OutOfMemory => return no_memory(err),
-        Err(_) => Vec::new(rt.alloc()),
+    let Ok(arguments) = command_line(rt) else {
+        return no_memory(err);
     };
     let names = arguments.iter().skip(1).map(|argument| argument.as_bytes());
     match names.collect::<Vec<&[u8]>>(rt.alloc()) {

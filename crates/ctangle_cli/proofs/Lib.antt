@@ -7,3 +7,4 @@ mod RetangleLemmas
 mod WorkedArguments
 mod AnswerLemmas
 mod HistoryLemmas
+mod ReadLemmas

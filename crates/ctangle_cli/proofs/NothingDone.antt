@@ -2,17 +2,18 @@
 use Rattle.std.proofs.Common.{rules}
 use Rattle.std.proofs.lemmas.Bool.Decides.{nat_tests}
 use Rattle.std.proofs.Common.{◌≡◌, ◌⊎◌, inl, inr, Option, None, Some, ℕ, ◌<◌, take, List, []}
-use Rattle.std.proofs.Common.{◌∷◌, ◌++◌, ap, length, length-append, arith}
+use Rattle.std.proofs.Common.{◌∷◌, ◌++◌, ap, codes, length, length-append, arith, subst}
 use Rattle.std.specs.Io.KnownBytes.{Appends}
 use Rattle.tangle_streams.specs.Streams.{Stream, Failed, TakesAll, TakesPrefix}
 use Rattle.tangle_faults.specs.Faults.{FaultRead}
 use Rattle.tangle_files.specs.Roles.{RolesRead}
 use Rattle.tangle_folders.specs.Folder.{File, FolderRead}
 use Rattle.tangle_folders.specs.declared.folder.FolderFault.{FolderFault}
-use Rattle.ctangle_cli.specs.Messages.{faults_status, unwritten_line}
-use Rattle.ctangle_cli.specs.Run.{NamedEnds, RunEnds, TangledEnds, moment, nothing_done}
-use Rattle.ctangle_cli.specs.Run.RunEnds.{IsMisused, IsCutAtUsage, IsUnnamed, IsNamed}
-use Rattle.ctangle_cli.specs.Run.NamedEnds.{IsUnloaded, IsUntangled, IsTangled}
+use Rattle.ctangle_cli.specs.Arguments.{names_by_arguments}
+use Rattle.ctangle_cli.specs.Messages.{faults_status, unwritten_line, usage_line}
+use Rattle.ctangle_cli.specs.Run.{EndsUnstarted, RunEnds, TangledEnds, moment, nothing_done}
+use Rattle.ctangle_cli.specs.Run.EndsUnstarted.{IsMisused, IsCutAtUsage, IsUnnamed, IsUnloaded}
+use Rattle.ctangle_cli.specs.Run.RunEnds.{IsUnstarted, IsTangled}
 use Rattle.ctangle_cli.specs.Run.TangledEnds.{IsDone, IsCutAtFaults, IsUnwritten}
 
 no_failure : Failed 0 0 → ⊥
@@ -51,16 +52,17 @@ tangled_not_3 outputs faults folder (IsCutAtFaults reported created status) = no
 tangled_not_3 outputs faults folder (IsUnwritten stop status) =
     search (rules, silent_after, stop_some)
 
-named_not_3 : (roles : RolesRead) → NamedEnds roles nothing_done nothing_done 3 → ⊥
-named_not_3 roles (IsUnloaded ending why reported status) =
+unstarted_not_3 : (usage : List ℕ) (names : Option RolesRead)
+    → EndsUnstarted (codes "ctangle") usage names nothing_done nothing_done 3 → ⊥
+unstarted_not_3 usage names (IsMisused none reported created status) = omega arith
+unstarted_not_3 usage names (IsCutAtUsage none reported created status) = no_failure reported.3
+unstarted_not_3 usage names (IsUnnamed reported created status) =
     search rules
-named_not_3 roles (IsUntangled files loaded loads reported created status) =
+unstarted_not_3 usage names (IsUnloaded roles ending is why reported status) =
     search rules
-named_not_3 roles (IsTangled files loaded loads ends) = tangled_not_3 ends.outputs ends.faults loaded ends.ends
 
 pub run_not_3 : (arguments : List (List ℕ)) → RunEnds arguments nothing_done nothing_done 3 → ⊥
-run_not_3 arguments (IsMisused none reported created status) = omega arith
-run_not_3 arguments (IsCutAtUsage none reported created status) = no_failure reported.3
-run_not_3 arguments (IsUnnamed reported created status) =
-    search rules
-run_not_3 arguments (IsNamed roles is ends) = named_not_3 roles ends
+run_not_3 arguments (IsUnstarted ends) = unstarted_not_3 usage_line (names_by_arguments arguments) ends
+run_not_3 arguments (IsTangled roles started session is starts ends) =
+    tangled_not_3 ends.outputs ends.faults started.folder
+    (subst (λ s. TangledEnds ends.outputs ends.faults (moment started.folder s) nothing_done 3) starts.silent ends.ends)

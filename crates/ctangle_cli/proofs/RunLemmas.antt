@@ -14,7 +14,12 @@ use Rattle.tangle_script.specs.Script.{WritesAnswer}
 use Rattle.tangle_faults.specs.Faults.{FaultRead}
 use Rattle.tangle_folders.specs.declared.folder.FolderFault.{FolderFault}
 use Rattle.tangle_folders.specs.declared.folder.FolderFault.TheVariants.{NoMemory}
-use Rattle.tangle_folders.specs.Folder.{File}
+use Rattle.tangle_files.specs.Lines.{FileTable}
+use Rattle.tangle_files.specs.Roles.{RolesRead}
+use Rattle.tangle_folders.specs.Folder.{File, FolderRead}
+use Rattle.tangle_loading.specs.Loading.LoadEnd.{NoMemory as LoadMemory}
+use Rattle.tangle_loading.specs.Endings.{LoadGives}
+use Rattle.tangle_loading.specs.Endings.EndsEarly.{IsShort}
 use Rattle.ctangle_cli.specs.Run.{Moment, StopsAt, TangledEnds}
 use Rattle.ctangle_cli.specs.Run.TangledEnds.{IsUnwritten}
 use Rattle.ctangle_cli.specs.Messages.{fault_lines, unwritten_line}
@@ -95,6 +100,15 @@ pub answer_then : {T E : Type 0} (a b c : Stream) (xs ys : List ℕ) (r : Result
     → TakesAll a b xs → WritesAnswer b c ys r → WritesAnswer a c (xs ++ ys) r
 answer_then a b c xs ys (Ok x) p q = whole_then_whole a b c xs ys p q
 answer_then a b c xs ys (Err e) p q = whole_then_cut a b c xs ys p q
+
+-- memory may run out once all files are loaded
+pub short_after_loading : (roles : RolesRead) (old new : FolderRead) (files : FileTable)
+    → LoadGives roles old new (Ok files) → LoadGives roles old new (Err LoadMemory)
+short_after_loading roles old new files loads = record {
+  contents = loads.contents;
+  are_its = loads.are_its;
+  gives = IsShort _ [] (sym (append-nil _)) loads.gives.1 refl;
+}
 
 -- writing stopped because memory ran out, or because the folder failed
 pub tangled_stops : (outputs : List File) (faults : List FaultRead) (old new : Moment) (mid : Stream)

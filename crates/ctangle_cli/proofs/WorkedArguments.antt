@@ -27,3 +27,11 @@ change_before_web_is_accepted = refl
 pub two_webs_are_refused : takes retangle_app (codes "retangle" ∷ codes "a" ∷ codes "b" ∷ []) ≡ false
 unfolding clap_on_literals
 two_webs_are_refused = refl
+
+pub two_webs_are_no_names : retangle_names_of (codes "retangle" ∷ codes "a" ∷ codes "b" ∷ []) ≡ None
+unfolding retangle_names_of clap_on_literals
+two_webs_are_no_names = refl
+
+pub help_is_no_names : retangle_names_of (codes "retangle" ∷ codes "a" ∷ codes "--help" ∷ []) ≡ None
+unfolding retangle_names_of clap_on_literals
+help_is_no_names = refl

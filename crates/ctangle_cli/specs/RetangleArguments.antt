@@ -1,7 +1,9 @@
 -- The command of `retangle`, and the names that its arguments give.
-use Rattle.std.specs.Prelude.{◌≡◌, true, List, Option, Some, codes, option_map}
-use Rattle.clap.specs.Words.{App, Row, Rule, Text, first_of, matches_of, new_app, new_rule}
-use Rattle.clap.specs.Words.{with_rule}
+use Rattle.std.specs.Prelude.{◌≡◌, true, List, Option, None, Some, codes, option_map}
+use Rattle.std.specs.Prelude.{if◌then◌else◌}
+use Rattle.clap.specs.Walk.{is_empty}
+use Rattle.clap.specs.Words.{App, Row, Rule, Text, fault_of, first_of, matches_of, new_app}
+use Rattle.clap.specs.Words.{new_rule, with_rule}
 use Rattle.clap.specs.declared.builder.action.ArgAction.TheVariants.{Set}
 use Rattle.tangle_files.specs.Roles.{RolesRead}
 use Rattle.ctangle_cli.specs.Arguments.{completed_names}
@@ -34,9 +36,12 @@ completed_values rows =
     (λ web. completed_names web (first_of (codes "change") rows) (first_of (codes "out") rows))
     (first_of (codes "WEB") rows)
 
--- the names that the arguments give, by clap's definition of the matches of this command
+-- the names that the arguments give, by clap's definitions of the faults and the matches of this
+-- command; none where there is a fault, as also a request for help or the version is
 unfoldable pub retangle_names_of : List Text → Option RolesRead
-retangle_names_of arguments = completed_values (matches_of retangle_app arguments)
+retangle_names_of arguments =
+    if is_empty (fault_of retangle_app arguments)
+    then completed_values (matches_of retangle_app arguments) else None
 
 -- among the matches, WEB, `--change` and `--out` have these values
 pub record GivesValues (rows : List Row) (values : Values) : Type 0 where

@@ -1,18 +1,25 @@
--- How a run of `ctangle` ends, by what the folder and the error stream report before and after it.
+-- How a run ends, by what the folder and the streams report before and after it.
 use Rattle.std.specs.Prelude.{◌≡◌, ◌≢◌, ◌⊎◌, ℕ, List, [], ◌∷◌, ◌++◌, codes, Option, None, Some, Ok, Err}
+use Rattle.clap.specs.Words.{Text}
 use Rattle.tangle_streams.specs.Streams.{Stream, Failed, TakesAll, TakesPrefix}
 use Rattle.tangle_files.specs.Lines.{FileTable}
 use Rattle.tangle_files.specs.Roles.{RolesRead}
 use Rattle.tangle_faults.specs.Faults.{FaultRead}
-use Rattle.tangle_session.specs.Headline.{IsPlainTangling}
+use Rattle.tangle_script.specs.Endings.{ConversationEnds}
+use Rattle.tangle_script.specs.Script.{Conversation}
+use Rattle.tangle_session.specs.Headline.{IsPlainTangling, IsStarted}
+use Rattle.tangle_session.specs.Sessions.{SessionRead}
 use Rattle.tangle_folders.specs.declared.folder.FolderFault.{FolderFault}
 use Rattle.tangle_folders.specs.declared.folder.FolderFault.TheVariants.{NoMemory}
 use Rattle.tangle_folders.specs.Folder.{File, FolderRead, with_created}
 use Rattle.ctangle_cli.specs.Writing.{IsPrefixOf}
 use Rattle.ctangle_cli.specs.Arguments.{names_by_arguments}
+use Rattle.ctangle_cli.specs.Conversation.{HasError, SessionAndDraft, answers}
+use Rattle.ctangle_cli.specs.RetangleArguments.{retangle_names_of}
 use Rattle.tangle_loading.specs.Loading.{LoadEnd}
+use Rattle.tangle_loading.specs.Loading.LoadEnd.{NoMemory as LoadMemory}
 use Rattle.tangle_loading.specs.Endings.{LoadGives}
-use Rattle.ctangle_cli.specs.Messages.{usage_line, ending_line, no_memory_line, unwritten_line}
+use Rattle.ctangle_cli.specs.Messages.{usage_line, ending_line, unwritten_line}
 use Rattle.ctangle_cli.specs.Messages.{fault_lines, faults_status}
 
 -- what the folder and the error stream report at a moment
@@ -100,38 +107,56 @@ pub record SessionEnds (files : FileTable) (roles : RolesRead)
   pub ends : TangledEnds outputs faults old new status
   pub asks_nothing : AsksNothing old new
 
--- how a run ends if its arguments give these names;
--- `loaded` is the folder when the files are loaded
-pub data NamedEnds (roles : RolesRead) (old new : Moment) (status : ℕ) : Type 0 where
-  -- status 3: a file can't be read, or is refused, or memory runs out
-  IsUnloaded : (ending : LoadEnd) → LoadGives roles old.folder new.folder (Err ending)
-      → TriesToWrite old.stream new.stream (ending_line (codes "ctangle") ending)
-      → status ≡ 3 → NamedEnds roles old new status
-  -- status 3: the files are loaded, and memory runs out while they are tangled
-  IsUntangled : (files : FileTable) (loaded : FolderRead)
-      → LoadGives roles old.folder loaded (Ok files)
-      → TriesToWrite old.stream new.stream no_memory_line
-      → LeavesFolder (moment loaded old.stream) new → status ≡ 3 → NamedEnds roles old new status
-  -- status 0, 1 or 3: the files are loaded and tangled by a session
-  IsTangled : (files : FileTable) (loaded : FolderRead)
-      → LoadGives roles old.folder loaded (Ok files)
-      → SessionEnds files roles (moment loaded old.stream) new status
-      → NamedEnds roles old new status
+-- the files of these names are loaded, and a session of them is started; nothing is written
+pub record StartsSession (roles : RolesRead) (old new : Moment) (session : SessionRead) : Type 0 where
+  pub files : FileTable
+  pub loads : LoadGives roles old.folder new.folder (Ok files)
+  pub started : IsStarted files roles session
+  pub silent : new.stream ≡ old.stream
 
--- how a run ends
-pub data RunEnds (arguments : List (List ℕ)) (old new : Moment) (status : ℕ) : Type 0 where
-  -- status 2: there is no name among the arguments, or more than three
-  IsMisused : names_by_arguments arguments ≡ None → Writes old new usage_line
-      → LeavesFolder old new → status ≡ 2 → RunEnds arguments old new status
-  -- status 3: there is no name, or more than three, and the error stream fails at the usage line
-  IsCutAtUsage : names_by_arguments arguments ≡ None → IsCutOff old new usage_line
-      → LeavesFolder old new → status ≡ 3 → RunEnds arguments old new status
+-- how a run of this program ends that starts no session; `names` are those that its arguments give
+pub data EndsUnstarted (program usage : List ℕ) (names : Option RolesRead)
+    (old new : Moment) (status : ℕ) : Type 0 where
+  -- status 2: the arguments give no names, and the usage is written
+  IsMisused : names ≡ None → Writes old new usage → LeavesFolder old new → status ≡ 2
+      → EndsUnstarted program usage names old new status
+  -- status 3: they give none, and the error stream fails at the usage
+  IsCutAtUsage : names ≡ None → IsCutOff old new usage → LeavesFolder old new → status ≡ 3
+      → EndsUnstarted program usage names old new status
   -- status 3: memory runs out while the arguments are read
-  IsUnnamed : TriesToWrite old.stream new.stream no_memory_line → LeavesFolder old new → status ≡ 3
+  IsUnnamed : TriesToWrite old.stream new.stream (ending_line program LoadMemory)
+      → LeavesFolder old new → status ≡ 3 → EndsUnstarted program usage names old new status
+  -- status 3: a file can't be read, or is refused, or memory runs out, maybe after loading
+  IsUnloaded : (roles : RolesRead) (ending : LoadEnd) → names ≡ Some roles
+      → LoadGives roles old.folder new.folder (Err ending)
+      → TriesToWrite old.stream new.stream (ending_line program ending) → status ≡ 3
+      → EndsUnstarted program usage names old new status
+
+-- how a run of `ctangle` ends
+pub data RunEnds (arguments : List (List ℕ)) (old new : Moment) (status : ℕ) : Type 0 where
+  -- status 2 or 3: no session is started
+  IsUnstarted : EndsUnstarted (codes "ctangle") usage_line (names_by_arguments arguments) old new
+      status → RunEnds arguments old new status
+  -- status 0, 1 or 3: a session is started, which gives the faults and the outputs
+  IsTangled : (roles : RolesRead) (started : Moment) (session : SessionRead)
+      → names_by_arguments arguments ≡ Some roles → StartsSession roles old started session
+      → SessionEnds session.files session.roles started new status
       → RunEnds arguments old new status
-  -- the arguments give names
-  IsNamed : (roles : RolesRead) → names_by_arguments arguments ≡ Some roles
-      → NamedEnds roles old new status → RunEnds arguments old new status
+
+-- How a run of `retangle` ends. `before` and `after` give the conversation at its two ends, for each
+-- state of a session: what the writer of the answers and the reader of the script report then.
+pub data RetangleEnds (arguments : List Text) (old new : Moment)
+    (before after : SessionAndDraft → Conversation SessionAndDraft) (status : ℕ) : Type 0 where
+  -- status 2 or 3: no session is started, nothing of the script is read, and nothing is answered;
+  -- the usage is clap's
+  IsSilent : (usage : List ℕ)
+      → EndsUnstarted (codes "retangle") usage (retangle_names_of arguments) old new status
+      → after ≡ before → RetangleEnds arguments old new before after status
+  -- status 0, 1 or 3: a session is started, which answers the script
+  IsConversation : (roles : RolesRead) (session : SessionRead) (last : SessionAndDraft)
+      → retangle_names_of arguments ≡ Some roles → StartsSession roles old new session
+      → ConversationEnds answers HasError (before (record { session = session; draft = None }))
+      (after last) status → RetangleEnds arguments old new before after status
 
 -- a moment at which nothing was read, created, asked for or written, and nothing failed
 abbrev pub nothing_done : Moment

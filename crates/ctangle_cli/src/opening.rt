@@ -1,18 +1,24 @@
 //! The first steps of both programs: the arguments of the command line, and streams of lines.
 ghost use Rattle.std.specs.Prelude.{◌≡◌};
 
-use std::io::{Error, LineWriter, Write};
-use std::{env, io};
+use std::alloc::AllocError;
+use std::env;
+use std::io::{ErrorKind, LineWriter, Write};
 use tangle_lines::IoSink;
 
-/// The arguments of the command line, the program's name first. No clause says more of them: they
-/// are what the system gives.
+/// The arguments of the command line, the program's name first. If an argument is not UTF-8, all
+/// are left out, so that the usage is reported. No clause says more of them: they are what the
+/// system gives.
 ///
 /// # Errors
 ///
-/// The error of the system: out of memory, or an argument that is not UTF-8.
-pub fn command_line(rt: &HostRuntime) -> io::Result<Vec<String>> {
-    env::args(rt)?.collect(rt.alloc()).map_err(Error::from)
+/// `AllocError` where an allocation failed.
+pub fn command_line(rt: &HostRuntime) -> Result<Vec<String>, AllocError> {
+    match env::args(rt) {
+        Ok(arguments) => arguments.collect(rt.alloc()),
+        Err(error) if error.kind() == ErrorKind::OutOfMemory => Err(AllocError),
+        Err(_) => Ok(Vec::new(rt.alloc())),
+    }
 }
 
 /// A sink that passes each whole line on to a stream. Where there is no memory to keep a line, it

@@ -1,9 +1,10 @@
 //! The arguments of a run of `retangle`, which are read by `clap`.
-ghost use Rattle.std.specs.Prelude.{◌≡◌, ◌↔◌, [], Some, codes, false, is_some, map, true, IfErr, IfOk};
+ghost use Rattle.std.specs.Prelude.{◌≡◌, ◌≢◌, ◌↔◌, [], None, Some, codes, false, is_some, map, true};
+ghost use Rattle.std.specs.Prelude.{IfErr, IfOk};
 ghost use Rattle.std.specs.Option.{option_copied, option_map};
 ghost use Rattle.clap.specs.Built.{TakesValue};
 ghost use Rattle.clap.specs.Words.{IsParsedFrom, IsPlainArg, app_of, args_of, first_value};
-ghost use Rattle.clap.specs.Words.{found_of, groups_of, matches_of, rule_of, takes};
+ghost use Rattle.clap.specs.Words.{fault_of, found_of, groups_of, matches_of, rule_of, takes};
 ghost use Rattle.clap.specs.declared.builder.command.Command.TheViews.{out-Command};
 ghost use Rattle.clap.specs.declared.parser.matches.ArgMatches.{ArgMatches};
 ghost use Rattle.ctangle_cli.specs.RetangleArguments.{GivesValues, empty_app, file_rule};
@@ -115,6 +116,10 @@ fn retangle_command<'a>(alloc: Global) -> Result<Command<'a>, AllocError>
 fn read_values<'a, S: AsStr>(alloc: Global, arguments: &'a [S]) -> Result<Values<'a>, RetangleFault>
     ensures ok { IfOk result (λ values. GivesValues
         (matches_of retangle_app (map S.text arguments.entry.now)) values) }
+    ensures faultless { IfOk result
+        (λ _. fault_of retangle_app (map S.text arguments.entry.now) ≡ []) }
+    ensures usage { IfErr result
+        (λ fault. fault ≢ NoMemory → retangle_names_of (map S.text arguments.entry.now) ≡ None) }
     ensures accepted { IfErr result
         (λ fault. takes retangle_app (map S.text arguments.entry.now) ≡ true → fault ≡ NoMemory) }
 {
@@ -149,6 +154,8 @@ fn value_bytes(value: Option<&str>) -> Option<&[u8]>
 /// clap's definition of the command's matches accepts them. `NoMemory` where an allocation failed.
 pub fn read_retangle<S: AsStr>(alloc: Global, arguments: &[S]) -> Result<Words, RetangleFault>
     ensures ok { IfOk result (λ w. retangle_names_of (map S.text arguments.now) ≡ Some w) }
+    ensures usage { IfErr result
+        (λ fault. fault ≢ NoMemory → retangle_names_of (map S.text arguments.now) ≡ None) }
     ensures accepted { IfErr result
         (λ fault. takes retangle_app (map S.text arguments.now) ≡ true → fault ≡ NoMemory) }
 {

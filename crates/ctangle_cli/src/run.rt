@@ -1,18 +1,26 @@
-//! A run of `ctangle`.
-ghost use Rattle.std.specs.Prelude.{◌≡◌, ℕ, List, Ok, map};
+//! Runs of both programs, from their arguments on.
+ghost use Rattle.std.specs.Prelude.{◌≡◌, ℕ, List, Option, None, Some, IfNone, IfSome, codes, map};
+ghost use Rattle.ctangle_cli.specs.Arguments.{names_by_arguments};
 ghost use Rattle.ctangle_cli.specs.Messages.{faults_status};
+ghost use Rattle.tangle_files.specs.Roles.{RolesRead};
 ghost use Rattle.tangle_folders.specs.Folder.{FolderRead};
-ghost use Rattle.tangle_loading.specs.Endings.{LoadGives};
-ghost use Rattle.ctangle_cli.specs.Run.{NamedEnds, RunEnds, SessionEnds, moment, nothing_done};
+ghost use Rattle.tangle_script.specs.Script.{conversation};
+ghost use Rattle.ctangle_cli.specs.Run.{EndsUnstarted, RetangleEnds, RunEnds, SessionEnds};
+ghost use Rattle.ctangle_cli.specs.Run.{StartsSession, moment, nothing_done};
 
 use crate::arguments::{WordFault, Words, read_words};
-use crate::messages::{write_faults_at_once, write_load, write_unwritten, write_usage};
+use crate::conversation::run_retangle;
+use crate::messages::{say, write_faults_at_once, write_load, write_unwritten, write_usage};
+use crate::retangle_names::{RetangleFault, read_retangle};
 use crate::writing::create_outputs;
+use clap::Error;
 use std::alloc::Global;
+use std::convert::AsStr;
 use std::mem::forget;
 use tangle_folders::Folder;
-use tangle_lines::{Fault, Files, Roles, Sink};
+use tangle_lines::{Fault, Feed, Sink};
 use tangle_loading::{LoadFault, load};
+use tangle_script::SinkFailed;
 use tangle_session::Session;
 
 fn status(faults: &[Fault]) -> u8
@@ -67,44 +75,52 @@ fn unstarted(status: u8) -> Ended
     }
 }
 
-// Starts a session of the loaded files, and writes its faults and outputs. The files have the web
-// and the change file, if one is named, so only an allocation can fail at the start.
-fn run_loaded<F: Folder, E: Sink>(
+// Loads the files of these names, and starts a session of them. Where that fails it writes why. The
+// loaded files have the web and the change file, if one is named, so only an allocation can fail at
+// the start.
+fn start_session<F: Folder, E: Sink>(
     alloc: Global,
-    files: Files,
-    roles: Roles,
+    program: &[u8],
+    names: &Words,
     folder: &mut F,
     err: &mut E,
-) -> Ended
-    ensures { (begun : FolderRead) → LoadGives roles begun (F.state folder.old) (Ok files)
-        → NamedEnds roles (moment begun (E.stream err.old))
+) -> Option<Session>
+    ensures started { IfSome result (λ session. StartsSession names.now
+        (moment (F.state folder.old) (E.stream err.old))
+        (moment (F.state folder.new) (E.stream err.new)) session) }
+    ensures unstarted { IfNone result
+        ((usage : List ℕ) → EndsUnstarted program.now usage (Some names.now)
+        (moment (F.state folder.old) (E.stream err.old))
+        (moment (F.state folder.new) (E.stream err.new)) 3) }
+{
+    match load(alloc, names, folder) {
+        Err(fault) => {
+            let _ = write_load(program, &fault, err);
+            None
+        }
+        Ok((files, roles)) => match Session::start(alloc, files, roles) {
+            Err(_) => {
+                let _ = write_load(program, &LoadFault::NoMemory, err);
+                None
+            }
+            Ok(session) => Some(session),
+        },
+    }
+}
+
+// Starts a session of the files of these names, and writes its faults and outputs.
+fn run_named<F: Folder, E: Sink>(alloc: Global, names: &Words, folder: &mut F, err: &mut E) -> Ended
+    ensures { (arguments : List (List ℕ)) → names_by_arguments arguments ≡ Some names.now
+        → RunEnds arguments (moment (F.state folder.old) (E.stream err.old))
         (moment (F.state folder.new) (E.stream err.new)) result.status }
 {
-    match Session::start(alloc, files, roles) {
-        Err(_) => {
-            let _ = write_load(b"ctangle", &LoadFault::NoMemory, err);
-            unstarted(3)
-        }
-        Ok(session) => {
+    match start_session(alloc, b"ctangle", names, folder, err) {
+        None => unstarted(3),
+        Some(session) => {
             let status = run_session(alloc, &session, folder, err);
             let session = Some(session);
             Ended { status, session }
         }
-    }
-}
-
-// Loads the files of these names, starts a session of them, and writes its faults and outputs.
-fn run_named<F: Folder, E: Sink>(alloc: Global, names: &Words, folder: &mut F, err: &mut E) -> Ended
-    ensures { NamedEnds names.now
-        (moment (F.state folder.old) (E.stream err.old))
-        (moment (F.state folder.new) (E.stream err.new)) result.status }
-{
-    match load(alloc, names, folder) {
-        Err(fault) => {
-            let _ = write_load(b"ctangle", &fault, err);
-            unstarted(3)
-        }
-        Ok((files, roles)) => run_loaded(alloc, files, roles, folder, err),
     }
 }
 
@@ -138,7 +154,8 @@ fn run_keeping_session<F: Folder, E: Sink>(
 /// and then each output into the folder, the main file first. The status is 0, or 1 where an error
 /// is among the faults. It is 2, with the usage line, where the arguments give no names. It is 3,
 /// with a line that says why, where a file can't be read or written or is refused, or memory runs
-/// out; and 3 where the error stream fails.
+/// out; and 3 where the error stream fails. What a C compiler reads of the outputs is said by the
+/// law [`outputs_are_read_as_written`](crate::outputs_are_read_as_written).
 ///
 /// Of CTANGLE's command line it keeps the three names, their extensions and `-` for no change file;
 /// flags are accepted and have no effect (`docs/programs.md`).
@@ -171,6 +188,64 @@ pub fn run_before_exit<F: Folder, E: Sink>(
     let Ended { status, session } = run_keeping_session(alloc, arguments, folder, err);
     forget(session);
     status
+}
+
+// Writes what `clap` says of arguments that give no names. Returns the status.
+fn write_refused<E: Sink>(alloc: Global, error: &Error, err: &mut E) -> u8
+    ensures { (names : Option RolesRead) (folder : FolderRead) → names ≡ None → (usage : List ℕ)
+        × EndsUnstarted (codes "retangle") usage names (moment folder (E.stream err.old))
+        (moment folder (E.stream err.new)) result }
+{
+    let Ok(usage) = error.to_string(alloc) else {
+        let _ = write_load(b"retangle", &LoadFault::NoMemory, err);
+        return 3;
+    };
+    match say(err, &[usage.as_bytes()]) {
+        Ok(()) => 2,
+        Err(SinkFailed) => 3,
+    }
+}
+
+/// Runs `retangle` with these arguments, in a folder and with an error stream, for a program that
+/// ends after the run: the session is not dropped. The first argument is the program's name.
+/// Returns the status.
+///
+/// It loads the files, starts a session of them, and answers the script as [`run_retangle`] does,
+/// with its status. The status is 2, and `clap`'s text is written, where `clap` refuses the
+/// arguments, or they ask for help or the version. It is 3, with a line that says why, where a file
+/// can't be read or is refused, or memory runs out; and 3 where the error stream fails.
+///
+/// CWEB has no such program (`docs/sessions.md`).
+pub fn run_retangle_before_exit<A: AsStr, F: Folder, E: Sink, R: Feed, S: Sink>(
+    alloc: Global,
+    arguments: &[A],
+    folder: &mut F,
+    err: &mut E,
+    feed: &mut R,
+    sink: &mut S,
+) -> u8
+    ensures { RetangleEnds (map A.text arguments.now)
+        (moment (F.state folder.old) (E.stream err.old))
+        (moment (F.state folder.new) (E.stream err.new))
+        (λ s. conversation s (S.stream sink.old) (R.remaining feed.old) (R.failures feed.old))
+        (λ s. conversation s (S.stream sink.new) (R.remaining feed.new) (R.failures feed.new))
+        result }
+{
+    match read_retangle(alloc, arguments) {
+        Err(RetangleFault::Parse(error)) => write_refused(alloc, &error, err),
+        Err(RetangleFault::NoMemory) => {
+            let _ = write_load(b"retangle", &LoadFault::NoMemory, err);
+            3
+        }
+        Ok(names) => match start_session(alloc, b"retangle", &names, folder, err) {
+            None => 3,
+            Some(mut session) => {
+                let status = run_retangle(alloc, &mut session, feed, sink);
+                forget(session);
+                status
+            }
+        },
+    }
 }
 
 /// A run that reads and writes nothing, and in which nothing fails, does not end with status 3. So

@@ -13,18 +13,17 @@ use Rattle.tangle_lines.specs.declared.origin.Origin.{Origin}
 use Rattle.tangle_lines.specs.Reading.{SourceRead}
 use Rattle.tangle_lexer.specs.Steps.{all_tokens}
 use Rattle.tangle_scan.specs.Rules.{texts_of}
-use Rattle.tangle_scan.specs.ReadAsMeant.{all_piece_tokens, all_macro_tokens}
+use Rattle.tangle_scan.specs.ReadAsMeant.{all_macro_tokens}
 use Rattle.tangle_scan.specs.Web.{WebRead, web_of, blocks}
-use Rattle.tangle_names.specs.declared.Resolved.{Resolved}
 use Rattle.tangle_names.specs.NameTable.{TableRead, table_of}
-use Rattle.tangle_plans.specs.Shapes.{Title, Named, Shapes}
+use Rattle.tangle_plans.specs.Shapes.{Title, Named, Shapes, shape_names}
 use Rattle.tangle_plans.specs.Flat.{Symbol, flat, pieces_flat}
 use Rattle.tangle_plans.specs.WebShapes.{ResolvesInside, pieces_of}
 use Rattle.tangle_plans.specs.WebShapes.{shapes}
 use Rattle.tangle_plans.proofs.InsideLemmas.{table_inside}
 use Rattle.tangle_expansion.specs.Limits.{flat_of, levels, IsExpandableNode}
 use Rattle.tangle_expansion.specs.Numbers.{NumbersRead, numbers_of, expansion_bytes}
-use Rattle.tangle_expansion.specs.PieceBytes.{bytes_after_mark, resolved_bytes}
+use Rattle.tangle_expansion.specs.PieceBytes.{bytes_after_mark}
 use Rattle.tangle_expansion.specs.PieceBytes.{piece_bytes}
 use Rattle.tangle_expansion.proofs.SameShapes.{flat_by_uses}
 use Rattle.tangle_c_tokens.specs.Reading.{IsReadAsTexts}
@@ -32,9 +31,11 @@ use Rattle.tangle_c_tokens.specs.Kinds.{AreTexts}
 use Rattle.tangle_c_tokens.proofs.kind_lemmas.WebTexts.{macros-texts}
 use Rattle.tangle_c_tokens.specs.Pieces.{IsReadInParts}
 use Rattle.tangle_c_tokens.specs.Pieces.{Passage, OfPart, parts_in_row, passage_text}
-use Rattle.tangle_c_tokens.specs.Files.{node_texts, numbers_in, shapes_in}
-use Rattle.tangle_c_tokens.specs.Files.{GroupsAreWhole, texts_of_node, NodesAreReadByParts}
-use Rattle.tangle_c_tokens.specs.Files.{FilesAreReadByParts, macro_texts}
+use Rattle.tangle_c_tokens.specs.Files.{FilesAreReadByParts, HasNoLineFeeds, IsWholePiece, MacrosAreWhole}
+use Rattle.tangle_c_tokens.specs.Files.{NodesAreReadByParts, ReachesWholePieces, macro_texts, numbers_in, piece_texts}
+use Rattle.tangle_c_tokens.specs.Files.{shapes_in, texts_of_node, tokens_of_node}
+use Rattle.tangle_c_tokens.proofs.UseLemmas.{each}
+use Rattle.digraph.specs.Reach.{here, on}
 use Rattle.tangle_c_tokens.proofs.TextLemmas.{no-text, feed-front}
 use Rattle.tangle_c_tokens.proofs.RowLemmas.{without-text, nothing}
 use Rattle.tangle_c_tokens.proofs.FeedLemmas.{KeepsFeed, line-of}
@@ -60,8 +61,6 @@ after-texts : (mark : Origin → List ℕ) (texts ts : List (List ℕ)) (rest by
 after-texts mark texts ts rest bytes read all =
     grind (arith, nat_tests, with-texts texts read.row, texts-of mark texts read.row)
 
--- what is written for names
-
 -- the bytes of a node are those of its pieces, as `nodes_are_written_by_pieces` of tangle_expansion
 -- has it
 abbrev pub AreWrittenByPieces : Type 0
@@ -73,8 +72,8 @@ AreWrittenByPieces =
     ≡ flat_map (piece_bytes (numbers_of web table marks) table used web.texts)
     (pieces_of web table node)
 
-module _ (written : AreWrittenByPieces) (source : SourceRead) (modes : MarkMode)
-    (whole : GroupsAreWhole source) where
+module _ (pieces : AreWrittenByPieces) (source : SourceRead) (modes : MarkMode)
+    (feeds : HasNoLineFeeds source) where
   abbrev table : TableRead
   table = table_of (web_of source)
 
@@ -82,101 +81,119 @@ module _ (written : AreWrittenByPieces) (source : SourceRead) (modes : MarkMode)
   numbers = numbers_in source modes
 
   abbrev all_shapes : Shapes
-  all_shapes = shapes_in source modes
+  all_shapes = shapes_in source
+
+  -- the bytes of a node are those of its pieces
+  written : (used : List ℕ → List Symbol) (node : Title)
+      → expansion_bytes numbers (pieces_flat used node 0 (all_shapes node))
+      ≡ flat_map (piece_bytes numbers table used (texts_of source.lines)) (pieces_of (web_of source) table node)
+  written used node = pieces (web_of source) table modes used node (table_inside (web_of source))
 
   mark-lines : (origin : Origin) → IsMarkText (bytes_after_mark numbers origin)
   mark-lines origin = search (rules, mark_end-at, mark-is_line, name-at)
 
-  macros-alone : AllByRecursion (IsAlone source.lines [] [] no-text) (all_macro_tokens source.lines)
-  macros-alone =
-      grind (arith, nat_tests, both (AreTexts (texts_of source.lines)), macros-texts source.lines whole.lines)
+  macros-alone : MacrosAreWhole source → AllByRecursion (IsAlone source.lines [] [] no-text) (all_macro_tokens source.lines)
+  macros-alone whole = both (AreTexts (texts_of source.lines)) _ _ (macros-texts source.lines feeds.lines) whole
 
-  macros-line : IsWholeLine numbers.macros
-  macros-line =
+  macros-line : MacrosAreWhole source → IsWholeLine numbers.macros
+  macros-line whole =
       let all =
       macros-whole source.lines [] [] no-text
-      (blocks 0 (all_tokens source.lines)) macros-alone in
+      (blocks 0 (all_tokens source.lines)) (macros-alone whole) in
       search (rules, line-of, macros-keep)
-
-  resolved-line : (used : List ℕ → List Symbol)
-      → ((name : List ℕ) → IsWholeLine (expansion_bytes numbers (used name))) →
-      (r : Resolved) → IsWholeLine (resolved_bytes numbers table used r)
-  resolved-line used lines r = search rules
 
   abbrev mark_text : Origin → List ℕ
   mark_text origin = bytes_after_mark numbers origin
 
   abbrev texts_by : (List ℕ → List Symbol) → Title → List (List ℕ)
   texts_by used node =
-      node_texts numbers table used (texts_of source.lines) node (web_of source).pieces
-      (all_piece_tokens source.lines)
+      flat_map (piece_texts numbers table used (texts_of source.lines)) (tokens_of_node source node)
 
-  node-by-parts : (used : List ℕ → List Symbol)
-      → ((name : List ℕ) → IsWholeLine (expansion_bytes numbers (used name))) → (node : Title) →
+  -- what is written for the names that a node uses is whole
+  abbrev AreWholeNames : (List ℕ → List Symbol) → Title → Type 0
+  AreWholeNames used node =
+      AllByRecursion (λ name. IsWholeLine (expansion_bytes numbers (used name))) (shape_names (all_shapes node))
+
+  node-by-parts : (used : List ℕ → List Symbol) (node : Title)
+      → AllByRecursion (IsWholePiece source) (tokens_of_node source node) → AreWholeNames used node →
       (tail : List ℕ) (us : List (List ℕ)) → IsReadInParts mark_text us tail →
       IsReadInParts mark_text (texts_by used node ++ us)
       (expansion_bytes numbers (pieces_flat used node 0 (all_shapes node)) ++ tail)
-  node-by-parts used lines node tail us read =
+  node-by-parts used node whole names tail us read =
       subst (λ bytes. IsReadInParts mark_text (texts_by used node ++ us) (bytes ++ tail))
-      (sym (written (web_of source) table modes used node (table_inside (web_of source))))
-      (search (rules, node-read, mark-lines, resolved-line, macros-line))
+      (sym (written used node))
+      (node-read source numbers table used mark-lines macros-line node tail us read
+      (blocks 0 (all_tokens source.lines)) (whole, names))
 
-  node-keeps : (used : List ℕ → List Symbol)
-      → ((name : List ℕ) → IsWholeLine (expansion_bytes numbers (used name))) → (node : Title) →
-      KeepsFeed (expansion_bytes numbers (pieces_flat used node 0 (all_shapes node)))
-  node-keeps used lines node =
+  node-keeps : (used : List ℕ → List Symbol) (node : Title)
+      → KeepsFeed (expansion_bytes numbers (pieces_flat used node 0 (all_shapes node)))
+  node-keeps used node =
       subst KeepsFeed
-      (sym (written (web_of source) table modes used node (table_inside (web_of source))))
-      (search (rules, pieces-keep, mark-lines, resolved-line, macros-line))
+      (sym (written used node))
+      (pieces-keep source numbers table used mark-lines macros-line (pieces_of (web_of source) table node))
 
-  used-lines : (fuel : ℕ) (name : List ℕ)
+  -- what a node reaches its names reach
+  names-by : (used : List ℕ → List Symbol) (node : Title) → ReachesWholePieces source node
+      → ((name : List ℕ) → ReachesWholePieces source (Named name) → IsWholeLine (expansion_bytes numbers (used name)))
+      → AreWholeNames used node
+  names-by used node reaches line =
+      each (λ name. IsWholeLine (expansion_bytes numbers (used name))) (shape_names (all_shapes node))
+      (λ name uses. line name (λ other onward. reaches other (on uses onward)))
+
+  -- what a name expands to is whole, if it reaches whole pieces
+  name-line : (fuel : ℕ) (name : List ℕ) → ReachesWholePieces source (Named name)
       → IsWholeLine (expansion_bytes numbers (flat fuel all_shapes (Named name)))
-  used-lines zero name = record { whole = refl; kept = refl }
-  used-lines (suc fuel) name =
+  name-line zero name reaches = record { whole = refl; kept = refl }
+  name-line (suc fuel) name reaches =
       let used : List ℕ → List Symbol = λ name. flat fuel all_shapes (Named name) in
       let bytes : List ℕ = expansion_bytes numbers (flat (suc fuel) all_shapes (Named name)) in
-      let read = node-by-parts used (used-lines fuel) (Named name) [] [] (nothing mark_text) in
-      grind (arith, nat_tests, append-nil bytes, node-keeps used, used-lines fuel)
+      let read = node-by-parts used (Named name) (reaches (Named name) here)
+      (names-by used (Named name) reaches (name-line fuel)) [] [] (nothing mark_text) in
+      grind (arith, nat_tests, append-nil bytes, node-keeps used)
 
-  node-then : (node : Title) → IsExpandableNode all_shapes node → (tail : List ℕ)
-      → IsReadInParts mark_text [] tail →
-      IsReadInParts mark_text (texts_of_node source modes node)
+  node-then : (node : Title) → IsExpandableNode all_shapes node → ReachesWholePieces source node
+      → (tail : List ℕ) (us : List (List ℕ)) → IsReadInParts mark_text us tail →
+      IsReadInParts mark_text (texts_of_node source modes node ++ us)
       (expansion_bytes numbers (flat_of all_shapes node) ++ tail)
-  node-then node expandable tail read =
+  node-then node expandable reaches tail us read =
       let used : List ℕ → List Symbol = λ name. flat_of all_shapes (Named name) in
-      subst (λ us. IsReadInParts mark_text us (expansion_bytes numbers (flat_of all_shapes node) ++ tail))
-      (append-nil (texts_by used node))
-      (subst (λ symbols. IsReadInParts mark_text (texts_by used node ++ [])
+      subst (λ symbols. IsReadInParts mark_text (texts_by used node ++ us)
       (expansion_bytes numbers symbols ++ tail))
       (sym (flat_by_uses levels all_shapes node expandable.shallow))
-      (node-by-parts used (used-lines levels) node tail [] read))
+      (node-by-parts used node (reaches node here) (names-by used node reaches (name-line levels)) tail us read)
 
   pub node-is_read : NodesAreReadByParts source modes
-  node-is_read node expandable =
-      subst (IsReadInParts mark_text (texts_of_node source modes node))
+  node-is_read node expandable reaches =
+      subst (λ us. IsReadInParts mark_text us (expansion_bytes numbers (flat_of all_shapes node)))
+      (append-nil (texts_of_node source modes node))
+      (subst (IsReadInParts mark_text (texts_of_node source modes node ++ []))
       (append-nil (expansion_bytes numbers (flat_of all_shapes node)))
-      (node-then node expandable [] (nothing mark_text))
+      (node-then node expandable reaches [] [] (nothing mark_text)))
 
   abbrev bytes_in_file : Bool → Title → List ℕ
   bytes_in_file has_piece node =
       if has_piece then expansion_bytes numbers (flat_of all_shapes node) ++ line_feed ∷ [] else []
 
-  node-in-file : (has_piece : Bool) (node : Title)
-      → (has_piece ≡ true → IsExpandableNode all_shapes node) →
+  abbrev IsReady : Title → Type 0
+  IsReady node = IsExpandableNode all_shapes node × ReachesWholePieces source node
+
+  node-in-file : (has_piece : Bool) (node : Title) → (has_piece ≡ true → IsReady node) →
       IsReadInParts mark_text (if has_piece then texts_of_node source modes node else [])
       (bytes_in_file has_piece node)
-  node-in-file false node expandable = nothing mark_text
-  node-in-file true node expandable =
-      node-then node (expandable refl) (line_feed ∷ [])
-      (without-text mark_text (line_feed ∷ []) [] [] (feed-front []) (nothing mark_text))
+  node-in-file false node ready = nothing mark_text
+  node-in-file true node ready =
+      subst (λ us. IsReadInParts mark_text us (bytes_in_file true node))
+      (append-nil (texts_of_node source modes node))
+      (node-then node (ready refl).0 (ready refl).1 (line_feed ∷ []) []
+      (without-text mark_text (line_feed ∷ []) [] [] (feed-front []) (nothing mark_text)))
 
   pub file-is_read : FilesAreReadByParts source modes
-  file-is_read false has_piece node expandable = node-in-file has_piece node expandable
-  file-is_read true has_piece node expandable =
+  file-is_read false has_piece node whole ready = node-in-file has_piece node ready
+  file-is_read true has_piece node whole ready =
       let rest : List ℕ = bytes_in_file has_piece node in
-      let read = node-in-file has_piece node expandable in
+      let read = node-in-file has_piece node ready in
       after-texts mark_text
       (flat_map (macro_texts (texts_of source.lines)) (all_macro_tokens source.lines))
       (if has_piece then texts_of_node source modes node else []) rest (numbers.macros ++ rest) read
       (macros-whole source.lines rest (map (passage_text mark_text) read.row) read.read
-      (blocks 0 (all_tokens source.lines)) macros-alone)
+      (blocks 0 (all_tokens source.lines)) (macros-alone (whole refl)))

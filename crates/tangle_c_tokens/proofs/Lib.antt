@@ -11,6 +11,8 @@ pub mod WorkedPieces
 pub mod DecimalLemmas
 pub mod CommentLemmas
 pub mod PartLemmas
+pub mod UseLemmas
+pub mod TableLemmas
 pub mod FeedLemmas
 pub mod MarkLemmas
 pub mod AllMacroLemmas

@@ -3,7 +3,6 @@ use Rattle.tangle_c_tokens.proofs.TextLemmas.{apart-from}
 use Rattle.tangle_c_tokens.proofs.TextLemmas.{keep-other}
 use Rattle.tangle_c_tokens.proofs.TextLemmas.{slash-border}
 use Rattle.std.proofs.Common.{rules}
-use Rattle.std.proofs.Common.{arith}
 use Rattle.tangle_c_tokens.proofs.TextLemmas.{IsMarkText, IsWholeLine}
 use Rattle.std.proofs.Common.{◌≡◌, ℕ, Bool, true, false, if◌then◌else◌, List, [], ◌∷◌}
 use Rattle.std.proofs.Common.{◌++◌, map, drop, flat_map}
@@ -13,28 +12,30 @@ use Rattle.std.specs.List.{AllByRecursion}
 use Rattle.c_tokens.specs.Bytes.{line_feed}
 use Rattle.tangle_files.specs.declared.marks.MarkMode.{MarkMode}
 use Rattle.tangle_lines.specs.declared.origin.Origin.{Origin}
-use Rattle.tangle_lines.specs.Reading.{SourceLine, origin_at}
+use Rattle.tangle_lines.specs.Reading.{SourceLine, SourceRead, origin_at}
 use Rattle.tangle_lexer.specs.declared.tokens.Token.{Token}
 use Rattle.tangle_scan.specs.Rules.{texts_of, part_tokens, part_items}
 use Rattle.tangle_scan.specs.Web.{PieceRead, Block, BlockKind, piece_of}
 use Rattle.tangle_scan.specs.Web.{kind_piece}
 use Rattle.tangle_scan.specs.Web.BlockKind.{OfMacro, OfPiece}
 use Rattle.tangle_names.specs.NameTable.{TableRead}
-use Rattle.tangle_plans.specs.Shapes.{Title}
+use Rattle.tangle_plans.specs.Shapes.{Title, shape_names}
 use Rattle.tangle_plans.specs.Flat.{Symbol}
-use Rattle.tangle_plans.specs.WebShapes.{is_piece_of}
+use Rattle.tangle_plans.specs.WebShapes.{is_piece_of, shape_of}
+use Rattle.tangle_scan.specs.declared.items.Item.{Item}
 use Rattle.tangle_expansion.specs.Numbers.{NumbersRead, mark_bytes}
 use Rattle.tangle_expansion.specs.Numbers.{mark_bytes_at}
 use Rattle.tangle_expansion.specs.Numbers.{opening_bytes, closing_bytes}
 use Rattle.tangle_expansion.specs.PieceBytes.{bytes_after_mark, used_bytes}
 use Rattle.tangle_expansion.specs.PieceBytes.{items_bytes, piece_bytes}
 use Rattle.tangle_c_tokens.specs.Pieces.{parts, IsReadInParts, IsWholePart}
-use Rattle.tangle_c_tokens.specs.Files.{piece_texts, node_texts}
+use Rattle.tangle_c_tokens.specs.Files.{IsWholePiece, MacrosAreWhole, node_tokens, piece_texts}
 use Rattle.tangle_c_tokens.proofs.TextLemmas.{feed-front}
 use Rattle.tangle_c_tokens.proofs.CommentLemmas.{after-opening, after-closing}
 use Rattle.tangle_c_tokens.proofs.RowLemmas.{with-mark, without-text}
 use Rattle.tangle_c_tokens.proofs.PieceLemmas.{piece-by-parts}
-use Rattle.tangle_c_tokens.proofs.PartLemmas.{parts-whole}
+use Rattle.tangle_c_tokens.proofs.PartLemmas.{parts-whole, uses-whole}
+use Rattle.tangle_c_tokens.proofs.UseLemmas.{IsWholeName, all-back, all-front, names_in, part-uses-whole}
 use Rattle.tangle_c_tokens.proofs.FeedLemmas.{KeepsFeed, keeps-more, closing-keeps}
 
 line_feed_first : (marks : MarkMode) (ending : List ℕ) (line : ℕ)
@@ -44,36 +45,51 @@ line_feed_first marks ending line = search rules
 grouped : (o m i c rest : List ℕ) → (o ++ m ++ i ++ c) ++ rest ≡ o ++ (m ++ (i ++ (c ++ rest)))
 grouped o m i c rest = simp append_assoc
 
-module _ (lines : List SourceLine) (numbers : NumbersRead) (table : TableRead)
+module _ (source : SourceRead) (numbers : NumbersRead) (table : TableRead)
     (used : List ℕ → List Symbol)
     (marks : (origin : Origin) → IsMarkText (bytes_after_mark numbers origin))
-    (used_whole : (occurrence : ℕ) → IsWholeLine (used_bytes numbers table used occurrence))
-    (macros_whole : IsWholeLine numbers.macros) where
+    (macros_whole : MacrosAreWhole source → IsWholeLine numbers.macros) where
+  abbrev lines : List SourceLine
+  lines = source.lines
+
   abbrev pub mark : Origin → List ℕ
   mark origin = bytes_after_mark numbers origin
 
   abbrev pub bytes_of : PieceRead → List ℕ
   bytes_of piece = piece_bytes numbers table used (texts_of lines) piece
 
-  abbrev pub IsBare : List Token → Type 0
-  IsBare es =
-      AllByRecursion (IsWholePart (texts_of lines) (λ occurrence. []) [])
-      (parts (texts_of lines) es)
-
   abbrev pub texts_in : List Token → List (List ℕ)
   texts_in es = piece_texts numbers table used (texts_of lines) es
+
+  abbrev AreWholeNames : List Item → Type 0
+  AreWholeNames items = AllByRecursion (IsWholeName lines numbers table used) (names_in lines numbers table used items)
+
+  -- the parts of a piece with its uses
+  parts-of : (line : ℕ) (es : List Token) → IsWholePiece source (part_tokens (texts_of lines) es)
+      → AreWholeNames (part_items lines line es)
+      → AllByRecursion (IsWholePart (texts_of lines) (used_bytes numbers table used) numbers.macros)
+      (parts (texts_of lines) (part_tokens (texts_of lines) es))
+  parts-of line es whole names =
+      let tokens = part_tokens (texts_of lines) es in
+      let written = used_bytes numbers table used in
+      parts-whole (texts_of lines) written numbers.macros [] tokens refl
+      (uses-whole (texts_of lines) written numbers.macros tokens
+      (part-uses-whole lines numbers table used line es names)
+      (λ is. macros_whole (whole.macros is)))
+      whole.groups
 
   -- a piece, and what is written after it
   piece-read : (section line : ℕ) (origin : Origin) (es : List Token) (rest : List ℕ)
       (ts : List (List ℕ)) →
-      IsBare (part_tokens (texts_of lines) es) → IsReadInParts mark ts rest →
+      IsWholePiece source (part_tokens (texts_of lines) es) → AreWholeNames (part_items lines line es)
+      → IsReadInParts mark ts rest →
       IsReadInParts mark (texts_in (part_tokens (texts_of lines) es) ++ ts)
       ((opening_bytes section ++ mark_bytes_at numbers origin
       ++ items_bytes numbers table used (texts_of lines)
       (part_items lines line es) ++ closing_bytes section) ++ rest)
-  piece-read section line origin es rest ts bare read =
+  piece-read section line origin es rest ts whole names read =
       let tail = closing_bytes section ++ rest in
-      let marked = with-mark mark origin ((items_bytes numbers table used (texts_of lines) (part_items lines line es)) ++ tail) (texts_in (part_tokens (texts_of lines) es) ++ ts) (marks origin) (piece-by-parts lines (λ occurrence. used_bytes numbers table used occurrence) mark numbers.macros marks tail ts (without-text mark tail rest ts (after-closing section rest) read) ((λ a whole ends. (search (rules, apart-from, keep-other, slash-border)))) line es (search (rules, parts-whole))) in
+      let marked = with-mark mark origin ((items_bytes numbers table used (texts_of lines) (part_items lines line es)) ++ tail) (texts_in (part_tokens (texts_of lines) es) ++ ts) (marks origin) (piece-by-parts lines (λ occurrence. used_bytes numbers table used occurrence) mark numbers.macros marks tail ts (without-text mark tail rest ts (after-closing section rest) read) ((λ a whole ends. (search (rules, apart-from, keep-other, slash-border)))) line es (parts-of line es whole names)) in
       search (rules, grouped, line_feed_first, without-text, after-opening, feed-front)
 
   -- the bytes of pieces do not end in a backslash
@@ -89,19 +105,24 @@ module _ (lines : List SourceLine) (numbers : NumbersRead) (table : TableRead)
     node_bytes pieces = flat_map bytes_of (filter (is_piece_of table node) pieces) ++ tail
 
     abbrev pub texts_then : List PieceRead → List (List Token) → List (List ℕ)
-    texts_then pieces tokens =
-        node_texts numbers table used (texts_of lines) node pieces tokens ++ us
+    texts_then pieces tokens = flat_map texts_in (node_tokens table node pieces tokens) ++ us
+
+    -- the pieces of the node among these are whole, and so is what is written for their uses
+    abbrev pub AreReady : List PieceRead → List (List Token) → Type 0
+    AreReady pieces tokens =
+        AllByRecursion (IsWholePiece source) (node_tokens table node pieces tokens)
+        × AllByRecursion (IsWholeName lines numbers table used)
+        (shape_names (shape_of (texts_of lines) table (filter (is_piece_of table node) pieces)))
 
     pub node-read : (bs : List Block) →
-        AllByRecursion IsBare
-        (flat_map
-        (λ b. map (λ p. part_tokens (texts_of lines) b.tokens) (piece_of lines b)) bs) →
+        AreReady (flat_map (piece_of lines) bs)
+        (flat_map (λ b. map (λ p. part_tokens (texts_of lines) b.tokens) (piece_of lines b)) bs) →
         IsReadInParts mark
         (texts_then (flat_map (piece_of lines) bs)
         (flat_map (λ b. map (λ p. part_tokens (texts_of lines) b.tokens) (piece_of lines b)) bs))
         (node_bytes (flat_map (piece_of lines) bs))
-    node-read [] bare = tail_read
-    node-read (b ∷ bs) bare = by b.kind (node-read bs) bare
+    node-read [] ready = tail_read
+    node-read (b ∷ bs) ready = by b.kind (node-read bs) ready
       where
         all : List PieceRead
         all = flat_map (piece_of lines) bs
@@ -111,34 +132,53 @@ module _ (lines : List SourceLine) (numbers : NumbersRead) (table : TableRead)
             (λ b. map (λ p. part_tokens (texts_of lines) b.tokens) (piece_of lines b)) bs
 
         ts : List (List ℕ)
-        ts = node_texts numbers table used (texts_of lines) node all each
+        ts = flat_map texts_in (node_tokens table node all each)
 
         later : List ℕ
         later = flat_map bytes_of (filter (is_piece_of table node) all)
 
-        chosen : (piece : PieceRead) (es : List Token) (is : Bool)
-            → IsReadInParts mark (ts ++ us) (later ++ tail) →
-            IsReadInParts mark (texts_in es ++ (ts ++ us)) (bytes_of piece ++ (later ++ tail)) →
-            IsReadInParts mark (((if is then texts_in es else []) ++ ts) ++ us)
+        es : List Token
+        es = part_tokens (texts_of lines) b.tokens
+
+        chosen : (line : ℕ) (piece : PieceRead) (is : Bool)
+            → piece ≡ record { section = b.section; origin = origin_at lines line; occurrence = piece.occurrence; items = part_items lines line b.tokens }
+            → (AreReady all each → IsReadInParts mark (ts ++ us) (later ++ tail))
+            → AllByRecursion (IsWholePiece source) ((if is then es ∷ [] else []) ++ node_tokens table node all each)
+            → AllByRecursion (IsWholeName lines numbers table used)
+            (shape_names (shape_of (texts_of lines) table
+            (cond is (piece ∷ filter (is_piece_of table node) all) (filter (is_piece_of table node) all))))
+            → IsReadInParts mark (flat_map texts_in ((if is then es ∷ [] else []) ++ node_tokens table node all each) ++ us)
             (flat_map bytes_of
             (cond is (piece ∷ filter (is_piece_of table node) all)
             (filter (is_piece_of table node) all)) ++ tail)
-        chosen piece es true rest read =
+        chosen line piece true same next whole names =
+            let own = names_in lines numbers table used piece.items in
+            let others = shape_names (shape_of (texts_of lines) table (filter (is_piece_of table node) all)) in
+            let IsName = IsWholeName lines numbers table used in
             subst (IsReadInParts mark ((texts_in es ++ ts) ++ us))
             (sym (append_assoc (bytes_of piece) later tail))
             (subst (λ ws. IsReadInParts mark ws (bytes_of piece ++ (later ++ tail)))
-            (sym (append_assoc (texts_in es) ts us)) read)
-        chosen piece es false rest read = rest
+            (sym (append_assoc (texts_in es) ts us))
+            (subst (λ (p : PieceRead). IsReadInParts mark (texts_in es ++ (ts ++ us)) (bytes_of p ++ (later ++ tail))) (sym same)
+            (piece-read b.section line (origin_at lines line) b.tokens (later ++ tail) (ts ++ us) whole.0
+            (subst (λ (p : PieceRead). AreWholeNames p.items) same (all-front IsName own others names))
+            (next (whole.1, all-back IsName own others names)))))
+        chosen line piece false same next whole names = next (whole, names)
 
         by : (kind : BlockKind)
-            → (AllByRecursion IsBare each → IsReadInParts mark (ts ++ us) (later ++ tail)) →
-            AllByRecursion IsBare
-            (map (λ p. part_tokens (texts_of lines) b.tokens)
-            (kind_piece lines kind b) ++ each) →
+            → (AreReady all each → IsReadInParts mark (ts ++ us) (later ++ tail)) →
+            AreReady (kind_piece lines kind b ++ all)
+            (map (λ p. part_tokens (texts_of lines) b.tokens) (kind_piece lines kind b) ++ each) →
             IsReadInParts mark
             (texts_then (kind_piece lines kind b ++ all)
             (map (λ p. part_tokens (texts_of lines) b.tokens) (kind_piece lines kind b) ++ each))
             (node_bytes (kind_piece lines kind b ++ all))
-        by (OfMacro line) next bare = next bare
-        by (OfPiece occurrence line) next bare =
-            grind (arith, chosen, piece-read b.section line (origin_at lines line) b.tokens (later ++ tail) (ts ++ us) bare.0)
+        by (OfMacro line) next ready = next ready
+        by (OfPiece occurrence line) next ready =
+            let piece : PieceRead = record {
+              section = b.section;
+              origin = origin_at lines line;
+              occurrence = occurrence;
+              items = part_items lines line b.tokens;
+            } in
+            chosen line piece (is_piece_of table node piece) refl next ready.0 ready.1

@@ -4,22 +4,39 @@ use Rattle.std.proofs.Common.{arith}
 use Rattle.tangle_c_tokens.proofs.TextLemmas.{IsWholeLine}
 use Rattle.std.proofs.Common.{◌≡◌, ℕ, Bool, true, false, ◌&&◌, not, if◌then◌else◌, List, [], ◌∷◌}
 use Rattle.std.proofs.Common.{◌++◌, refl, sym, subst, None}
-use Rattle.std.proofs.Common.{append-nil}
-use Rattle.std.specs.List.{AllByRecursion, last_or, list_all}
+use Rattle.std.proofs.Common.{append-nil, flat_map}
+use Rattle.std.specs.List.{AllByRecursion, last_or, list_all, list_any}
 use Rattle.std.proofs.lemmas.Bool.{and_from}
 use Rattle.tangle_lexer.specs.declared.tokens.Token.{Token}
 use Rattle.tangle_lexer.specs.declared.tokens.Token.TheVariants as token
 use Rattle.tangle_scan.specs.Rules.{is_continued, ends_line}
 use Rattle.tangle_scan.specs.ReadAsMeant.{token_bytes}
+use Rattle.tangle_scan.specs.Web.{is_all_macros}
 use Rattle.tangle_c_tokens.specs.Groups.{Group, group_before}
 use Rattle.tangle_lexer.specs.LinesOfParts.{is_use}
 use Rattle.tangle_c_tokens.specs.Pieces.{parts_after, written_for, part_text}
 use Rattle.tangle_c_tokens.specs.Pieces.{IsWholePart}
 use Rattle.std.proofs.lemmas.Bool.Decides.{nat_tests}
 
-module _ (texts : List (List ℕ)) (used : ℕ → List ℕ) (macros : List ℕ)
-    (used_whole : (occurrence : ℕ) → IsWholeLine (used occurrence))
-    (macros_whole : IsWholeLine macros) where
+-- the occurrences of these uses
+abbrev pub token_uses : Token → List ℕ
+token_uses (token.UseOf line occurrence) = occurrence ∷ []
+token_uses _ = []
+
+module _ (texts : List (List ℕ)) (used : ℕ → List ℕ) (macros : List ℕ) where
+  -- what is written for a use or @h is a whole line
+  abbrev pub IsWholeUse : Token → Type 0
+  IsWholeUse (token.UseOf line occurrence) = IsWholeLine (used occurrence)
+  IsWholeUse (token.AllMacros line) = IsWholeLine macros
+  IsWholeUse _ = Unit {0}
+
+  pub uses-whole : (es : List Token) → AllByRecursion (λ o. IsWholeLine (used o)) (flat_map token_uses es)
+      → (list_any is_all_macros es ≡ true → IsWholeLine macros) → AllByRecursion IsWholeUse es
+  uses-whole [] uses all = tt
+  uses-whole (token.UseOf line occurrence ∷ es) uses all = (uses.0, uses-whole es uses.1 all)
+  uses-whole (token.AllMacros line ∷ es) uses all = (all refl, uses-whole es uses (λ h. all refl))
+  uses-whole (e ∷ es) uses all = assumption (tt, uses-whole es uses all)
+
   abbrev IsBare : Group → Type 0
   IsBare part = IsWholePart texts (λ occurrence. []) [] part
 
@@ -59,18 +76,18 @@ module _ (texts : List (List ℕ)) (used : ℕ → List ℕ) (macros : List ℕ)
   more-items [] e are item = and_from (not (is_use e)) true item refl
   more-items (x ∷ items) e are item = grind (arith, nat_tests, more-items items)
 
-  pub parts-whole : (items es : List Token) → AreItems items
+  pub parts-whole : (items es : List Token) → AreItems items → AllByRecursion IsWholeUse es
       → AllByRecursion IsBare (parts_after texts items es) →
       AllByRecursion IsWhole (parts_after texts items es)
-  parts-whole items [] are bare = alone items are bare
+  parts-whole items [] are uses bare = alone items are bare
     where
       alone : (items : List Token) → AreItems items → AllByRecursion IsBare (group_before [] items)
           → AllByRecursion IsWhole (group_before [] items)
       alone [] are bare = search rules
       alone (e ∷ items) are bare = search (rules, whole-group)
-  parts-whole items (token.White ∷ es) are bare =
-      by (is_continued texts (last_or None items) && ends_line es) (parts-whole items es are)
-      (parts-whole [] es refl) bare
+  parts-whole items (token.White ∷ es) are uses bare =
+      by (is_continued texts (last_or None items) && ends_line es) (parts-whole items es are uses.1)
+      (parts-whole [] es refl uses.1) bare
     where
       by : (b : Bool)
           → (AllByRecursion IsBare (parts_after texts items es)
@@ -86,11 +103,11 @@ module _ (texts : List (List ℕ)) (used : ℕ → List ℕ) (macros : List ℕ)
       by true same next bare = search rules
       by false same next bare =
           search (rules, whole-groups)
-  parts-whole items (token.LineEnd line ∷ es) are bare =
+  parts-whole items (token.LineEnd line ∷ es) are uses bare =
       by (is_continued texts (last_or None items))
       (parts-whole (items ++ token.LineEnd line ∷ []) es
-      (more-items items (token.LineEnd line) are refl))
-      (parts-whole [] es refl) bare
+      (more-items items (token.LineEnd line) are refl) uses.1)
+      (parts-whole [] es refl uses.1) bare
     where
       more : List Token
       more = items ++ token.LineEnd line ∷ []
@@ -109,23 +126,23 @@ module _ (texts : List (List ℕ)) (used : ℕ → List ℕ) (macros : List ℕ)
       by true same next bare = search rules
       by false same next bare =
           search (rules, whole-groups)
-  parts-whole items (token.UseOf line occurrence ∷ es) are bare =
+  parts-whole items (token.UseOf line occurrence ∷ es) are uses bare =
       let e = token.UseOf line occurrence in
-      let of_use = use-line (used occurrence) (used_whole occurrence) in
+      let of_use = use-line (used occurrence) uses.0 in
       whole-groups items (e ∷ es)
       (record { items = e ∷ []; rest = es } ∷ parts_after texts [] es) are bare
       (λ rest. (
         search rules,
-        parts-whole [] es refl rest.1,
+        parts-whole [] es refl uses.1 rest.1,
       ))
-  parts-whole items (token.AllMacros line ∷ es) are bare =
+  parts-whole items (token.AllMacros line ∷ es) are uses bare =
       let e = token.AllMacros line in
-      let of_use = use-line macros macros_whole in
+      let of_use = use-line macros uses.0 in
       whole-groups items (e ∷ es)
       (record { items = e ∷ []; rest = es } ∷ parts_after texts [] es) are bare
       (λ rest. (
         search rules,
-        parts-whole [] es refl rest.1,
+        parts-whole [] es refl uses.1 rest.1,
       ))
-  parts-whole items (e ∷ es) are bare =
-      grind (arith, nat_tests, parts-whole (items ++ e ∷ []) es (more-items items e are refl) bare)
+  parts-whole items (e ∷ es) are uses bare =
+      assumption (parts-whole (items ++ e ∷ []) es (more-items items e are refl) uses.1 bare)

@@ -1,18 +1,15 @@
--- A whole web whose groups are whole, and what C reads otherwise: a slash at the end of a piece,
+-- A web whose program reaches whole pieces and not one that is open, and what C reads otherwise: a slash at the end of a piece,
 -- and a name with a line feed.
 use Rattle.std.proofs.Common.{arith}
-use Rattle.std.proofs.Common.{◌≡◌, ℕ, ◌+◌, false, List, [], ◌∷◌, ◌++◌, codes, refl}
+use Rattle.std.proofs.Common.{◌≡◌, ℕ, ◌+◌, false, List, [], ◌∷◌, ◌++◌, codes, drop, refl, take}
 use Rattle.std.specs.List.{AllByRecursion}
 use Rattle.c_tokens.specs.Grammar.{is_element, is_token, is_punctuator}
 use Rattle.c_tokens.specs.Reading.{tokens}
 use Rattle.tangle_lines.specs.Reading.{SourceLine, SourceRead}
-use Rattle.tangle_lexer.specs.Steps.{lexeme, tokens_from}
-use Rattle.tangle_scan.specs.Rules.{texts_of}
-use Rattle.tangle_scan.specs.ReadAsMeant.{written_tokens, all_macro_tokens, all_piece_tokens}
-use Rattle.tangle_c_tokens.specs.Groups.{groups}
-use Rattle.tangle_c_tokens.specs.Macros.{IsReadAlone}
-use Rattle.tangle_c_tokens.specs.Pieces.{parts, IsWholePart}
-use Rattle.tangle_c_tokens.specs.Files.{GroupsAreWhole}
+use Rattle.tangle_lexer.specs.Steps.{lexeme, occurrences_from, tokens_from}
+use Rattle.tangle_scan.specs.ReadAsMeant.{all_piece_tokens}
+use Rattle.tangle_plans.specs.Shapes.{Named, Program, shape_names}
+use Rattle.tangle_c_tokens.specs.Files.{IsWholePiece, MacrosAreWhole, shapes_in}
 use Rattle.std.proofs.lemmas.Bool.Decides.{nat_tests}
 
 abbrev lines_from : ℕ → List (List ℕ) → List SourceLine
@@ -21,32 +18,36 @@ lines_from n (bytes ∷ texts) =
     record { bytes = bytes; origin = record { file = 0; line = n }; changed = false } ∷ lines_from
     (n + 1) texts
 
--- a web with a macro over two lines, and a use
+-- a web with a macro over two lines, a use, and a piece that nothing uses, in which a comment is open
 abbrev web : List (List ℕ)
 web =
     codes "@ A." ∷ codes "@d max(a) (a)+" ∷ codes "\"s\"" ∷ codes "@c int b=max(2);"
     ∷ codes "@<Use@>" ∷ codes "@ B."
-    ∷ codes "@<Use@>=" ∷ codes "b/* one */++;" ∷ []
+    ∷ codes "@<Use@>=" ∷ codes "b/* one */++;"
+    ∷ codes "@ C." ∷ codes "@<Other@>=" ∷ codes "@=/*@>" ∷ []
 
 abbrev source : SourceRead
 source = record { files = (codes "a.w", web) ∷ []; lines = lines_from 1 web; faults = [] }
 
-pieces_whole : AllByRecursion
-    (λ es. AllByRecursion (IsWholePart (texts_of source.lines) (λ occurrence. []) [])
-    (parts (texts_of source.lines) es))
-    (all_piece_tokens source.lines)
-unfolding lexeme tokens_from is_element is_token is_punctuator
-pieces_whole = grind (arith, nat_tests)
-
-macros_alone : AllByRecursion
-    (λ es. AllByRecursion (IsReadAlone (texts_of source.lines))
-    (groups (written_tokens (texts_of source.lines) es)))
-    (all_macro_tokens source.lines)
+macros_alone : MacrosAreWhole source
 unfolding lexeme tokens_from is_element is_token is_punctuator
 macros_alone = grind (arith, nat_tests)
 
-whole : GroupsAreWhole source
-whole = grind (arith, nat_tests, pieces_whole, macros_alone)
+-- the pieces of the program and of the name that it uses
+pieces_whole : AllByRecursion (IsWholePiece source) (take 2 (all_piece_tokens source.lines))
+unfolding lexeme tokens_from is_element is_token is_punctuator
+pieces_whole = grind (arith, nat_tests, macros_alone)
+
+-- the program reaches no other name
+names_used : (shape_names (shapes_in source Program) ≡ codes "Use" ∷ [])
+    × (shape_names (shapes_in source (Named (codes "Use"))) ≡ [])
+unfolding lexeme tokens_from occurrences_from
+names_used = (refl, refl)
+
+-- the third piece is not whole
+piece_open : AllByRecursion (IsWholePiece source) (drop 2 (all_piece_tokens source.lines)) → ⊥
+unfolding lexeme tokens_from is_element is_token is_punctuator
+piece_open h = grind (arith, nat_tests)
 
 -- a slash at the end of a piece, directly before the closing mark
 slash_read :

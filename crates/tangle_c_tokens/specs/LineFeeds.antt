@@ -15,3 +15,8 @@ HaveNoLineFeed lines = AllByRecursion (λ l. HasNoLineFeed l.bytes) lines
 -- of the lines of each file
 abbrev pub FilesHaveNoLineFeed : FileTable → Type 0
 FilesHaveNoLineFeed files = AllByRecursion (λ f. AllByRecursion HasNoLineFeed f.1) files
+
+-- no name and no line of a file has a line feed
+pub record HaveNoLineFeeds (files : FileTable) : Type 0 where
+  pub names : AllByRecursion (λ f. HasNoLineFeed f.0) files
+  pub lines : FilesHaveNoLineFeed files

@@ -1,8 +1,12 @@
 //! Laws of webs: the table of what may touch rests on C's grammar of tokens.
-ghost use Rattle.std.specs.Prelude.{◌≡◌, ℕ, List};
+ghost use Rattle.std.specs.Prelude.{◌≡◌, ℕ, List, None};
 ghost use Rattle.std.specs.List.{AllByRecursion};
+ghost use Rattle.tangle_files.specs.Adding.{add_refusal, with_file};
+ghost use Rattle.tangle_files.specs.Edited.{edited};
+ghost use Rattle.tangle_files.specs.Edits.{edit_refusal};
 ghost use Rattle.tangle_files.specs.Lines.{FileTable, cut};
 ghost use Rattle.tangle_files.specs.Roles.{RolesRead};
+ghost use Rattle.tangle_files.specs.declared.edits.Edit.{Edit};
 ghost use Rattle.tangle_lines.specs.Reading.{SourceLine, source_of};
 ghost use Rattle.tangle_text.specs.Text.{texts_of};
 ghost use Rattle.tangle_lexer.specs.Steps.{all_tokens};
@@ -12,7 +16,7 @@ ghost use Rattle.tangle_scan.specs.ReadAsMeant.{all_piece_tokens, all_macro_toke
 ghost use Rattle.c_tokens.specs.Touching.{kinds_may_touch};
 ghost use Rattle.tangle_c_tokens.specs.Kinds.{item_kind, AreTexts};
 ghost use Rattle.tangle_c_tokens.specs.LineFeeds.{HasNoLineFeed, HaveNoLineFeed};
-ghost use Rattle.tangle_c_tokens.specs.LineFeeds.{FilesHaveNoLineFeed};
+ghost use Rattle.tangle_c_tokens.specs.LineFeeds.{FilesHaveNoLineFeed, HaveNoLineFeeds};
 
 /// The table of what may touch is that of the kinds of texts of C's grammar (`table`). Each word
 /// and each sign of a web is a text of its kind. So is each quoted text, with all its ranges,
@@ -31,9 +35,14 @@ pub fn items_are_of_their_kinds()
 {}
 
 /// No line that bytes are cut into has a line feed in it. If no line of the files has one, then
-/// none of the source has.
+/// none of the source has. A file that is added, and an edit that is not refused, bring no line
+/// feed into a name or a line.
 pub fn lines_have_no_line_feeds()
     ensures cut { (bytes : List ℕ) → AllByRecursion HasNoLineFeed (cut bytes) }
     ensures source { (files : FileTable) (roles : RolesRead) → FilesHaveNoLineFeed files
         → HaveNoLineFeed (source_of files roles).lines }
+    ensures added { (files : FileTable) (name bytes : List ℕ) → add_refusal files name bytes ≡ None
+        → HaveNoLineFeeds files → HaveNoLineFeeds (with_file files name bytes) }
+    ensures edited { (files : FileTable) (edit : Edit) → edit_refusal files edit ≡ None
+        → HaveNoLineFeeds files → HaveNoLineFeeds (edited files edit) }
 {}

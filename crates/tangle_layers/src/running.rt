@@ -5,7 +5,6 @@ use crate::layers::{Project, list_layers, store_after};
 use crate::listing::Listing;
 use ctangle_cli::{Disk, LoadFault, WordFault, Words, command_line, load, write_load};
 use std::alloc::Global;
-use std::io::ErrorKind;
 use tangle_lines::{NoMemory, Sink, write_after};
 
 const USAGE: &[u8] =
@@ -85,13 +84,10 @@ fn run_arguments<S: Sink, E: Sink>(
     }
 }
 
-/// Runs the program, and returns its status. With an argument that is not UTF-8 it has no
-/// arguments, and reports its usage.
+/// Runs the program, and returns its status.
 pub fn run<S: Sink, E: Sink>(rt: &HostRuntime, out: &mut Listing<S>, err: &mut E) -> u8 {
-    let arguments = match command_line(rt) {
-        Ok(arguments) => arguments,
-        Err(error) if error.kind() == ErrorKind::OutOfMemory => return report_no_memory(err),
-        Err(_) => Vec::new(rt.alloc()),
+    let Ok(arguments) = command_line(rt) else {
+        return report_no_memory(err);
     };
     let names = arguments.iter().skip(1).map(|argument| argument.as_bytes());
     match names.collect::<Vec<&[u8]>>(rt.alloc()) {

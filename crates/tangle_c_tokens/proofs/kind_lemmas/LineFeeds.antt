@@ -22,19 +22,19 @@ use Rattle.tangle_lines.specs.Reading.ReadingStep.{Ends, Goes}
 use Rattle.tangle_c_tokens.specs.LineFeeds.{HasNoLineFeed, HaveNoLineFeed, FilesHaveNoLineFeed}
 use Rattle.std.proofs.lemmas.Bool.Decides.{nat_tests}
 
-all-append : {X : Type 0} (P : X → Type 0) (xs ys : List X) → AllByRecursion P xs → AllByRecursion P ys
+pub all-append : {X : Type 0} (P : X → Type 0) (xs ys : List X) → AllByRecursion P xs → AllByRecursion P ys
     → AllByRecursion P (xs ++ ys)
 all-append P [] ys h k = k
 all-append P (x ∷ xs) ys h k = (h.0, all-append P xs ys h.1 k)
 
-all-drop : {X : Type 0} (P : X → Type 0) (n : ℕ) (xs : List X) → AllByRecursion P xs → AllByRecursion P (drop n xs)
+pub all-drop : {X : Type 0} (P : X → Type 0) (n : ℕ) (xs : List X) → AllByRecursion P xs → AllByRecursion P (drop n xs)
 all-drop P zero xs h = h
 all-drop P (suc n) [] h = h
 all-drop P (suc n) (x ∷ xs) h = all-drop P n xs h.1
 
 -- the lines that bytes are cut into
 
-trimmed-has : (line : List ℕ) → HasNoLineFeed line → HasNoLineFeed (trimmed line)
+pub trimmed-has : (line : List ℕ) → HasNoLineFeed line → HasNoLineFeed (trimmed line)
 trimmed-has [] h = refl
 trimmed-has (b ∷ bs) h =
     grind (arith, nat_tests, trimmed-has bs)

@@ -2,11 +2,11 @@
 use Rattle.std.proofs.Common.{rules}
 use Rattle.std.proofs.Common.{arith}
 use Rattle.std.proofs.Common.{◌≡◌, ℕ, Bool, true, false, List, [], ◌∷◌, refl, ap}
-use Rattle.std.specs.Prelude.{◌&&◌, ◌||◌, ◌==◌, not}
+use Rattle.std.specs.Prelude.{◌||◌, ◌==◌, not}
 use Rattle.std.proofs.lemmas.Bool.{and_parts, and_from, or_left, or_right}
 use Rattle.std.specs.List.{list_all}
 use Rattle.c_tokens.specs.Bytes.{apostrophe, is_digit, is_word_byte, is_sign, is_exponent}
-use Rattle.c_tokens.specs.Grammar.{is_number_byte, signs_follow_exponents, begins_with_sign, apostrophes_separate, has_universal_names, is_number, begins_number}
+use Rattle.c_tokens.specs.Grammar.{is_number_byte, signs_follow_exponents, apostrophes_separate, has_universal_names, is_number, begins_number}
 use Rattle.c_tokens.proofs.GrammarLemmas.{number-from}
 use Rattle.std.proofs.lemmas.Bool.Decides.{nat_tests}
 

@@ -5,7 +5,7 @@ use Rattle.std.proofs.Common.{◌≡◌, ℕ, ◌-◌, zero, suc, Bool, true, fa
 use Rattle.std.specs.Prelude.{◌==◌}
 use Rattle.std.specs.List.{list_any, list_all}
 use Rattle.std.proofs.lemmas.Bool.{and_parts, or_left, or_parts}
-use Rattle.c_tokens.specs.Bytes.{space, slash, backslash, is_digit, is_word_byte, is_quote}
+use Rattle.c_tokens.specs.Bytes.{space, slash, backslash, is_digit, is_word_byte}
 use Rattle.c_tokens.specs.Borders.{last_byte}
 use Rattle.c_tokens.specs.Grammar.{is_comment, is_element}
 use Rattle.c_tokens.specs.Reading.{spliced, longest, elements_from, ends_in_comment}

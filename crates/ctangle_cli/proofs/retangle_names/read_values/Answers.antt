@@ -1,6 +1,6 @@
 use Rattle.std.proofs.Common.{◌∙◌, codes, map, refl, sym, ap, List, option_map}
 use Rattle.clap.specs.Words.{Text}
-use Rattle.ctangle_cli.proofs.RetangleLemmas.{err_gives, takes_is, value_is}
+use Rattle.ctangle_cli.proofs.RetangleLemmas.{err_gives, no_fault, no_names, some_fault, takes_is, value_is}
 use Rattle.ctangle_cli.specs.RetangleArguments.{retangle_app}
 use Rattle.ctangle_cli.proofs.retangle_names.read_values.Goals as goal
 
@@ -10,6 +10,18 @@ returns-in_err-matches-clause-accepted g c =
     err_gives c.from_residual-in_err-matches.result _ _ c.from_residual-in_err-matches.ensures.1
     (λ fault gives accepted. gives.1 (c.in_err-matches.ensures.passes
     (takes_is c.in_ok-command.command retangle_app arguments c.in_ok-command.ensures.app accepted)))
+
+pub returns-in_err-matches-clause-usage : goal.returns-in_err-matches-clause-usage
+returns-in_err-matches-clause-usage g c =
+    let arguments : List Text = map g.S.AsStr.text c.args.arguments.now in
+    err_gives c.from_residual-in_err-matches.result _ _ c.from_residual-in_err-matches.ensures.1
+    (λ fault gives other. no_names arguments
+    (some_fault c.in_ok-command.command retangle_app arguments c.in_ok-command.ensures.app refl
+    c.in_err-matches.field-0.0 c.in_err-matches.ensures.kinds (λ short. other (gives.1 short))))
+
+pub returns-clause-faultless : goal.returns-clause-faultless
+returns-clause-faultless g c = no_fault c.in_ok-command.command retangle_app _ c.in_ok-command.ensures.app refl
+    c.in_ok-matches.ensures.kinds
 
 pub returns-clause-ok : goal.returns-clause-ok
 returns-clause-ok g c =

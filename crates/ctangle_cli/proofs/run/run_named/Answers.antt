@@ -1,12 +1,10 @@
-use Rattle.tangle_loading.specs.Endings.{ending_of}
-use Rattle.ctangle_cli.specs.Run.NamedEnds.{IsUnloaded}
-use Rattle.ctangle_cli.proofs.RunLemmas.{tries_from}
+use Rattle.ctangle_cli.specs.Messages.{usage_line}
+use Rattle.ctangle_cli.specs.Run.RunEnds.{IsTangled, IsUnstarted}
 use Rattle.ctangle_cli.proofs.run.run_named.Goals as goal
 
-pub returns-in-Err : goal.returns-in-Err
-returns-in-Err g c =
-    IsUnloaded (ending_of c.in-Err.fault) c.in-Err.ensures.err
-    (tries_from _ _ c.write_load.result _ c.write_load.ensures) c.unstarted.ensures
+pub returns-in-None : goal.returns-in-None
+returns-in-None g c = λ arguments is.
+    IsUnstarted (rw (is, c.unstarted.ensures) (c.in-None.ensures.unstarted usage_line))
 
-pub returns-in-Ok : goal.returns-in-Ok
-returns-in-Ok g c = (rw c.in-Ok.ensures.roles at c.run_loaded.ensures) _ c.in-Ok.ensures.ok
+pub returns-in-Some : goal.returns-in-Some
+returns-in-Some g c = λ arguments is. IsTangled _ _ _ is c.in-Some.ensures.started c.run_session-status.ensures

@@ -1,0 +1,108 @@
+-- The uses of a piece are those of its node's shape.
+use Rattle.std.proofs.Common.{arith, rules}
+use Rattle.std.proofs.Common.{◌≡◌, ◌∙◌, ℕ, suc, Bool, true, false, List, [], ◌∷◌, ◌++◌, map, flat_map, if◌then◌else◌, Option, Some, None, refl, subst}
+use Rattle.std.specs.List.{AllByRecursion, Contains}
+use Rattle.std.proofs.lemmas.List.Concat.{flat_map-append}
+use Rattle.tangle_lines.specs.declared.origin.Origin.{Origin}
+use Rattle.tangle_lines.specs.Reading.{SourceLine}
+use Rattle.tangle_lexer.specs.declared.tokens.Token.{Token}
+use Rattle.tangle_lexer.specs.declared.tokens.Token.TheVariants as token
+use Rattle.tangle_scan.specs.declared.items.Item.{Item}
+use Rattle.tangle_scan.specs.declared.items.Item.TheVariants as item
+use Rattle.tangle_scan.specs.Rules.{at_line_front, blanks, is_continued, part_items, part_tokens, texts_of}
+use Rattle.tangle_scan.specs.Passes.{TurnSoFar, counted_after_token, items_at, items_by_origin, line_item, turn_after, turn_after_line_end}
+use Rattle.tangle_scan.specs.LineTruth.{counted_after_line_end}
+use Rattle.tangle_scan.specs.Passes.{is_whole}
+use Rattle.tangle_scan.specs.Texts.{item_uses}
+use Rattle.tangle_scan.proofs.lemmas.ItemsByOrigin.{by-line_item, part_items-by_origin}
+use Rattle.tangle_names.specs.declared.Resolved.{Resolved}
+use Rattle.tangle_names.specs.declared.Resolved.TheVariants as resolved
+use Rattle.tangle_names.specs.NameTable.{TableRead}
+use Rattle.tangle_plans.specs.Flat.{Symbol}
+use Rattle.tangle_plans.specs.Shapes.{item_names}
+use Rattle.tangle_plans.specs.WebShapes.{resolved_at, shape_item, use_of}
+use Rattle.tangle_expansion.specs.Numbers.{NumbersRead, expansion_bytes}
+use Rattle.tangle_expansion.specs.PieceBytes.{resolved_bytes, used_bytes}
+use Rattle.tangle_c_tokens.proofs.TextLemmas.{IsWholeLine}
+use Rattle.tangle_c_tokens.proofs.PartLemmas.{token_uses}
+
+pub all-front : {X : Type 0} (P : X → Type 0) (xs ys : List X) → AllByRecursion P (xs ++ ys) → AllByRecursion P xs
+all-front P [] ys h = tt
+all-front P (x ∷ xs) ys h = (h.0, all-front P xs ys h.1)
+
+pub all-back : {X : Type 0} (P : X → Type 0) (xs ys : List X) → AllByRecursion P (xs ++ ys) → AllByRecursion P ys
+all-back P [] ys h = h
+all-back P (x ∷ xs) ys h = all-back P xs ys h.1
+
+pub each : {X : Type 0} (P : X → Type 0) (xs : List X) → ((x : X) → Contains xs x → P x) → AllByRecursion P xs
+each P [] f = tt
+each P (x ∷ xs) f = (f x (0, omega arith, refl), each P xs (λ y c. f y (suc c.0, omega (arith, c.1), c.2)))
+
+module _ (lines : List SourceLine) where
+  of-items : (before : Option Token) (at : TurnSoFar) (counted : Origin) (es : List Token)
+      → flat_map item_uses (items_by_origin lines before at counted es) ≡ flat_map token_uses es
+  of-items before at counted [] = refl
+  of-items before at counted (token.White ∷ es) = of-items before at counted es
+  of-items before at counted (token.LineEnd line ∷ es) =
+      let continued = is_continued (texts_of lines) before in
+      let none : item_uses (line_item lines continued (is_whole at) counted line) ≡ [] =
+      by-line_item (λ x. item_uses x ≡ []) lines continued (is_whole at) counted line refl (λ p. refl) in
+      rw none (of-items (at_line_front (texts_of lines) before line) (turn_after_line_end lines continued line at)
+      (counted_after_line_end lines continued counted line) es)
+  of-items before at counted (e ∷ es) =
+      let rest = items_by_origin lines (Some e) (turn_after (texts_of lines) at e) (counted_after_token lines counted e) es in
+      flat_map-append item_uses (items_at lines e) rest
+      ∙ grind (arith, of-items (Some e) (turn_after (texts_of lines) at e) (counted_after_token lines counted e) es)
+
+  blank-uses : (b : Bool) (es : List Token) →
+      flat_map token_uses ((if b then token.White ∷ [] else []) ++ es) ≡ flat_map token_uses es
+  blank-uses true es = refl
+  blank-uses false es = refl
+
+  of-blanks : (before : Option Token) (white : Bool) (es : List Token)
+      → flat_map token_uses (blanks (texts_of lines) before white es) ≡ flat_map token_uses es
+  of-blanks before white [] = grind arith
+  of-blanks before white (token.White ∷ es) = of-blanks before true es
+  of-blanks before white (token.LineEnd line ∷ es) = of-blanks (at_line_front (texts_of lines) before line) false es
+  of-blanks before white (e ∷ es) = grind (arith, of-blanks (Some e) false es)
+
+  by-origin : (at : TurnSoFar) (counted : Origin) (es : List Token)
+      → flat_map item_uses (items_by_origin lines None at counted (blanks (texts_of lines) None false es))
+      ≡ flat_map token_uses es
+  by-origin at counted es =
+      of-items None at counted (blanks (texts_of lines) None false es) ∙ of-blanks None false es
+
+  -- the items of a part have the uses of its tokens
+  part-uses : (line : ℕ) (es : List Token)
+      → flat_map item_uses (part_items lines line es) ≡ flat_map token_uses (part_tokens (texts_of lines) es)
+  part-uses line es = search (rules, part_items-by_origin, by-origin)
+
+  module _ (numbers : NumbersRead) (table : TableRead) (used : List ℕ → List Symbol) where
+    abbrev pub IsWholeName : List ℕ → Type 0
+    IsWholeName name = IsWholeLine (expansion_bytes numbers (used name))
+
+    abbrev IsWholeUse : ℕ → Type 0
+    IsWholeUse occurrence = IsWholeLine (used_bytes numbers table used occurrence)
+
+    abbrev pub names_in : List Item → List (List ℕ)
+    names_in items = flat_map item_names (map (shape_item (texts_of lines) table) items)
+
+    use-whole : (rest : List (List ℕ)) (r : Resolved) → AllByRecursion IsWholeName (item_names (use_of table r) ++ rest)
+        → IsWholeLine (resolved_bytes numbers table used r) × AllByRecursion IsWholeName rest
+    use-whole rest (resolved.Name id) names = names
+    use-whole rest resolved.NoFullName names = (record { whole = refl; kept = refl }, names)
+    use-whole rest resolved.Ambiguous names = (record { whole = refl; kept = refl }, names)
+
+    names-whole : (items : List Item) → AllByRecursion IsWholeName (names_in items)
+        → AllByRecursion IsWholeUse (flat_map item_uses items)
+    names-whole [] names = tt
+    names-whole (item.UseOf occurrence ∷ items) names =
+        let both = use-whole (names_in items) (resolved_at table occurrence) names in
+        (both.0, names-whole items both.1)
+    names-whole (x ∷ items) names = assumption (names-whole items names)
+
+    -- what is written for the uses of a part is whole, if that of the names of its shape is
+    pub part-uses-whole : (line : ℕ) (es : List Token) → AllByRecursion IsWholeName (names_in (part_items lines line es))
+        → AllByRecursion IsWholeUse (flat_map token_uses (part_tokens (texts_of lines) es))
+    part-uses-whole line es names =
+        subst (AllByRecursion IsWholeUse) (part-uses line es) (names-whole (part_items lines line es) names)
