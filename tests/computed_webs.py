@@ -5,7 +5,7 @@ which says by computing alone what the depths, weights and bytes of the web's no
 usage: tests/computed_webs.py FOLDER FIRST COUNT
 
 FOLDER is a new folder beside the other crates, and FIRST the seed to begin with. In crates.txt is
-    FOLDER: tangle_graph digraph tangle_expansion tangle_plans tangle_names tangle_scan tangle_lexer tangle_text tangle_lines tangle_faults tangle_files
+    FOLDER: tangle_graph digraph tangle_expansion tangle_bodies tangle_names tangle_scan tangle_lexer tangle_text tangle_lines tangle_faults tangle_files
 and 'rt check' in the folder says whether all lemmas hold. The gate does not do this.
 
 Of a node that reaches a name that contains itself only the depth is computed. Left out are webs of more than 60 lines, and those
@@ -32,7 +32,7 @@ use Rattle.std.specs.Fmt.{digits}
 use Rattle.tangle_lexer.specs.Steps.{lexeme, occurrences_from, tokens_from}
 use Rattle.tangle_expansion.specs.Limits.{levels, heaviest}
 use Rattle.tangle_graph.specs.PlainForms.{plain_form}
-use Rattle.tangle_plans.specs.Shapes.{Program, Named}
+use Rattle.tangle_bodies.specs.Shapes.{Program, Named}
 use Rattle.%s.proofs.Shown.{line, shown}
 
 '''
@@ -42,14 +42,14 @@ use Rattle.std.specs.Prelude.{ℕ, Bool, true, false, List, [], ◌∷◌, ◌++
 use Rattle.tangle_lines.specs.Reading.{SourceLine, SourceRead}
 use Rattle.tangle_scan.specs.Web.{WebRead, web_of}
 use Rattle.tangle_names.specs.NameTable.{table_of}
-use Rattle.tangle_plans.specs.Shapes.{Title}
-use Rattle.tangle_plans.specs.Flat.{flat, weight, depth}
+use Rattle.tangle_bodies.specs.Shapes.{Title}
+use Rattle.tangle_bodies.specs.Flat.{flat, weight, depth}
 use Rattle.tangle_expansion.specs.Limits.{levels}
-use Rattle.tangle_plans.specs.WebShapes.{shapes}
+use Rattle.tangle_bodies.specs.WebShapes.{shapes}
 use Rattle.tangle_expansion.specs.Numbers.{numbers_of, expansion_bytes}
 use Rattle.tangle_expansion.specs.Outputs.{output_file_bytes}
 use Rattle.tangle_files.specs.declared.marks.MarkMode.TheVariants.{Full}
-use Rattle.tangle_plans.specs.Nodes.{title_at}
+use Rattle.tangle_bodies.specs.Nodes.{title_at}
 use Rattle.tangle_graph.specs.Outputs.{outputs}
 
 -- the depth and the weight of a node, and the bytes that are written for it

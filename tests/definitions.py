@@ -26,7 +26,7 @@ PAGES = {
         'tangle_text/NameBytes', 'tangle_lexer/Names', 'tangle_lexer/Occurrences', 'tangle_names'],
     'docs/tokens.md': ['c_tokens', 'tangle_c_tokens', 'ctangle_cli/WhatTheCompilerReads'],
     'docs/graphs.md': ['digraph'],
-    'docs/expansion.md': ['tangle_plans', 'tangle_expansion', 'tangle_graph'],
+    'docs/expansion.md': ['tangle_bodies', 'tangle_expansion', 'tangle_graph'],
     'docs/output.md': [
         'tangle_scan/ItemBytes', 'tangle_scan/MacroBytes', 'tangle_expansion/Numbers',
         'tangle_expansion/PieceBytes', 'tangle_expansion/Outputs', 'tangle_expansion/Location',

@@ -69,7 +69,7 @@ LINKED = ('', 'docs', 'docs/generated', 'bench', 'tests', 'tests/reference')
 FOLDERS = ('crates', 'docs', 'examples', 'tests', 'bench')
 
 # The crates in which nodes are expanded and expansions written.
-EXPANDING = ('tangle_plans', 'tangle_expansion', 'tangle_graph', 'tangle_affected', 'tangle_session', 'ctangle_cli',
+EXPANDING = ('tangle_bodies', 'tangle_expansion', 'tangle_graph', 'tangle_affected', 'tangle_session', 'ctangle_cli',
              'ctangle', 'retangle')
 
 # Which function calls what, once in its text. A session begins one work in a start and one in a

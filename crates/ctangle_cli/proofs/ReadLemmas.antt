@@ -14,8 +14,8 @@ use Rattle.tangle_files.specs.declared.marks.MarkMode.TheVariants.{Full}
 use Rattle.tangle_lines.specs.Reading.{SourceRead}
 use Rattle.tangle_names.specs.NameTable.{table_of}
 use Rattle.tangle_scan.proofs.laws.WebLaws.{web-line-truth}
-use Rattle.tangle_plans.specs.WebShapes.{shapes}
-use Rattle.tangle_plans.proofs.InsideLemmas.{table_inside}
+use Rattle.tangle_bodies.specs.WebShapes.{shapes}
+use Rattle.tangle_bodies.proofs.InsideLemmas.{table_inside}
 use Rattle.tangle_expansion.specs.Limits.{flat_of}
 use Rattle.tangle_expansion.specs.Numbers.{expansion_bytes, numbers_of}
 use Rattle.tangle_expansion.specs.Outputs.{output_file_bytes}

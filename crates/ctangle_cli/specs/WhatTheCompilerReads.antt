@@ -12,8 +12,8 @@ use Rattle.std.specs.Prelude.{◌≡◌, true, Contains}
 use Rattle.tangle_files.specs.Lines.{FileTable}
 use Rattle.tangle_files.specs.Roles.{RolesRead}
 use Rattle.tangle_files.specs.declared.marks.MarkMode.TheVariants.{Full}
-use Rattle.tangle_plans.specs.Nodes.{title_at}
-use Rattle.tangle_plans.specs.Shapes.{Title}
+use Rattle.tangle_bodies.specs.Nodes.{title_at}
+use Rattle.tangle_bodies.specs.Shapes.{Title}
 use Rattle.tangle_expansion.specs.Numbers.{numbers_of}
 use Rattle.tangle_expansion.specs.Outputs.{OutputRead}
 use Rattle.tangle_expansion.specs.PieceBytes.{bytes_after_mark}

@@ -9,8 +9,8 @@ use Rattle.std.specs.Bool.{Decides}
 use Rattle.std.proofs.lemmas.Bool.Decides.{Decides-at, Decides-like, Decides-or}
 use Rattle.std.proofs.lemmas.List.Folds.{Any-from_list_any, list_any-from_Any}
 use Rattle.std.proofs.lemmas.List.Elements.{Contains-push_cases}
-use Rattle.tangle_plans.specs.Shapes.{Title, Named, Shapes, Uses}
-use Rattle.tangle_plans.specs.Shapes as title
+use Rattle.tangle_bodies.specs.Shapes.{Title, Named, Shapes, Uses}
+use Rattle.tangle_bodies.specs.Shapes as title
 use Rattle.digraph.specs.Nodes.{Node}
 use Rattle.digraph.specs.Reach.{here, on}
 use Rattle.tangle_graph.specs.Ordering.{IsOrderIn}

@@ -10,8 +10,8 @@ use Rattle.std.proofs.lemmas.Bool.{both_ways, false_from_ne_true}
 use Rattle.tangle_expansion.proofs.SameShapes.{used_expandable}
 use Rattle.tangle_expansion.specs.Kept.{kept_at, used_symbols, PutsKept}
 use Rattle.tangle_expansion.specs.Limits.{levels, heaviest, flat_of, IsExpandableNode}
-use Rattle.tangle_plans.specs.Flat.{flat, pieces_flat}
-use Rattle.tangle_plans.specs.Shapes.{Title, Named, Shape, Shapes, Uses}
+use Rattle.tangle_bodies.specs.Flat.{flat, pieces_flat}
+use Rattle.tangle_bodies.specs.Shapes.{Title, Named, Shape, Shapes, Uses}
 use Rattle.tangle_expansion.specs.declared.kept.Kept.{Kept}
 use Rattle.digraph.specs.Nodes.{Node}
 use Rattle.tangle_graph.specs.Ordering.{IsOrderIn}

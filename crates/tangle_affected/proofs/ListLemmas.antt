@@ -11,7 +11,7 @@ use Rattle.std.proofs.lemmas.List.Elements.{Contains-get_or}
 use Rattle.std.proofs.lemmas.List.Kept.{AllPairs-filter}
 use Rattle.tangle_expansion.specs.Affected.{IsAffected}
 use Rattle.tangle_expansion.specs.Limits.{levels, heaviest, IsExpandableNode}
-use Rattle.tangle_plans.specs.Shapes.{Title, Shapes, Uses}
+use Rattle.tangle_bodies.specs.Shapes.{Title, Shapes, Uses}
 use Rattle.digraph.specs.Nodes.{Node, program}
 use Rattle.digraph.specs.Reach.{Reaches}
 use Rattle.tangle_graph.specs.Ordering.{IsOrderIn}

@@ -1,7 +1,7 @@
 -- An output file is ready to be written where what its node expands to is kept.
 use Rattle.std.proofs.Common.{rules}
 use Rattle.std.proofs.Common.{◌≤◌, length}
-use Rattle.tangle_plans.specs.Shapes.{Title, Shapes}
+use Rattle.tangle_bodies.specs.Shapes.{Title, Shapes}
 use Rattle.tangle_expansion.specs.Limits.{heaviest, flat_of, IsExpandableNode}
 use Rattle.tangle_expansion.specs.Outputs.{OutputRead, IsReady}
 use Rattle.tangle_expansion.specs.declared.kept.Kept.{Kept}

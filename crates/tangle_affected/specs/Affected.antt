@@ -3,7 +3,7 @@ use Rattle.std.specs.Prelude.{◌≡◌, ◌≢◌, ◌<◌, ◌++◌, ℕ, List
 use Rattle.std.specs.Prelude.{Contains}
 use Rattle.tangle_expansion.specs.Affected.{IsAffected}
 use Rattle.tangle_expansion.specs.Limits.{levels, heaviest}
-use Rattle.tangle_plans.specs.Shapes.{Title, Shapes, Uses}
+use Rattle.tangle_bodies.specs.Shapes.{Title, Shapes, Uses}
 use Rattle.digraph.specs.Nodes.{Node, program}
 use Rattle.tangle_graph.specs.Stores.{StoreRead, IsNodeIn, title_in_store}
 

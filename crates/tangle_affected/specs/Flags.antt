@@ -1,7 +1,7 @@
 -- What flags of a store's nodes mean. Only private contracts cite these definitions.
 use Rattle.std.specs.Prelude.{◌≡◌, ◌≢◌, ◌↔◌, ◌&&◌, Bool, true, List, Contains}
 use Rattle.std.specs.List.{list_any}
-use Rattle.tangle_plans.specs.Shapes.{Title, Shapes, Uses}
+use Rattle.tangle_bodies.specs.Shapes.{Title, Shapes, Uses}
 use Rattle.digraph.specs.Nodes.{Node}
 use Rattle.digraph.specs.Reach.{Reaches}
 use Rattle.tangle_graph.specs.Stores.{StoreRead, flag_at, is_expandable_at, uses_at}

@@ -1,7 +1,7 @@
 //! The nodes that an edit affects.
 ghost use Rattle.std.specs.Prelude.{◌≡◌, ◌||◌, filter, IfOk};
 ghost use Rattle.std.specs.List.{list_any};
-ghost use Rattle.tangle_plans.specs.Shapes.{Shapes};
+ghost use Rattle.tangle_bodies.specs.Shapes.{Shapes};
 ghost use Rattle.tangle_graph.specs.Ordering.{IsOrderIn};
 ghost use Rattle.tangle_graph.specs.Stores.{AreNewShapes, IsStoreOf, StoreRead, flag_at};
 ghost use Rattle.tangle_affected.specs.Affected.{ListsAffected};

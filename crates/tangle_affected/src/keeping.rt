@@ -3,7 +3,7 @@
 ghost use Rattle.std.specs.Prelude.{◌≡◌, ◌++◌, ◌∷◌, [], true, IfOk, OnOk};
 ghost use Rattle.tangle_expansion.specs.Kept.{PutsKept};
 ghost use Rattle.tangle_expansion.specs.Limits.{flat_of};
-ghost use Rattle.tangle_plans.specs.Shapes.{Shapes};
+ghost use Rattle.tangle_bodies.specs.Shapes.{Shapes};
 ghost use Rattle.tangle_graph.specs.Stores.{AreNewShapes, IsNodeIn, IsStoreOf, KeepsUsed};
 ghost use Rattle.tangle_graph.specs.Stores.{is_expandable_at, title_in_store};
 ghost use Rattle.tangle_affected.specs.Affected.{EditedShapes, ListsAffectedAfter};

@@ -1,6 +1,6 @@
 //! A law of affected nodes.
 ghost use Rattle.std.specs.Prelude.{◌≡◌, [], List};
-ghost use Rattle.tangle_plans.specs.Shapes.{Title, Shapes};
+ghost use Rattle.tangle_bodies.specs.Shapes.{Title, Shapes};
 ghost use Rattle.digraph.specs.Nodes.{Node};
 ghost use Rattle.tangle_graph.specs.Stores.{StoreRead};
 ghost use Rattle.tangle_affected.specs.Affected.{ListsAffected};

@@ -16,11 +16,11 @@ use Rattle.tangle_scan.specs.Rules.{texts_of}
 use Rattle.tangle_scan.specs.ReadAsMeant.{all_macro_tokens}
 use Rattle.tangle_scan.specs.Web.{WebRead, web_of, blocks}
 use Rattle.tangle_names.specs.NameTable.{TableRead, table_of}
-use Rattle.tangle_plans.specs.Shapes.{Title, Named, Shapes, shape_names}
-use Rattle.tangle_plans.specs.Flat.{Symbol, flat, pieces_flat}
-use Rattle.tangle_plans.specs.WebShapes.{ResolvesInside, pieces_of}
-use Rattle.tangle_plans.specs.WebShapes.{shapes}
-use Rattle.tangle_plans.proofs.InsideLemmas.{table_inside}
+use Rattle.tangle_bodies.specs.Shapes.{Title, Named, Shapes, shape_names}
+use Rattle.tangle_bodies.specs.Flat.{Symbol, flat, pieces_flat}
+use Rattle.tangle_bodies.specs.WebShapes.{ResolvesInside, pieces_of}
+use Rattle.tangle_bodies.specs.WebShapes.{shapes}
+use Rattle.tangle_bodies.proofs.InsideLemmas.{table_inside}
 use Rattle.tangle_expansion.specs.Limits.{flat_of, levels, IsExpandableNode}
 use Rattle.tangle_expansion.specs.Numbers.{NumbersRead, numbers_of, expansion_bytes}
 use Rattle.tangle_expansion.specs.PieceBytes.{bytes_after_mark}

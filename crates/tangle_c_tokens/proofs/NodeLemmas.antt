@@ -19,9 +19,9 @@ use Rattle.tangle_scan.specs.Web.{PieceRead, Block, BlockKind, piece_of}
 use Rattle.tangle_scan.specs.Web.{kind_piece}
 use Rattle.tangle_scan.specs.Web.BlockKind.{OfMacro, OfPiece}
 use Rattle.tangle_names.specs.NameTable.{TableRead}
-use Rattle.tangle_plans.specs.Shapes.{Title, shape_names}
-use Rattle.tangle_plans.specs.Flat.{Symbol}
-use Rattle.tangle_plans.specs.WebShapes.{is_piece_of, shape_of}
+use Rattle.tangle_bodies.specs.Shapes.{Title, shape_names}
+use Rattle.tangle_bodies.specs.Flat.{Symbol}
+use Rattle.tangle_bodies.specs.WebShapes.{is_piece_of, shape_of}
 use Rattle.tangle_scan.specs.declared.items.Item.{Item}
 use Rattle.tangle_expansion.specs.Numbers.{NumbersRead, mark_bytes}
 use Rattle.tangle_expansion.specs.Numbers.{mark_bytes_at}

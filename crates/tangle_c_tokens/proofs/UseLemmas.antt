@@ -18,9 +18,9 @@ use Rattle.tangle_scan.proofs.lemmas.ItemsByOrigin.{by-line_item, part_items-by_
 use Rattle.tangle_names.specs.declared.Resolved.{Resolved}
 use Rattle.tangle_names.specs.declared.Resolved.TheVariants as resolved
 use Rattle.tangle_names.specs.NameTable.{TableRead}
-use Rattle.tangle_plans.specs.Flat.{Symbol}
-use Rattle.tangle_plans.specs.Shapes.{item_names}
-use Rattle.tangle_plans.specs.WebShapes.{resolved_at, shape_item, use_of}
+use Rattle.tangle_bodies.specs.Flat.{Symbol}
+use Rattle.tangle_bodies.specs.Shapes.{item_names}
+use Rattle.tangle_bodies.specs.WebShapes.{resolved_at, shape_item, use_of}
 use Rattle.tangle_expansion.specs.Numbers.{NumbersRead, expansion_bytes}
 use Rattle.tangle_expansion.specs.PieceBytes.{resolved_bytes, used_bytes}
 use Rattle.tangle_c_tokens.proofs.TextLemmas.{IsWholeLine}

@@ -8,7 +8,7 @@ use Rattle.c_tokens.specs.Reading.{tokens}
 use Rattle.tangle_lines.specs.Reading.{SourceLine, SourceRead}
 use Rattle.tangle_lexer.specs.Steps.{lexeme, occurrences_from, tokens_from}
 use Rattle.tangle_scan.specs.ReadAsMeant.{all_piece_tokens}
-use Rattle.tangle_plans.specs.Shapes.{Named, Program, shape_names}
+use Rattle.tangle_bodies.specs.Shapes.{Named, Program, shape_names}
 use Rattle.tangle_c_tokens.specs.Files.{IsWholePiece, MacrosAreWhole, shapes_in}
 use Rattle.std.proofs.lemmas.Bool.Decides.{nat_tests}
 

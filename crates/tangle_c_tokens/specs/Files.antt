@@ -10,9 +10,9 @@ use Rattle.tangle_scan.specs.Rules.{texts_of}
 use Rattle.tangle_scan.specs.ReadAsMeant.{written_tokens, all_macro_tokens, all_piece_tokens}
 use Rattle.tangle_scan.specs.Web.{PieceRead, is_all_macros, web_of}
 use Rattle.tangle_names.specs.NameTable.{TableRead, table_of}
-use Rattle.tangle_plans.specs.Shapes.{Title, Named, Shapes, Uses}
-use Rattle.tangle_plans.specs.Flat.{Symbol}
-use Rattle.tangle_plans.specs.WebShapes.{is_piece_of, shapes}
+use Rattle.tangle_bodies.specs.Shapes.{Title, Named, Shapes, Uses}
+use Rattle.tangle_bodies.specs.Flat.{Symbol}
+use Rattle.tangle_bodies.specs.WebShapes.{is_piece_of, shapes}
 use Rattle.tangle_expansion.specs.Limits.{flat_of, IsExpandableNode}
 use Rattle.tangle_expansion.specs.Numbers.{NumbersRead, numbers_of, expansion_bytes}
 use Rattle.tangle_expansion.specs.Outputs.{output_file_bytes}

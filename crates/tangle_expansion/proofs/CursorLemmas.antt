@@ -7,14 +7,14 @@ use Rattle.std.proofs.lemmas.List.{drop_all, drop_min, take_min}
 use Rattle.std.proofs.Math.Seq.{take-add}
 use Rattle.std.proofs.lemmas.Grind.{flat_map-append}
 use Rattle.tangle_files.specs.Bytes.{space}
-use Rattle.tangle_plans.specs.Flat.{Symbol, Byte}
-use Rattle.tangle_plans.specs.Meaning.{title_of, left_over, with_used}
-use Rattle.tangle_plans.specs.Flat.{own_symbols}
-use Rattle.tangle_plans.specs.declared.nodes.NodeBody.{NodeBody}
+use Rattle.tangle_bodies.specs.Flat.{Symbol, Byte}
+use Rattle.tangle_bodies.specs.Meaning.{title_of, left_over, with_used}
+use Rattle.tangle_bodies.specs.Flat.{own_symbols}
+use Rattle.tangle_bodies.specs.declared.nodes.NodeBody.{NodeBody}
 use Rattle.tangle_scan.specs.declared.texts.ItemKind.{ItemKind}
 use Rattle.tangle_scan.specs.declared.texts.ItemKind.TheVariants as tag
 use Rattle.tangle_scan.specs.declared.texts.ItemTag.{ItemTag}
-use Rattle.tangle_plans.proofs.DropLemmas.{drop_at}
+use Rattle.tangle_bodies.proofs.DropLemmas.{drop_at}
 use Rattle.tangle_expansion.specs.Numbers.{NumbersRead, expansion_bytes}
 use Rattle.tangle_expansion.specs.Writing.{bytes_between, has_bytes_alone, IsAfterTag, symbols_from, bytes_from, from_use}
 use Rattle.tangle_expansion.specs.declared.cursor.Cursor.{Cursor}

@@ -3,12 +3,12 @@ use Rattle.std.proofs.Common.{rules}
 use Rattle.std.proofs.Common.{◌<◌, ◌≡◌, ℕ, List, [], map}
 use Rattle.std.specs.Prelude.{slice_index_or, Contains}
 use Rattle.std.proofs.lemmas.Simd.{map-map}
-use Rattle.tangle_plans.specs.Shapes.{Shapes, Named}
-use Rattle.tangle_plans.specs.Flat.{depth, flat, Symbol}
-use Rattle.tangle_plans.specs.Meaning.{body_flat}
-use Rattle.tangle_plans.specs.NodeBodies.{HoldsShape, body_title, body_uses}
-use Rattle.tangle_plans.specs.declared.nodes.NodeBody.{NodeBody}
-use Rattle.tangle_plans.proofs.FlatLemmas.{held_flat}
+use Rattle.tangle_bodies.specs.Shapes.{Shapes, Named}
+use Rattle.tangle_bodies.specs.Flat.{depth, flat, Symbol}
+use Rattle.tangle_bodies.specs.Meaning.{body_flat}
+use Rattle.tangle_bodies.specs.NodeBodies.{HoldsShape, body_title, body_uses}
+use Rattle.tangle_bodies.specs.declared.nodes.NodeBody.{NodeBody}
+use Rattle.tangle_bodies.proofs.FlatLemmas.{held_flat}
 use Rattle.tangle_expansion.proofs.SameShapes.{flat_by_uses, map_same}
 
 pub body_expands : (names : List (List ℕ)) (shapes : Shapes) (levels : ℕ) (body : NodeBody) (symbols : ℕ → List Symbol)

@@ -1,7 +1,7 @@
 mod WorkedWebs
 pub mod Weights
 pub mod LineTruth
-mod PieceLemmas
+pub mod PieceLemmas
 pub mod NumberLemmas
 pub mod LookupLemmas
 pub mod WriteLemmas

@@ -20,10 +20,10 @@ use Rattle.tangle_names.specs.declared.Resolved.{Resolved}
 use Rattle.tangle_names.specs.declared.Resolved.TheVariants.{Name}
 use Rattle.std.proofs.Common.{refl}
 use Rattle.tangle_names.specs.NameTable.{table_of}
-use Rattle.tangle_plans.specs.Shapes.{Title, Named, ShapeItem}
-use Rattle.tangle_plans.specs.Flat.{Symbol, Byte, Opening, MarkOf, items_flat, pieces_flat, flat}
-use Rattle.tangle_plans.specs.WebShapes.{is_piece_of, use_of, resolved_at, shape_item, shape_of, shapes}
-use Rattle.tangle_plans.proofs.InsideLemmas.{table_inside}
+use Rattle.tangle_bodies.specs.Shapes.{Title, Named, ShapeItem}
+use Rattle.tangle_bodies.specs.Flat.{Symbol, Byte, Opening, MarkOf, items_flat, pieces_flat, flat}
+use Rattle.tangle_bodies.specs.WebShapes.{is_piece_of, use_of, resolved_at, shape_item, shape_of, shapes}
+use Rattle.tangle_bodies.proofs.InsideLemmas.{table_inside}
 use Rattle.tangle_expansion.specs.Limits.{flat_of}
 use Rattle.tangle_expansion.specs.Outputs.{IsTrueToLines}
 use Rattle.tangle_expansion.proofs.NumberLemmas.{node_numbers_of}

@@ -8,7 +8,7 @@ use Rattle.std.proofs.lemmas.List.Elements.{All-head, All-tail}
 use Rattle.tangle_scan.specs.Texts.{TextRead, IsTextOf}
 use Rattle.tangle_scan.specs.Web.{PieceRead, WebRead, no_piece, stored_piece}
 use Rattle.tangle_scan.specs.declared.pieces.Piece.{Piece}
-use Rattle.tangle_plans.specs.Nodes.{pieces_at}
+use Rattle.tangle_bodies.specs.Nodes.{pieces_at}
 use Rattle.tangle_expansion.specs.Numbers.{numbers_of_piece}
 use Rattle.tangle_expansion.specs.PieceNumbers.{numbers_of_position, numbers_of_rows}
 use Rattle.tangle_expansion.specs.declared.piece_numbers.PieceNumbers.{PieceNumbers}

@@ -14,9 +14,9 @@ use Rattle.digraph.specs.Graph.{row_at}
 use Rattle.tangle_scan.specs.Web.{WebRead, PieceRead}
 use Rattle.tangle_names.specs.declared.Resolved.{Resolved}
 use Rattle.tangle_names.specs.NameTable.{TableRead}
-use Rattle.tangle_plans.specs.Shapes.{Title, Program, Named}
-use Rattle.tangle_plans.specs.WebShapes.{is_node, node_of, node_of_occurrence, is_piece_of, pieces_of, resolved_at}
-use Rattle.tangle_plans.specs.WebShapes.{IsNameBelow, ResolvesInside}
+use Rattle.tangle_bodies.specs.Shapes.{Title, Program, Named}
+use Rattle.tangle_bodies.specs.WebShapes.{is_node, node_of, node_of_occurrence, is_piece_of, pieces_of, resolved_at}
+use Rattle.tangle_bodies.specs.WebShapes.{IsNameBelow, ResolvesInside}
 use Rattle.tangle_expansion.specs.Numbers.{PieceNumbersRead, numbers_of_piece, numbers_of, node_numbers}
 use Rattle.tangle_files.specs.declared.marks.MarkMode.{MarkMode}
 

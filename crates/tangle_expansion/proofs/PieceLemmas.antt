@@ -13,9 +13,9 @@ use Rattle.tangle_scan.specs.Web.{PieceRead}
 use Rattle.tangle_names.specs.declared.Resolved.{Resolved}
 use Rattle.tangle_names.specs.declared.Resolved.TheVariants.{Name}
 use Rattle.tangle_names.specs.NameTable.{TableRead}
-use Rattle.tangle_plans.specs.Shapes.{Title, ShapeItem}
-use Rattle.tangle_plans.specs.Flat.{Symbol, MarkOf, items_flat, pieces_flat}
-use Rattle.tangle_plans.specs.WebShapes.{resolved_at, shape_item, shape_of, use_of}
+use Rattle.tangle_bodies.specs.Shapes.{Title, ShapeItem}
+use Rattle.tangle_bodies.specs.Flat.{Symbol, MarkOf, items_flat, pieces_flat}
+use Rattle.tangle_bodies.specs.WebShapes.{resolved_at, shape_item, shape_of, use_of}
 use Rattle.tangle_files.specs.declared.marks.MarkMode.{MarkMode}
 use Rattle.tangle_expansion.specs.Numbers.{NumbersRead, symbol_bytes, closing_bytes, expansion_bytes, mark_bytes}
 use Rattle.tangle_scan.specs.Texts.{item_origins}

@@ -6,11 +6,11 @@ use Rattle.std.specs.Prelude.{Contains, sum_by}
 use Rattle.std.proofs.lemmas.List.Sums.{sum_by-cons}
 use Rattle.digraph.specs.Reach.{Reaches, here, on, ContainsItself, ReachesCycle}
 use Rattle.tangle_names.proofs.ContainsLemmas.{here as here_in, there}
-use Rattle.tangle_plans.specs.Shapes.{Title, Named, Shape, Shapes, Uses, shape_names}
-use Rattle.tangle_plans.specs.Tags.{shape_bytes, shape_tags}
-use Rattle.tangle_plans.specs.Meaning.{tags_flat}
-use Rattle.tangle_plans.specs.Flat.{Symbol, pieces_flat, flat, pieces_weight, weight, greatest_by, pieces_depth, depth}
-use Rattle.tangle_plans.proofs.FlatLemmas.{shape_flat}
+use Rattle.tangle_bodies.specs.Shapes.{Title, Named, Shape, Shapes, Uses, shape_names}
+use Rattle.tangle_bodies.specs.Tags.{shape_bytes, shape_tags}
+use Rattle.tangle_bodies.specs.Meaning.{tags_flat}
+use Rattle.tangle_bodies.specs.Flat.{Symbol, pieces_flat, flat, pieces_weight, weight, greatest_by, pieces_depth, depth}
+use Rattle.tangle_bodies.proofs.FlatLemmas.{shape_flat}
 use Rattle.tangle_expansion.specs.Affected.{IsExpandable}
 use Rattle.tangle_expansion.proofs.UsedLemmas.{pieces_depth-use, pieces_weight-use, deeper, heavier}
 use Rattle.tangle_expansion.proofs.Weights.{weight-suc, pieces_length}

@@ -6,9 +6,9 @@ use mathlib.Core.List.{List-discrete}
 use native.Mathlib.Decide.{ℕ_discrete}
 use Rattle.std.proofs.Math.Decide.{map_dec}
 use Rattle.digraph.specs.Reach.{here, ReachesCycle}
-use Rattle.tangle_plans.specs.Shapes.{Title, Kind, Word, Sign, Quoted, QuoteBreak, Verbatim, AsciiConstant, Blank}
-use Rattle.tangle_plans.specs.Shapes.{LineEnd, ShapeItem, Written, Mark, AllMacros, Use, NoUse, Shape, Shapes, Uses}
-use Rattle.tangle_plans.specs.Flat.{flat}
+use Rattle.tangle_bodies.specs.Shapes.{Title, Kind, Word, Sign, Quoted, QuoteBreak, Verbatim, AsciiConstant, Blank}
+use Rattle.tangle_bodies.specs.Shapes.{LineEnd, ShapeItem, Written, Mark, AllMacros, Use, NoUse, Shape, Shapes, Uses}
+use Rattle.tangle_bodies.specs.Flat.{flat}
 use Rattle.tangle_expansion.specs.Affected.{IsExpandable, IsAffected}
 use Rattle.tangle_expansion.proofs.SameShapes.{SameReached, flat-same, depth-same, cycle_deep_and_heavy}
 

@@ -4,8 +4,8 @@ use Rattle.std.proofs.Common.{◌≤◌, ℕ, suc, List, [], ◌∷◌, arith}
 use Rattle.std.specs.Prelude.{Contains, sum_by}
 use Rattle.std.proofs.lemmas.List.Sums.{sum_by-cons}
 use Rattle.tangle_names.proofs.ContainsLemmas.{no_item}
-use Rattle.tangle_plans.specs.Shapes.{Title, Program, Named, Shape, Shapes, Uses, shape_names}
-use Rattle.tangle_plans.specs.Flat.{greatest_by, pieces_weight, pieces_depth, weight, depth}
+use Rattle.tangle_bodies.specs.Shapes.{Title, Program, Named, Shape, Shapes, Uses, shape_names}
+use Rattle.tangle_bodies.specs.Flat.{greatest_by, pieces_weight, pieces_depth, weight, depth}
 use Rattle.tangle_expansion.proofs.Weights.{weight-suc}
 
 module _ (f : List ℕ → ℕ) where

@@ -4,11 +4,11 @@ use Rattle.std.proofs.Common.{◌≡◌, ℕ, ◌+◌, suc, List, [], ◌∷◌,
 use Rattle.std.specs.Prelude.{sum_by, flat_map}
 use Rattle.std.proofs.lemmas.List.{length-map}
 use Rattle.std.proofs.lemmas.List.Sums.{sum_by-append}
-use Rattle.tangle_plans.specs.Shapes.{Title, Program, Named, ShapeItem, Shape, Shapes, item_names, shape_names}
-use Rattle.tangle_plans.specs.Tags.{item_bytes, item_tag, piece_end, shape_bytes, shape_tags}
-use Rattle.tangle_plans.specs.Flat.{Symbol, marks_after_shape_item, item_flat, items_flat, pieces_flat, flat}
-use Rattle.tangle_plans.specs.Flat.{own_symbols, own_counts, pieces_weight, weight}
-use Rattle.tangle_plans.proofs.CountLemmas.{own_counts-append}
+use Rattle.tangle_bodies.specs.Shapes.{Title, Program, Named, ShapeItem, Shape, Shapes, item_names, shape_names}
+use Rattle.tangle_bodies.specs.Tags.{item_bytes, item_tag, piece_end, shape_bytes, shape_tags}
+use Rattle.tangle_bodies.specs.Flat.{Symbol, marks_after_shape_item, item_flat, items_flat, pieces_flat, flat}
+use Rattle.tangle_bodies.specs.Flat.{own_symbols, own_counts, pieces_weight, weight}
+use Rattle.tangle_bodies.proofs.CountLemmas.{own_counts-append}
 
 module _ (used : List ℕ → List Symbol) (node : Title) where
   abbrev used_weight : List ℕ → ℕ

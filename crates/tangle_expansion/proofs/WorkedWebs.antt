@@ -8,9 +8,9 @@ use Rattle.tangle_scan.specs.Web.{WebRead, web_of}
 use Rattle.tangle_names.specs.NameTable.{table_of}
 use Rattle.tangle_names.proofs.ContainsLemmas.{here as here_in}
 use Rattle.digraph.specs.Reach.{here, on, ContainsItself}
-use Rattle.tangle_plans.specs.Shapes.{Title, Program, Named, Uses}
-use Rattle.tangle_plans.specs.Flat.{flat, weight, depth}
-use Rattle.tangle_plans.specs.WebShapes.{shapes}
+use Rattle.tangle_bodies.specs.Shapes.{Title, Program, Named, Uses}
+use Rattle.tangle_bodies.specs.Flat.{flat, weight, depth}
+use Rattle.tangle_bodies.specs.WebShapes.{shapes}
 use Rattle.tangle_expansion.specs.Numbers.{numbers_of, expansion_bytes}
 use Rattle.tangle_expansion.specs.Location.{ByteClass, OfItem, LineFeed, Other, classes}
 use Rattle.tangle_files.specs.declared.marks.MarkMode.TheVariants.{Full}

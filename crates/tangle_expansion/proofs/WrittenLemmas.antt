@@ -2,7 +2,7 @@
 use Rattle.std.proofs.lemmas.Bool.Decides.{nat_tests}
 use Rattle.std.proofs.Common.{◌*◌, arith, length-append, ◌≡◌, ℕ, ◌≤◌, List, [], ◌∷◌, ◌++◌, map, length, refl, ap}
 use Rattle.std.specs.List.{AllByRecursion}
-use Rattle.tangle_plans.specs.Flat.{Symbol, Byte}
+use Rattle.tangle_bodies.specs.Flat.{Symbol, Byte}
 use Rattle.tangle_expansion.specs.Numbers.{NumbersRead, symbol_bytes, expansion_bytes}
 
 pub bytes_then : (numbers : NumbersRead) (bytes : List ℕ) (rest : List Symbol)

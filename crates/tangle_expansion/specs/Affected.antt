@@ -1,8 +1,8 @@
 -- Which nodes are expandable, and which of them an edit affects.
 use Rattle.std.specs.Prelude.{◌≢◌, ℕ, ◌≤◌, ◌<◌, []}
 use Rattle.digraph.specs.Reach.{Reaches}
-use Rattle.tangle_plans.specs.Shapes.{Title, Shapes, Uses}
-use Rattle.tangle_plans.specs.Flat.{weight, depth}
+use Rattle.tangle_bodies.specs.Shapes.{Title, Shapes, Uses}
+use Rattle.tangle_bodies.specs.Flat.{weight, depth}
 
 -- The node has a piece and is within both limits; `levels` is one more than the greatest allowed
 -- depth. So it reaches no name that contains itself: the depth of a node that reaches one is at

@@ -3,11 +3,11 @@
 use Rattle.std.specs.Prelude.{ℕ, ◌+◌, ◌≤◌, List, [], ◌∷◌, length, map, take, drop, Option, unwrap_or}
 use Rattle.std.proofs.Common.{arith, length-append}
 use denote.Param.Weighed.{most}
-use Rattle.tangle_plans.specs.Shapes.{Title}
-use Rattle.tangle_plans.specs.Flat.{Symbol, Byte}
-use Rattle.tangle_plans.specs.Meaning.{left_over, tags_flat, body_flat, with_used}
-use Rattle.tangle_plans.specs.Flat.{own_symbols}
-use Rattle.tangle_plans.specs.Meaning.{pieces_after, marks_after}
+use Rattle.tangle_bodies.specs.Shapes.{Title}
+use Rattle.tangle_bodies.specs.Flat.{Symbol, Byte}
+use Rattle.tangle_bodies.specs.Meaning.{left_over, tags_flat, body_flat, with_used}
+use Rattle.tangle_bodies.specs.Flat.{own_symbols}
+use Rattle.tangle_bodies.specs.Meaning.{pieces_after, marks_after}
 use Rattle.tangle_scan.specs.declared.texts.ItemKind.{ItemKind}
 use Rattle.tangle_scan.specs.declared.texts.ItemKind.TheVariants as tag
 use Rattle.tangle_scan.specs.declared.texts.ItemTag.{ItemTag}

@@ -2,7 +2,7 @@
 use Rattle.std.specs.Prelude.{◌≡◌, ◌≢◌, ℕ, suc, List, [], Option, Some, None, unwrap_or}
 use Rattle.std.specs.Prelude.{slice_index_or}
 use Rattle.digraph.specs.Nodes.{Node}
-use Rattle.tangle_plans.specs.Flat.{Symbol}
+use Rattle.tangle_bodies.specs.Flat.{Symbol}
 use Rattle.tangle_expansion.specs.declared.kept.Kept.{Kept}
 
 -- the expansion that is kept for the node, if there is one

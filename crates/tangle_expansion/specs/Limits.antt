@@ -1,7 +1,7 @@
 -- The limits of weight and depth, and the expansion of a node within them.
 use Rattle.std.specs.Prelude.{ℕ, List, min}
-use Rattle.tangle_plans.specs.Shapes.{Title, Shapes}
-use Rattle.tangle_plans.specs.Flat.{Symbol, flat, weight, depth}
+use Rattle.tangle_bodies.specs.Shapes.{Title, Shapes}
+use Rattle.tangle_bodies.specs.Flat.{Symbol, flat, weight, depth}
 use Rattle.tangle_expansion.specs.Affected.{IsExpandable}
 
 -- one more than the greatest depth of an expandable node

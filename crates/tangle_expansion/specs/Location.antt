@@ -17,9 +17,9 @@ use Rattle.tangle_scan.specs.Web.{WebRead}
 use Rattle.tangle_names.specs.declared.Resolved.{Resolved}
 use Rattle.tangle_names.specs.declared.Resolved.TheVariants.{Name}
 use Rattle.tangle_names.specs.NameTable.{TableRead, table_of}
-use Rattle.tangle_plans.specs.Shapes.{Title, Named}
-use Rattle.tangle_plans.specs.Flat.{Symbol, Byte, MarkOf, AllMacros}
-use Rattle.tangle_plans.specs.WebShapes.{is_piece_of, resolved_at}
+use Rattle.tangle_bodies.specs.Shapes.{Title, Named}
+use Rattle.tangle_bodies.specs.Flat.{Symbol, Byte, MarkOf, AllMacros}
+use Rattle.tangle_bodies.specs.WebShapes.{is_piece_of, resolved_at}
 use Rattle.tangle_expansion.specs.Numbers.{NumbersRead, origin_of_mark, no_origin}
 use Rattle.tangle_files.specs.declared.marks.MarkMode.{MarkMode}
 use Rattle.tangle_files.specs.declared.marks.MarkMode.TheVariants.{Full, Bare}

@@ -1,8 +1,8 @@
 -- An expansion has more symbols than each one that it shares.
 use Rattle.std.specs.Prelude.{ℕ, ◌+◌, ◌≤◌, length, List, [], Option, None, Some, unwrap_or}
 use Rattle.std.proofs.Common.{arith}
-use Rattle.tangle_plans.specs.Flat.{Symbol}
-use Rattle.tangle_plans.specs.Meaning.{title_of}
+use Rattle.tangle_bodies.specs.Flat.{Symbol}
+use Rattle.tangle_bodies.specs.Meaning.{title_of}
 use Rattle.tangle_expansion.specs.Expanded.{expansion_symbols, tags_are_longer}
 use Rattle.tangle_expansion.specs.declared.expansion.Expansion.TheInside.{Inside}
 use Rattle.tangle_expansion.specs.declared.expansion.Expansion.TheDeep.{deep-Expansion}

@@ -12,9 +12,9 @@ use Rattle.tangle_lines.specs.declared.origin.Origin.{Origin}
 use Rattle.tangle_scan.specs.Texts.{item_origins}
 use Rattle.tangle_scan.specs.Web.{WebRead, PieceRead}
 use Rattle.tangle_names.specs.NameTable.{TableRead}
-use Rattle.tangle_plans.specs.Shapes.{Title, Program, Named}
-use Rattle.tangle_plans.specs.Flat.{Symbol, Byte, Opening, MarkOf, Closing, AllMacros}
-use Rattle.tangle_plans.specs.WebShapes.{pieces_of}
+use Rattle.tangle_bodies.specs.Shapes.{Title, Program, Named}
+use Rattle.tangle_bodies.specs.Flat.{Symbol, Byte, Opening, MarkOf, Closing, AllMacros}
+use Rattle.tangle_bodies.specs.WebShapes.{pieces_of}
 use Rattle.tangle_files.specs.declared.marks.MarkMode.{MarkMode}
 use Rattle.tangle_files.specs.declared.marks.MarkMode.TheVariants.{Full, Bare}
 use Rattle.tangle_scan.specs.MacroBytes.{macro_bytes}

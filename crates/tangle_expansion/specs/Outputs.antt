@@ -5,9 +5,9 @@ use Rattle.tangle_files.specs.Bytes.{line_feed}
 use Rattle.tangle_lines.specs.Reading.{SourceRead}
 use Rattle.tangle_scan.specs.Web.{WebRead}
 use Rattle.tangle_names.specs.NameTable.{table_of}
-use Rattle.tangle_plans.specs.Shapes.{Title}
-use Rattle.tangle_plans.specs.Flat.{Symbol}
-use Rattle.tangle_plans.specs.WebShapes.{shapes}
+use Rattle.tangle_bodies.specs.Shapes.{Title}
+use Rattle.tangle_bodies.specs.Flat.{Symbol}
+use Rattle.tangle_bodies.specs.WebShapes.{shapes}
 use Rattle.tangle_expansion.specs.Limits.{levels, heaviest, flat_of}
 use Rattle.tangle_expansion.specs.Numbers.{NumbersRead, numbers_of, expansion_bytes}
 use Rattle.tangle_expansion.specs.Kept.{kept_at}

@@ -13,8 +13,8 @@ use Rattle.tangle_scan.specs.declared.items.Item.{Item}
 use Rattle.tangle_names.specs.declared.Resolved.{Resolved}
 use Rattle.tangle_names.specs.declared.Resolved.TheVariants.{Name, NoFullName, Ambiguous}
 use Rattle.tangle_names.specs.NameTable.{TableRead}
-use Rattle.tangle_plans.specs.Flat.{Symbol}
-use Rattle.tangle_plans.specs.WebShapes.{resolved_at}
+use Rattle.tangle_bodies.specs.Flat.{Symbol}
+use Rattle.tangle_bodies.specs.WebShapes.{resolved_at}
 use Rattle.tangle_expansion.specs.Numbers.{NumbersRead, closing_bytes, expansion_bytes}
 use Rattle.tangle_expansion.specs.Numbers.{mark_bytes_at, opening_bytes}
 

@@ -1,7 +1,7 @@
 -- The greatest number of bytes that are written for one symbol.
 use Rattle.std.specs.Prelude.{◌<◌, ◌≤◌, ◌^◌, ℕ, length}
 use Rattle.tangle_lines.specs.declared.origin.Origin.{Origin}
-use Rattle.tangle_plans.specs.Flat.{Symbol}
+use Rattle.tangle_bodies.specs.Flat.{Symbol}
 use Rattle.tangle_expansion.specs.Numbers.{NumbersRead, symbol_bytes}
 
 -- no more bytes than this are written for one symbol: what ends a mark, and the macros, have fewer

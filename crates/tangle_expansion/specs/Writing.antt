@@ -5,11 +5,11 @@ use Rattle.tangle_files.specs.Bytes.{space}
 use Rattle.tangle_streams.specs.declared.failures.WriteFault.{WriteFault}
 use Rattle.tangle_streams.specs.Streams.{Stream, IsWrittenAfter}
 use Rattle.tangle_scan.specs.ReadAsMeant.{is_empty}
-use Rattle.tangle_plans.specs.Flat.{Symbol}
-use Rattle.tangle_plans.specs.Meaning.{title_of, tags_flat, pieces_after, marks_after}
-use Rattle.tangle_plans.specs.Flat.{own_symbols}
-use Rattle.tangle_plans.specs.Shapes.{Program}
-use Rattle.tangle_plans.specs.declared.nodes.NodeBody.{NodeBody}
+use Rattle.tangle_bodies.specs.Flat.{Symbol}
+use Rattle.tangle_bodies.specs.Meaning.{title_of, tags_flat, pieces_after, marks_after}
+use Rattle.tangle_bodies.specs.Flat.{own_symbols}
+use Rattle.tangle_bodies.specs.Shapes.{Program}
+use Rattle.tangle_bodies.specs.declared.nodes.NodeBody.{NodeBody}
 use Rattle.tangle_scan.specs.declared.texts.ItemKind.{ItemKind}
 use Rattle.tangle_scan.specs.declared.texts.ItemTag.{ItemTag}
 use Rattle.tangle_expansion.specs.Numbers.{NumbersRead, expansion_bytes}

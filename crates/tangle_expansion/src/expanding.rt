@@ -1,8 +1,8 @@
 //! Makes the expansion of a node from those of the names that it uses.
 ghost use Rattle.std.specs.Prelude.{◌≡◌, ◌++◌, ◌∷◌, [], map, IfOk, OnOk, OnErr};
 ghost use Rattle.tangle_expansion.specs.Kept.{kept_for, used_symbols};
-ghost use Rattle.tangle_plans.specs.Meaning.{body_flat};
-ghost use Rattle.tangle_plans.specs.NodeBodies.{body_uses};
+ghost use Rattle.tangle_bodies.specs.Meaning.{body_flat};
+ghost use Rattle.tangle_bodies.specs.NodeBodies.{body_uses};
 
 use crate::expansion::{Expansion, SharedExpansion};
 use crate::kept::Kept;
@@ -10,8 +10,8 @@ use crate::work::Work;
 use digraph::Node;
 use std::alloc::Global;
 use std::rc::Rc;
+use tangle_bodies::NodeBody;
 use tangle_lines::NoMemory;
-use tangle_plans::NodeBody;
 
 /// Shares the kept expansion of the name with this number, if there is one.
 fn share_kept(kept: &Kept, id: usize) -> Result<Option<Expansion>, NoMemory>

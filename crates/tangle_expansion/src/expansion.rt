@@ -3,8 +3,8 @@ ghost use Rattle.std.specs.Prelude.{◌≡◌, IfOk};
 
 use std::marker::Model;
 use std::rc::Rc;
+use tangle_bodies::NodeBody;
 use tangle_lines::NoMemory;
-use tangle_plans::NodeBody;
 
 /// The expansion of a node: a list of symbols.
 #[cycle(expansion)]
@@ -23,7 +23,7 @@ pub(crate) struct SharedExpansion {
 
 impl Model for Expansion {
     ghost use Rattle.std.specs.Prelude.{List, length};
-    ghost use Rattle.tangle_plans.specs.Flat.{Symbol};
+    ghost use Rattle.tangle_bodies.specs.Flat.{Symbol};
 
     ghost Value = { List Symbol };
 

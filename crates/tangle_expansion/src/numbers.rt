@@ -1,8 +1,8 @@
 //! The section numbers and origins of a web, and the bytes of its macros.
 ghost use Rattle.std.specs.Prelude.{◌≡◌, ◌+◌, [], IfOk, get_or, length};
 ghost use Rattle.tangle_names.specs.NameTable.{table_of};
-ghost use Rattle.tangle_plans.specs.Meaning.{title_of};
-ghost use Rattle.tangle_plans.specs.Nodes.{IsGroupedBy};
+ghost use Rattle.tangle_bodies.specs.Meaning.{title_of};
+ghost use Rattle.tangle_bodies.specs.Nodes.{IsGroupedBy};
 ghost use Rattle.tangle_expansion.specs.Numbers.{node_numbers, numbers_of, mark_end};
 ghost use Rattle.tangle_expansion.specs.Numbers.{row_number};
 ghost use Rattle.tangle_expansion.specs.SymbolLimits.{SymbolsAreShort};

@@ -1,12 +1,12 @@
 //! Passes tags of a body that is being written.
 ghost use Rattle.std.specs.Prelude.{◌≡◌, ◌≤◌, ◌+◌, ◌<◌, ◌^◌, ◌++◌, List};
-ghost use Rattle.tangle_plans.specs.Flat.{Symbol};
+ghost use Rattle.tangle_bodies.specs.Flat.{Symbol};
 ghost use Rattle.tangle_expansion.specs.Numbers.{NumbersRead};
 ghost use Rattle.tangle_expansion.specs.Writing.{IsAfterTag, bytes_between, bytes_from};
 ghost use Rattle.tangle_expansion.specs.Writing.{has_bytes_alone};
 
 use crate::cursor::Cursor;
-use tangle_plans::{ItemKind, ItemTag, NodeBody};
+use tangle_bodies::{ItemKind, ItemTag, NodeBody};
 
 /// Whether a tag of this kind has no symbols besides its bytes.
 fn has_bytes_alone(kind: ItemKind) -> bool

@@ -2,9 +2,9 @@
 ghost use Rattle.std.specs.Prelude.{◌≡◌, ◌+◌, ◌^◌, ◌<◌, ◌≤◌, ◌++◌, List, decimal, length};
 ghost use Rattle.tangle_streams.specs.Streams.{IsWritten, IsWrittenAfter};
 ghost use Rattle.tangle_expansion.specs.Limits.{heaviest};
-ghost use Rattle.tangle_plans.specs.Flat.{Symbol};
-ghost use Rattle.tangle_plans.specs.Meaning.{title_of};
-ghost use Rattle.tangle_plans.specs.Flat.{own_symbols};
+ghost use Rattle.tangle_bodies.specs.Flat.{Symbol};
+ghost use Rattle.tangle_bodies.specs.Meaning.{title_of};
+ghost use Rattle.tangle_bodies.specs.Flat.{own_symbols};
 ghost use Rattle.tangle_expansion.specs.Numbers.{node_numbers};
 ghost use Rattle.tangle_expansion.specs.Numbers.{opening_bytes, mark_bytes_at, expansion_bytes};
 ghost use Rattle.tangle_expansion.specs.SymbolLimits.{SymbolsAreShort};
@@ -16,8 +16,8 @@ use crate::node_numbers::NodeNumbers;
 use crate::numbers::Numbers;
 use crate::passing::{after_bytes, cursor_after};
 use itoa::Buffer;
+use tangle_bodies::{ItemKind, NodeBody};
 use tangle_lines::{MarkMode, Origin, Sink, WriteFault, write_after};
-use tangle_plans::{ItemKind, NodeBody};
 
 /// What the text of a node is written from: its body, the numbers of its web, and among those the
 /// numbers of its own pieces.

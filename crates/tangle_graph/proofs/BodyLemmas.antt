@@ -10,12 +10,12 @@ use Rattle.std.proofs.lemmas.List.Elements.{All-contains}
 use Rattle.std.proofs.lemmas.Option.{get_or_from_slice_get, slice_get_read, slice_get_within}
 use Rattle.digraph.specs.Graph.{row_at}
 use Rattle.tangle_names.proofs.ContainsLemmas.{into_map, out_of_map}
-use Rattle.tangle_plans.specs.Nodes.{title_at}
-use Rattle.tangle_plans.specs.NodeBodies.{HaveOneShape, HoldsShape, body_items}
-use Rattle.tangle_plans.specs.NodeBodies.{body_uses}
-use Rattle.tangle_plans.specs.Shapes.{Named, Shape, Shapes, Uses}
-use Rattle.tangle_plans.proofs.ShapeLemmas.{bodies_decide}
-use Rattle.tangle_plans.specs.declared.nodes.NodeBody.{NodeBody}
+use Rattle.tangle_bodies.specs.Nodes.{title_at}
+use Rattle.tangle_bodies.specs.NodeBodies.{HaveOneShape, HoldsShape, body_items}
+use Rattle.tangle_bodies.specs.NodeBodies.{body_uses}
+use Rattle.tangle_bodies.specs.Shapes.{Named, Shape, Shapes, Uses}
+use Rattle.tangle_bodies.proofs.ShapeLemmas.{bodies_decide}
+use Rattle.tangle_bodies.specs.declared.nodes.NodeBody.{NodeBody}
 use Rattle.tangle_graph.specs.Bodies.{IsBodyOf, node_bodies}
 
 -- a part of a body, read from the rows of this part of all bodies

@@ -12,14 +12,14 @@ use Rattle.tangle_scan.specs.Web.{WebRead}
 use Rattle.tangle_names.specs.NameTable.{TableRead, table_of}
 use Rattle.tangle_names.proofs.ContainsLemmas.{into_map, out_of_map}
 use Rattle.tangle_names.proofs.LawLemmas.{once as names_once}
-use Rattle.tangle_plans.specs.NodeBodies.{body_uses}
+use Rattle.tangle_bodies.specs.NodeBodies.{body_uses}
 use Rattle.tangle_scan.specs.Web.{no_piece}
-use Rattle.tangle_plans.specs.Nodes.{pieces_at, title_at}
-use Rattle.tangle_plans.specs.Shapes.{Title, Named, Shapes, Uses}
-use Rattle.tangle_plans.specs.Shapes as title
-use Rattle.tangle_plans.specs.WebShapes.{ResolvesInside, is_piece_of, pieces_of}
-use Rattle.tangle_plans.specs.declared.nodes.NodeBody.{NodeBody}
-use Rattle.tangle_plans.proofs.InsideLemmas.{table_inside}
+use Rattle.tangle_bodies.specs.Nodes.{pieces_at, title_at}
+use Rattle.tangle_bodies.specs.Shapes.{Title, Named, Shapes, Uses}
+use Rattle.tangle_bodies.specs.Shapes as title
+use Rattle.tangle_bodies.specs.WebShapes.{ResolvesInside, is_piece_of, pieces_of}
+use Rattle.tangle_bodies.specs.declared.nodes.NodeBody.{NodeBody}
+use Rattle.tangle_bodies.proofs.InsideLemmas.{table_inside}
 use Rattle.digraph.specs.Graph.{Graph, HasUse, row_at}
 use Rattle.digraph.specs.Rows.{IsRowsOf}
 use Rattle.digraph.proofs.GraphLemmas.{node_in}

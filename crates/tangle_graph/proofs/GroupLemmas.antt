@@ -10,11 +10,11 @@ use Rattle.tangle_scan.specs.declared.items.Item.{Item}
 use Rattle.tangle_scan.specs.declared.items.Item.TheVariants as item
 use Rattle.tangle_scan.specs.Web.{PieceRead}
 use Rattle.tangle_names.specs.NameTable.{TableRead}
-use Rattle.tangle_plans.specs.ItemTags.{uses_in, pieces_uses}
-use Rattle.tangle_plans.specs.Nodes.{title_at}
-use Rattle.tangle_plans.specs.Shapes.{title_eq}
-use Rattle.tangle_plans.specs.WebShapes.{node_of_occurrence, is_node}
-use Rattle.tangle_plans.specs.WebShapes.{ResolvesInside}
+use Rattle.tangle_bodies.specs.ItemTags.{uses_in, pieces_uses}
+use Rattle.tangle_bodies.specs.Nodes.{title_at}
+use Rattle.tangle_bodies.specs.Shapes.{title_eq}
+use Rattle.tangle_bodies.specs.WebShapes.{node_of_occurrence, is_node}
+use Rattle.tangle_bodies.specs.WebShapes.{ResolvesInside}
 use Rattle.tangle_graph.specs.Grouping.{node_of_piece, has_number_in}
 use Rattle.tangle_graph.proofs.ListLemmas.{all_flat}
 use Rattle.tangle_graph.proofs.NodeLemmas.{title_inside, once_titled}

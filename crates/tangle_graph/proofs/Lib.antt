@@ -7,20 +7,20 @@ mod OrderLemmas
 mod StepLemmas
 mod ListLemmas
 mod GraphLemmas
-pub mod StoreLemmas
+pub mod NodeMeasureLemmas
 mod BodyLemmas
 mod ShapeLemmas
-mod PlanLemmas
+mod BodyMakingLemmas
 mod StoredBodies
 mod PushLemmas
 pub mod ExpandLemmas
-mod StoreIs
+mod StoreOfWeb
 pub mod OutputLemmas
-mod OrderingLemmas
+mod StoredRows
 pub mod FaultLemmas
 mod NameGraphLemmas
 mod PlainFormLemmas
 mod WorkedForms
 mod WorkedOutputs
 mod NamedFileLemmas
-pub mod StoredLemmas
+pub mod StoredPieces

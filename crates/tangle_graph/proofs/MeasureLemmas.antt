@@ -3,9 +3,9 @@ use Rattle.std.proofs.Common.{rules}
 use Rattle.std.proofs.lemmas.Bool.Decides.{nat_tests}
 use Rattle.std.proofs.Common.{◌≡◌, ◌∙◌, ◌<◌, ◌+◌, ℕ, zero, suc, true, List}
 use Rattle.std.proofs.Common.{length, ap, arith}
-use Rattle.tangle_plans.specs.Shapes.{Title, Named, Shape, Shapes}
-use Rattle.tangle_plans.specs.Flat.{flat, weight, pieces_depth, depth}
-use Rattle.tangle_plans.specs.Shapes.{shape_names}
+use Rattle.tangle_bodies.specs.Shapes.{Title, Named, Shape, Shapes}
+use Rattle.tangle_bodies.specs.Flat.{flat, weight, pieces_depth, depth}
+use Rattle.tangle_bodies.specs.Shapes.{shape_names}
 use Rattle.tangle_expansion.proofs.SameShapes.{pieces_flat-same}
 use Rattle.tangle_expansion.proofs.UsedLemmas.{pieces_depth-use}
 use Rattle.tangle_graph.specs.Measures.{greatest_by}

@@ -11,9 +11,9 @@ use Rattle.std.proofs.lemmas.List.{get_or-map, get_or_append_left, get_or_push, 
 use Rattle.std.proofs.lemmas.Option.{slice_get-get_or}
 use Rattle.std.proofs.lemmas.List.Elements.{All-contains, All-map, All-from_get_or, Contains-get_or}
 use Rattle.tangle_names.proofs.ContainsLemmas.{into_map, out_of_map}
-use Rattle.tangle_plans.specs.NodeBodies.{body_uses}
-use Rattle.tangle_plans.specs.Shapes.{Shapes}
-use Rattle.tangle_plans.specs.declared.nodes.NodeBody.{NodeBody}
+use Rattle.tangle_bodies.specs.NodeBodies.{body_uses}
+use Rattle.tangle_bodies.specs.Shapes.{Shapes}
+use Rattle.tangle_bodies.specs.declared.nodes.NodeBody.{NodeBody}
 use Rattle.digraph.specs.Graph.{Graph, InRange, row_at}
 use Rattle.digraph.specs.Rows.{IsOnceEach}
 use Rattle.tangle_graph.specs.Bodies.{AreBodiesOf, node_bodies}

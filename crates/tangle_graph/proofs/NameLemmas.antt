@@ -3,10 +3,10 @@ use Rattle.std.proofs.Common.{rules}
 use Rattle.std.proofs.Common.{◌≡◌, ◌≢◌, ◌∙◌, ℕ, suc, Bool, List, [], ◌∷◌, None, ap, refl, arith}
 use Rattle.std.specs.Prelude.{Option, IsSome}
 use Rattle.digraph.specs.Nodes.{Node, program}
-use Rattle.tangle_plans.specs.Shapes.{Title, Named, Shape, Shapes, Uses}
-use Rattle.tangle_plans.specs.Shapes as title
-use Rattle.tangle_plans.specs.declared.nodes.NodeBody.{NodeBody}
-use Rattle.tangle_graph.specs.Plans.{AreNewBodies}
+use Rattle.tangle_bodies.specs.Shapes.{Title, Named, Shape, Shapes, Uses}
+use Rattle.tangle_bodies.specs.Shapes as title
+use Rattle.tangle_bodies.specs.declared.nodes.NodeBody.{NodeBody}
+use Rattle.tangle_graph.specs.NewBodies.{AreNewBodies}
 use Rattle.tangle_graph.specs.Stores.{AreNewShapes, StoreRead, IsStoreOf, IsNodeIn, title_in_store}
 use Rattle.tangle_graph.proofs.BodyLemmas.{name_used, some_at}
 use Rattle.tangle_graph.proofs.NodeLemmas.{title_inside}

@@ -13,12 +13,12 @@ use Rattle.std.proofs.lemmas.List.Folds.{list_any-append}
 use Rattle.std.proofs.lemmas.Slice.Eq.{bytes_eq-Decides}
 use Rattle.tangle_graph.specs.NamedFiles.{AreFlagged, has_form, with_flag}
 use Rattle.tangle_names.specs.NameTable.{TableRead}
-use Rattle.tangle_plans.specs.Shapes.{Named, Shapes}
-use Rattle.tangle_plans.specs.WebShapes.{name_at}
+use Rattle.tangle_bodies.specs.Shapes.{Named, Shapes}
+use Rattle.tangle_bodies.specs.WebShapes.{name_at}
 use Rattle.tangle_graph.specs.Measures.{AreMeasures, measure_at, measure_of}
 use Rattle.tangle_graph.specs.declared.measures.Measure.{Measure}
 use Rattle.tangle_graph.proofs.NodeLemmas.{title_inside}
-use Rattle.tangle_graph.proofs.StoreLemmas.{piece_by_measure}
+use Rattle.tangle_graph.proofs.NodeMeasureLemmas.{piece_by_measure}
 use Rattle.tangle_graph.specs.Outputs.{shape_has_piece, form_at, is_earlier_file, is_file, is_main_file, is_named_file}
 use Rattle.tangle_graph.specs.PlainForms.{plain_form}
 use Rattle.tangle_graph.specs.Stores.{flag_at}

@@ -11,9 +11,9 @@ use Rattle.std.proofs.lemmas.List.Sums.{fails_before_first}
 use Rattle.std.proofs.lemmas.Map.Keys.{apart_from_distinct}
 use Rattle.std.proofs.lemmas.Slice.Eq.{bytes_eq-Decides}
 use Rattle.digraph.specs.Nodes.{name_of_node}
-use Rattle.tangle_plans.specs.Nodes.{title_of_name, title_at}
-use Rattle.tangle_plans.specs.Shapes.{Named}
-use Rattle.tangle_plans.specs.Shapes as title
+use Rattle.tangle_bodies.specs.Nodes.{title_of_name, title_at}
+use Rattle.tangle_bodies.specs.Shapes.{Named}
+use Rattle.tangle_bodies.specs.Shapes as title
 
 pub title_inside : (names : List (List ℕ)) (id : ℕ)
     → id < length names → title_at names (suc id) ≡ Named (get_or names id [])

@@ -12,17 +12,17 @@ use Rattle.tangle_names.specs.NameTable.{TableRead}
 use Rattle.tangle_names.proofs.ContainsLemmas.{out_of_filter, out_of_map}
 use Rattle.tangle_expansion.specs.Limits.{IsExpandableNode}
 use Rattle.tangle_expansion.specs.Outputs.{OutputRead}
-use Rattle.tangle_plans.specs.WebShapes.{name_at, shapes, ResolvesInside}
-use Rattle.tangle_plans.specs.Shapes.{Named, Shapes}
-use Rattle.tangle_plans.specs.Shapes as title
-use Rattle.tangle_plans.specs.Nodes.{title_at}
+use Rattle.tangle_bodies.specs.WebShapes.{name_at, shapes, ResolvesInside}
+use Rattle.tangle_bodies.specs.Shapes.{Named, Shapes}
+use Rattle.tangle_bodies.specs.Shapes as title
+use Rattle.tangle_bodies.specs.Nodes.{title_at}
 use Rattle.tangle_graph.specs.Nodes.{IsNodeOf}
 use Rattle.tangle_graph.specs.Outputs.{shape_has_piece, is_expandable, file_names, first_file_name}
 use Rattle.tangle_graph.specs.Outputs.{main_output, named_file, main_file, is_written, outputs}
 use Rattle.tangle_graph.specs.Outputs.{is_earlier_file, is_main_file}
 use Rattle.tangle_graph.proofs.ListLemmas.{all_flat}
 use Rattle.tangle_graph.proofs.NodeLemmas.{title_inside}
-use Rattle.tangle_graph.proofs.StoreLemmas.{expandable_is, no_pieces}
+use Rattle.tangle_graph.proofs.NodeMeasureLemmas.{expandable_is, no_pieces}
 
 -- of each output file: its node is the program or a name, and is expandable if it has a piece
 pub record IsFit (shapes : Shapes) (names : List (List ℕ)) (output : OutputRead) : Type 0 where

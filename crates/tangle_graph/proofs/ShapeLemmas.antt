@@ -4,10 +4,10 @@ use Rattle.std.proofs.Common.{◌≡◌, Bool, not, []}
 use Rattle.std.specs.Bool.{Decides}
 use Rattle.std.proofs.lemmas.List.{get_or_past}
 use Rattle.digraph.specs.Nodes.{Node}
-use Rattle.tangle_plans.specs.Shapes.{Shape, Shapes}
+use Rattle.tangle_bodies.specs.Shapes.{Shape, Shapes}
 use Rattle.tangle_graph.specs.Outputs.{shape_has_piece}
 use Rattle.tangle_graph.specs.Stores.{StoreRead, IsStoreOf, has_piece_at, shape_in_store}
-use Rattle.tangle_graph.proofs.StoreLemmas.{piece_by_measure}
+use Rattle.tangle_graph.proofs.NodeMeasureLemmas.{piece_by_measure}
 
 module _ (shapes : Shapes) (store : StoreRead) where
   pub has_piece_in : IsStoreOf shapes store → (a : Node)

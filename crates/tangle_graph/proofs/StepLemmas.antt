@@ -5,17 +5,17 @@ use Rattle.std.proofs.Common.{refl, ap, arith}
 use Rattle.std.specs.Prelude.{nat_le, nat_lt, sum_by}
 use Rattle.std.proofs.lemmas.List.Sums.{sum_by-cons}
 use Rattle.tangle_names.proofs.ContainsLemmas.{here, there}
-use Rattle.tangle_plans.specs.Flat.{own_weight, depth, weight}
-use Rattle.tangle_plans.specs.NodeBodies.{HoldsShape, body_uses, names_at}
-use Rattle.tangle_plans.specs.Shapes.{Named, Shapes, Title}
-use Rattle.tangle_plans.specs.declared.nodes.NodeBody.{NodeBody}
+use Rattle.tangle_bodies.specs.Flat.{own_weight, depth, weight}
+use Rattle.tangle_bodies.specs.NodeBodies.{HoldsShape, body_uses, names_at}
+use Rattle.tangle_bodies.specs.Shapes.{Named, Shapes, Title}
+use Rattle.tangle_bodies.specs.declared.nodes.NodeBody.{NodeBody}
 use Rattle.tangle_expansion.specs.Limits.{weight_cap, levels, heaviest, weight_of, depth_of}
 use Rattle.tangle_expansion.proofs.SameShapes.{weight_by_uses, depth_by_uses}
 use Rattle.tangle_graph.specs.Measures.{AreUsesMeasured, greatest_by, measure_at, measure_of, no_piece_measure}
 use Rattle.tangle_graph.specs.Outputs.{shape_has_piece}
 use Rattle.tangle_graph.specs.declared.measures.Measure.{Measure}
 use Rattle.tangle_graph.proofs.MeasureLemmas.{depth_counted}
-use Rattle.tangle_graph.proofs.StoreLemmas.{expandable_by_limits}
+use Rattle.tangle_graph.proofs.NodeMeasureLemmas.{expandable_by_limits}
 
 -- the weights and the depths that are recorded of names are those of the names
 module _ (shapes : Shapes) (names : List (List ℕ)) (measures : List Measure) where

@@ -5,7 +5,7 @@ use Rattle.std.specs.Global.{Global}
 use Rattle.std.specs.declared.rc.Rc.{Rc}
 use Rattle.std.proofs.lemmas.List.{length-map}
 use Rattle.digraph.specs.Nodes.{Node}
-use Rattle.tangle_plans.specs.declared.nodes.NodeBody.{NodeBody}
+use Rattle.tangle_bodies.specs.declared.nodes.NodeBody.{NodeBody}
 use Rattle.tangle_graph.specs.Bodies.{IsBodyOf}
 use Rattle.tangle_graph.specs.Stores.{StoreRead, IsNodeIn, IsStoreOf, body_at, is_expandable_at}
 use Rattle.tangle_graph.specs.StoreView.{StoreInvariant, store_read}

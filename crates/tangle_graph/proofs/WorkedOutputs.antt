@@ -12,8 +12,8 @@ use Rattle.tangle_lines.specs.Reading.{reads_in, source_of}
 use Rattle.tangle_lexer.specs.Steps.{lexeme, occurrences_from, tokens_from}
 use Rattle.tangle_scan.specs.Web.{WebRead, web_of}
 use Rattle.tangle_names.specs.NameTable.{table_of}
-use Rattle.tangle_plans.specs.Shapes.{Named, Program, Shapes, Use, Word, Written}
-use Rattle.tangle_plans.specs.Flat.{weight}
+use Rattle.tangle_bodies.specs.Shapes.{Named, Program, Shapes, Use, Word, Written}
+use Rattle.tangle_bodies.specs.Flat.{weight}
 use Rattle.tangle_expansion.specs.Limits.{heaviest, levels}
 use Rattle.tangle_expansion.specs.Outputs.{OutputRead}
 use Rattle.digraph.specs.Nodes.{Node}

@@ -3,10 +3,10 @@ use Rattle.std.specs.Prelude.{◌≡◌, ◌<◌, ◌+◌, ℕ, List, length, ma
 use Rattle.std.specs.Global.{Global}
 use Rattle.std.specs.declared.rc.Rc.{Rc}
 use Rattle.digraph.specs.Nodes.{Node}
-use Rattle.tangle_plans.specs.NodeBodies.{HoldsShape, body_title, body_uses}
-use Rattle.tangle_plans.specs.Nodes.{title_at}
-use Rattle.tangle_plans.specs.Shapes.{Shapes}
-use Rattle.tangle_plans.specs.declared.nodes.NodeBody.{NodeBody}
+use Rattle.tangle_bodies.specs.NodeBodies.{HoldsShape, body_title, body_uses}
+use Rattle.tangle_bodies.specs.Nodes.{title_at}
+use Rattle.tangle_bodies.specs.Shapes.{Shapes}
+use Rattle.tangle_bodies.specs.declared.nodes.NodeBody.{NodeBody}
 
 -- the body of each node
 abbrev pub node_bodies : List (Rc NodeBody Global) → List NodeBody

@@ -8,11 +8,11 @@ use Rattle.tangle_faults.specs.declared.faults.FaultKind.{FaultKind}
 use Rattle.tangle_names.specs.declared.first_numbers.Counted.TheVariants as counted
 use Rattle.tangle_names.specs.Numbers.{first_by_number}
 use Rattle.tangle_names.specs.Resolving.{resolve}
-use Rattle.tangle_plans.specs.WebShapes.{shapes}
+use Rattle.tangle_bodies.specs.WebShapes.{shapes}
 use Rattle.tangle_graph.specs.Faults.{has_piece_of_node, fault_of, fault_occurrence}
 use Rattle.tangle_graph.specs.Faults.{faults_of_names}
-use Rattle.tangle_plans.specs.Nodes.{title_at}
-use Rattle.tangle_plans.specs.Shapes.{Uses}
+use Rattle.tangle_bodies.specs.Nodes.{title_at}
+use Rattle.tangle_bodies.specs.Shapes.{Uses}
 use Rattle.tangle_graph.specs.Outputs.{is_earlier_file, is_expandable, is_main_file}
 use Rattle.tangle_graph.specs.Stores.{contains_itself_at, flag_at, has_piece_at}
 use Rattle.tangle_graph.specs.Stores.{is_expandable_at}

@@ -15,9 +15,9 @@ use Rattle.tangle_names.specs.Faults.{named_place_of}
 use Rattle.tangle_names.specs.NameTable.{TableRead}
 use Rattle.tangle_names.specs.Numbers.{is_number, is_use}
 use Rattle.tangle_names.specs.Resolving.{resolve}
-use Rattle.tangle_plans.specs.Shapes.{Uses}
-use Rattle.tangle_plans.specs.WebShapes.{name_at, shapes}
-use Rattle.tangle_plans.specs.Nodes.{title_at}
+use Rattle.tangle_bodies.specs.Shapes.{Uses}
+use Rattle.tangle_bodies.specs.WebShapes.{name_at, shapes}
+use Rattle.tangle_bodies.specs.Nodes.{title_at}
 use Rattle.tangle_graph.specs.Outputs.{shape_has_piece, is_expandable, first_file_occurrence}
 use Rattle.tangle_graph.specs.Outputs.{is_earlier_file, is_main_file}
 

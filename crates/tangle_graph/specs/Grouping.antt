@@ -5,8 +5,8 @@ use Rattle.tangle_scan.specs.Web.{PieceRead}
 use Rattle.tangle_names.specs.declared.Resolved.{Resolved}
 use Rattle.tangle_names.specs.declared.Resolved.TheVariants.{Name, NoFullName, Ambiguous}
 use Rattle.tangle_names.specs.NameTable.{TableRead}
-use Rattle.tangle_plans.specs.Nodes.{title_at}
-use Rattle.tangle_plans.specs.WebShapes.{is_piece_of, resolved_at}
+use Rattle.tangle_bodies.specs.Nodes.{title_at}
+use Rattle.tangle_bodies.specs.WebShapes.{is_piece_of, resolved_at}
 use Rattle.digraph.specs.Nodes.{Node, program}
 use Rattle.digraph.specs.Users.{positions}
 

@@ -8,7 +8,7 @@ pub mod NamedFiles
 pub mod Stores
 pub mod Ordering
 pub mod StoreView
-pub mod Plans
+pub mod NewBodies
 pub mod Faults
 pub mod FaultSearches
 pub mod NameGraphs

@@ -2,9 +2,9 @@
 use Rattle.std.specs.Prelude.{◌≡◌, ◌⊎◌, ℕ, suc, false, List, [], slice_index_or}
 use Rattle.std.specs.Prelude.{Contains}
 use Rattle.digraph.specs.Nodes.{Node}
-use Rattle.tangle_plans.specs.Nodes.{title_at}
-use Rattle.tangle_plans.specs.Shapes.{Shapes, Title, Named}
-pub use Rattle.tangle_plans.specs.Flat.{greatest_by}
+use Rattle.tangle_bodies.specs.Nodes.{title_at}
+use Rattle.tangle_bodies.specs.Shapes.{Shapes, Title, Named}
+pub use Rattle.tangle_bodies.specs.Flat.{greatest_by}
 use Rattle.tangle_expansion.specs.Limits.{weight_of, depth_of}
 use Rattle.tangle_graph.specs.Nodes.{IsNodeOf}
 use Rattle.tangle_graph.specs.Outputs.{is_expandable}

@@ -6,7 +6,7 @@ use Rattle.std.specs.List.{list_any, range_with_len}
 use Rattle.std.specs.Str.{bytes_eq}
 use Rattle.std.specs.declared.vec.Vec.{Vec}
 use Rattle.tangle_names.specs.NameTable.{TableRead}
-use Rattle.tangle_plans.specs.Shapes.{Shapes}
+use Rattle.tangle_bodies.specs.Shapes.{Shapes}
 use Rattle.tangle_graph.specs.Outputs.{form_at, is_earlier_file, is_main_file, is_named_file}
 use Rattle.tangle_graph.specs.PlainForms.{plain_form}
 use Rattle.tangle_graph.specs.Stores.{flag_at}

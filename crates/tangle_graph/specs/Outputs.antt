@@ -6,12 +6,12 @@ use Rattle.std.specs.List.{list_any, range_with_len}
 use Rattle.std.specs.Str.{bytes_eq}
 use Rattle.tangle_scan.specs.Web.{WebRead}
 use Rattle.tangle_names.specs.NameTable.{TableRead}
-use Rattle.tangle_plans.specs.Shapes.{Title, Program, Named, Shape, Shapes}
-use Rattle.tangle_plans.specs.Flat.{weight, depth}
+use Rattle.tangle_bodies.specs.Shapes.{Title, Program, Named, Shape, Shapes}
+use Rattle.tangle_bodies.specs.Flat.{weight, depth}
 use Rattle.tangle_expansion.specs.Limits.{levels, heaviest}
 use Rattle.tangle_expansion.specs.Outputs.{OutputRead}
-use Rattle.tangle_plans.specs.ItemTags.{uses_resolved}
-use Rattle.tangle_plans.specs.WebShapes.{name_at, resolved_at, shapes}
+use Rattle.tangle_bodies.specs.ItemTags.{uses_resolved}
+use Rattle.tangle_bodies.specs.WebShapes.{name_at, resolved_at, shapes}
 use Rattle.digraph.specs.Nodes.{program}
 use Rattle.tangle_graph.specs.Grouping.{has_number_in}
 use Rattle.tangle_graph.specs.PlainForms.{plain_form}

@@ -1,7 +1,7 @@
 -- A store, as it is read from its fields.
 use Rattle.std.specs.Prelude.{map}
-use Rattle.tangle_plans.specs.NodeBodies.{body_uses}
-use Rattle.tangle_plans.specs.Shapes.{Shapes}
+use Rattle.tangle_bodies.specs.NodeBodies.{body_uses}
+use Rattle.tangle_bodies.specs.Shapes.{Shapes}
 use Rattle.tangle_graph.specs.Bodies.{node_bodies}
 use Rattle.tangle_graph.specs.Ordering.{IsOrderIn}
 use Rattle.tangle_graph.specs.NameGraphs.{IsNameGraphOf}

@@ -4,19 +4,19 @@ use Rattle.std.specs.Prelude.{◌≡◌, ◌≢◌, ◌<◌, ◌↔◌, ◌+◌,
 use Rattle.std.specs.Prelude.{nat_lt, nat_le, if◌then◌else◌}
 use Rattle.std.specs.Prelude.{slice_get, slice_index_or, List, [], length, map}
 use Rattle.std.specs.Prelude.{AllPairs, Contains, Option}
-use Rattle.tangle_plans.specs.Shapes.{Title, Named, Shape, Shapes, Uses}
-use Rattle.tangle_plans.specs.Flat.{Symbol}
+use Rattle.tangle_bodies.specs.Shapes.{Title, Named, Shape, Shapes, Uses}
+use Rattle.tangle_bodies.specs.Flat.{Symbol}
 use Rattle.tangle_expansion.specs.Kept.{used_symbols}
-use Rattle.tangle_plans.specs.Meaning.{body_flat}
-use Rattle.tangle_plans.specs.NodeBodies.{body_uses}
+use Rattle.tangle_bodies.specs.Meaning.{body_flat}
+use Rattle.tangle_bodies.specs.NodeBodies.{body_uses}
 use Rattle.tangle_expansion.specs.Limits.{flat_of}
 use Rattle.tangle_expansion.specs.Outputs.{OutputRead}
-use Rattle.tangle_plans.specs.declared.nodes.NodeBody.{NodeBody}
+use Rattle.tangle_bodies.specs.declared.nodes.NodeBody.{NodeBody}
 use Rattle.tangle_expansion.specs.declared.kept.Kept.{Kept}
 use Rattle.digraph.specs.Graph.{Graph, row_at}
 use Rattle.digraph.specs.Nodes.{Node}
 use Rattle.digraph.specs.Reach.{ContainsItself}
-use Rattle.tangle_plans.specs.Nodes.{title_at}
+use Rattle.tangle_bodies.specs.Nodes.{title_at}
 use Rattle.tangle_graph.specs.Bodies.{AreBodiesOf}
 use Rattle.tangle_graph.specs.Measures.{AreMeasures, measure_at}
 use Rattle.tangle_graph.specs.Nodes.{IsNodeOf}

@@ -4,9 +4,9 @@ use Rattle.tangle_scan.specs.Web.{WebRead}
 use Rattle.tangle_names.specs.NameTable.{TableRead}
 use Rattle.digraph.specs.Nodes.{Node}
 use Rattle.digraph.specs.Reach.{ReachesCycle}
-use Rattle.tangle_plans.specs.Nodes.{IsGroupedBy, title_at}
-use Rattle.tangle_plans.specs.WebShapes.{shapes}
-use Rattle.tangle_plans.specs.Shapes.{Uses}
+use Rattle.tangle_bodies.specs.Nodes.{IsGroupedBy, title_at}
+use Rattle.tangle_bodies.specs.WebShapes.{shapes}
+use Rattle.tangle_bodies.specs.Shapes.{Uses}
 use Rattle.tangle_graph.specs.Outputs.{outputs}
 use Rattle.tangle_graph.specs.Stores.{StoreRead, IsStoreOf}
 

@@ -2,14 +2,14 @@
 ghost use Rattle.std.specs.Prelude.{◌≡◌, ◌≢◌, ◌<◌, [], IfOk, length, All, IfSome};
 ghost use Rattle.std.specs.Prelude.{true, MatchOption, None, not, ◌==◌};
 ghost use Rattle.digraph.specs.Nodes.{Node};
-ghost use Rattle.tangle_plans.specs.Meaning.{title_of};
-ghost use Rattle.tangle_plans.specs.NodeBodies.{HoldsShape, body_items, body_title, body_uses};
-ghost use Rattle.tangle_plans.specs.Nodes.{title_at};
-ghost use Rattle.tangle_plans.specs.Shapes.{Shapes};
-ghost use Rattle.tangle_plans.specs.WebShapes.{shapes};
+ghost use Rattle.tangle_bodies.specs.Meaning.{title_of};
+ghost use Rattle.tangle_bodies.specs.NodeBodies.{HoldsShape, body_items, body_title, body_uses};
+ghost use Rattle.tangle_bodies.specs.Nodes.{title_at};
+ghost use Rattle.tangle_bodies.specs.Shapes.{Shapes};
+ghost use Rattle.tangle_bodies.specs.WebShapes.{shapes};
 ghost use Rattle.tangle_graph.specs.Bodies.{AreBodiesOf, IsBodyOf, node_bodies};
 ghost use Rattle.tangle_graph.specs.Nodes.{IsNodeOf};
-ghost use Rattle.tangle_graph.specs.Plans.{AreNewBodies, IsGrouped, IsNewBody};
+ghost use Rattle.tangle_graph.specs.NewBodies.{AreNewBodies, IsGrouped, IsNewBody};
 ghost use Rattle.tangle_graph.specs.Stores.{IsStoreOf};
 
 use crate::nodes::node_before;
@@ -17,9 +17,9 @@ use crate::store::Store;
 use digraph::{Node, Rows};
 use std::alloc::{AllocError, Global};
 use std::rc::Rc;
+use tangle_bodies::{BodyBuilder, NodeBody};
 use tangle_lines::NoMemory;
 use tangle_names::{NameTable, Names};
-use tangle_plans::{BodyBuilder, NodeBody};
 use tangle_scan::Web;
 
 /// A web with its table of names, these names, and a row for each node: the numbers of the node's

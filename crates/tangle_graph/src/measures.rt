@@ -3,8 +3,8 @@ ghost use Rattle.std.specs.Prelude.{◌≡◌, ◌+◌, ◌≤◌, ◌&&◌, ℕ
 ghost use Rattle.std.specs.Prelude.{List, nat_lt, nat_le};
 ghost use Rattle.digraph.specs.Graph.{InRange};
 ghost use Rattle.digraph.specs.Order.{IsOrder};
-ghost use Rattle.tangle_plans.specs.NodeBodies.{HoldsShape, body_uses};
-ghost use Rattle.tangle_plans.specs.Shapes.{Shapes, Title};
+ghost use Rattle.tangle_bodies.specs.NodeBodies.{HoldsShape, body_uses};
+ghost use Rattle.tangle_bodies.specs.Shapes.{Shapes, Title};
 ghost use Rattle.tangle_expansion.specs.Limits.{weight_cap, levels, heaviest};
 ghost use Rattle.tangle_graph.specs.Bodies.{AreBodiesOf, node_bodies};
 ghost use Rattle.tangle_graph.specs.Measures.{AreMeasures, AreUsesMeasured, greatest_by};
@@ -15,7 +15,7 @@ use crate::nodes::entry;
 use digraph::{Node, Rows};
 use std::alloc::{AllocError, Global};
 use std::rc::Rc;
-use tangle_plans::NodeBody;
+use tangle_bodies::NodeBody;
 
 /// The greatest weight of an expandable node.
 const HEAVIEST: u32 = 16_777_216;

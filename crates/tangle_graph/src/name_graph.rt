@@ -3,16 +3,16 @@
 ghost use Rattle.std.specs.Prelude.{◌≡◌, ◌<◌, ◌+◌, ◌^◌, IfOk, OnOk, All, length, map, suc, true};
 ghost use Rattle.std.specs.List.Sorted.{IsStrictlyIncreasing};
 ghost use Rattle.digraph.specs.Graph.{InRange};
-ghost use Rattle.tangle_plans.specs.NodeBodies.{body_uses};
+ghost use Rattle.tangle_bodies.specs.NodeBodies.{body_uses};
 ghost use Rattle.tangle_graph.specs.NameGraphs.{AreUsesOf, IsNameGraphOf};
 ghost use Rattle.tangle_graph.specs.Bodies.{node_bodies};
 
 use digraph::{Node, Rows, once_each, order, reaching_cycles, self_containing, users};
 use std::alloc::{AllocError, Global};
 use std::rc::Rc;
+use tangle_bodies::NodeBody;
 use tangle_lines::NoMemory;
 use tangle_names::Names;
-use tangle_plans::NodeBody;
 
 /// The names, shared with their table; for each node the names that it uses, the nodes that use it,
 /// and whether it contains itself or reaches a name that does; and the nodes that reach no cycle,

@@ -2,7 +2,7 @@
 ghost use Rattle.std.specs.Prelude.{◌≡◌, ◌<◌, ◌+◌, ◌&&◌, ◌||◌, ℕ, List, IfOk, OnOk, length, not};
 ghost use Rattle.std.specs.Str.{bytes_eq};
 ghost use Rattle.tangle_names.specs.NameTable.{TableRead};
-ghost use Rattle.tangle_plans.specs.Shapes.{Shapes};
+ghost use Rattle.tangle_bodies.specs.Shapes.{Shapes};
 ghost use Rattle.tangle_graph.specs.Measures.{AreMeasures};
 ghost use Rattle.tangle_graph.specs.NamedFiles.{AreFlagged, has_form, with_flag};
 ghost use Rattle.tangle_graph.specs.Outputs.{is_file};

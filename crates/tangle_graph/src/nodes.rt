@@ -1,7 +1,7 @@
 //! Entries of nodes, and the nodes of two tables.
 ghost use Rattle.std.specs.Prelude.{◌≡◌, ◌≢◌, None, IfSome, slice_index_or};
 ghost use Rattle.digraph.specs.Nodes.{Node};
-ghost use Rattle.tangle_plans.specs.Nodes.{title_at};
+ghost use Rattle.tangle_bodies.specs.Nodes.{title_at};
 ghost use Rattle.tangle_graph.specs.Nodes.{IsNodeOf};
 
 use digraph::Node;

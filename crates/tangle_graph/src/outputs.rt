@@ -3,7 +3,7 @@ ghost use Rattle.std.specs.Prelude.{◌≡◌, [], ◌∷◌, ◌++◌, IfOk, On
 ghost use Rattle.std.specs.Prelude.{if◌then◌else◌, not, ◌&&◌, ◌||◌, ◌<◌, ◌+◌};
 ghost use Rattle.std.specs.Prelude.{true, false};
 ghost use Rattle.digraph.specs.Nodes.{program};
-ghost use Rattle.tangle_plans.specs.WebShapes.{ResolvesInside, shapes};
+ghost use Rattle.tangle_bodies.specs.WebShapes.{ResolvesInside, shapes};
 ghost use Rattle.tangle_graph.specs.Grouping.{has_number_in};
 ghost use Rattle.tangle_graph.specs.Measures.{AreMeasures};
 ghost use Rattle.tangle_graph.specs.Outputs.{first_file_name, first_file_occurrence};

@@ -3,7 +3,7 @@ ghost use Rattle.std.specs.Prelude.{◌≡◌, ◌<◌, ◌+◌, ◌^◌, ◌∷
 ghost use Rattle.std.specs.Prelude.{◌++◌, ℕ, length, if◌then◌else◌, take};
 ghost use Rattle.digraph.specs.Rows.{IsRowsOf};
 ghost use Rattle.tangle_names.specs.NameTable.{table_of};
-ghost use Rattle.tangle_plans.specs.WebShapes.{ResolvesInside};
+ghost use Rattle.tangle_bodies.specs.WebShapes.{ResolvesInside};
 ghost use Rattle.tangle_graph.specs.Grouping.{node_of_piece, has_number_in};
 ghost use Rattle.tangle_graph.specs.Grouping.{positions_of};
 

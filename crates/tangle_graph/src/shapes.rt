@@ -1,12 +1,12 @@
 //! Comparing the shapes of two nodes, each of a store of its own.
 ghost use Rattle.std.specs.Prelude.{◌≡◌, ◌<◌, ◌↔◌, [], true, length, All, IfSome, MatchOption};
-ghost use Rattle.tangle_plans.specs.NodeBodies.{HoldsShape, body_uses};
-ghost use Rattle.tangle_plans.specs.Shapes.{Shapes};
+ghost use Rattle.tangle_bodies.specs.NodeBodies.{HoldsShape, body_uses};
+ghost use Rattle.tangle_bodies.specs.Shapes.{Shapes};
 ghost use Rattle.tangle_graph.specs.Stores.{IsStoreOf, shape_in_store};
 
 use crate::store::Store;
 use digraph::Node;
-use tangle_plans::NodeBody;
+use tangle_bodies::NodeBody;
 
 /// The body of the node, which holds its shape; `None` for a node that the store doesn't have.
 fn body_in(store: &Store, node: Node) -> Option<&NodeBody>

@@ -4,9 +4,9 @@ ghost use Rattle.std.specs.Prelude.{All, true, ◌<◌, ◌+◌, length, map, If
 ghost use Rattle.tangle_names.specs.NameTable.{table_of};
 ghost use Rattle.tangle_expansion.specs.Kept.{used_symbols};
 ghost use Rattle.tangle_expansion.specs.Limits.{flat_of};
-ghost use Rattle.tangle_plans.specs.NodeBodies.{body_title, body_uses};
-ghost use Rattle.tangle_plans.specs.Shapes.{Shapes};
-ghost use Rattle.tangle_plans.specs.WebShapes.{shapes};
+ghost use Rattle.tangle_bodies.specs.NodeBodies.{body_title, body_uses};
+ghost use Rattle.tangle_bodies.specs.Shapes.{Shapes};
+ghost use Rattle.tangle_bodies.specs.WebShapes.{shapes};
 ghost use Rattle.tangle_graph.specs.Bodies.{node_bodies};
 ghost use Rattle.tangle_graph.specs.Faults.{AreGraphFaults};
 ghost use Rattle.tangle_graph.specs.NameGraphs.{IsNameGraphOf};
@@ -29,10 +29,10 @@ use digraph::{Node, Rows};
 use std::alloc::Global;
 use std::marker::Model;
 use std::rc::Rc;
+use tangle_bodies::NodeBody;
 use tangle_expansion::{Expansion, Kept, Output, Work, expand};
 use tangle_lines::{Fault, NoMemory};
 use tangle_names::{Counted, NameTable, Names};
-use tangle_plans::NodeBody;
 use tangle_scan::Web;
 
 /// For each node of a web: its pieces, the names that it uses and the nodes that use it, its weight

@@ -6,8 +6,8 @@ use Rattle.tangle_scan.specs.Web.{WebRead}
 use Rattle.tangle_names.specs.NameTable.{TableRead}
 use Rattle.tangle_expansion.specs.Limits.{heaviest, flat_of, IsExpandableNode}
 use Rattle.tangle_expansion.specs.Outputs.{OutputRead, IsReady}
-use Rattle.tangle_plans.specs.WebShapes.{shapes, ResolvesInside}
-use Rattle.tangle_plans.specs.Shapes.{Title, Shapes}
+use Rattle.tangle_bodies.specs.WebShapes.{shapes, ResolvesInside}
+use Rattle.tangle_bodies.specs.Shapes.{Title, Shapes}
 use Rattle.tangle_expansion.specs.declared.kept.Kept.{Kept}
 use Rattle.tangle_graph.specs.Stores.{StoreRead}
 use Rattle.tangle_graph.specs.WebStores.{IsStoreOfWeb}

@@ -66,17 +66,17 @@ join_ahead (t ∷ ts) = is_join t || is_between_items t && join_ahead ts
 -- Whether the token after the tokens of a line ends the line, where `after` is what follows. A use
 -- and @h do. So does a line end, unless the line goes on there, or a join before it or after it
 -- removes it.
-abbrev pub ends_line : List (List ℕ) → List Token → Token → List Token → Bool
-ends_line texts line (token.LineEnd number) after =
+abbrev pub ends_line_of_c : List (List ℕ) → List Token → Token → List Token → Bool
+ends_line_of_c texts line (token.LineEnd number) after =
     not (join_behind line || goes_on texts line) && not (join_ahead after)
-ends_line texts line t after = is_use t
+ends_line_of_c texts line t after = is_use t
 
 -- The lines of C of a part, each with the token that ends it. `line` is what is before these tokens
 -- on the first one.
 abbrev pub lines_of_c : List (List ℕ) → List Token → List Token → List (List Token)
 lines_of_c texts line [] = line ∷ []
 lines_of_c texts line (t ∷ ts) =
-    if ends_line texts line t ts then (line ++ t ∷ []) ∷ lines_of_c texts [] ts
+    if ends_line_of_c texts line t ts then (line ++ t ∷ []) ∷ lines_of_c texts [] ts
     else lines_of_c texts (line ++ t ∷ []) ts
 
 -- the last of these lines; `before` is the one before them

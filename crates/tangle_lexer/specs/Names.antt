@@ -167,15 +167,15 @@ use_of_name s text =
     fault.NameEquals (front_line s.last_line text))
     (name_more text) (with_line after_use s) text
 
-abbrev pub is_macro : Mode → Bool
-is_macro mode.Macro = true
-is_macro _ = false
+abbrev pub is_macro_mode : Mode → Bool
+is_macro_mode mode.Macro = true
+is_macro_mode _ = false
 
 -- a mention that ends a macro is a fault, since the macro is cut there
 abbrev pub mention_faults : LexerState → List Cell → List Token
 mention_faults s text =
     name_faults s.last_line text
-    ++ fault_if (is_macro s.mode) fault.NameInMacro (front_line s.last_line text)
+    ++ fault_if (is_macro_mode s.mode) fault.NameInMacro (front_line s.last_line text)
 
 -- A name of documentation, or one that ends a macro, is a definition if `count` cells after it end
 -- with an equals sign: a C part begins after them. Otherwise it is a mention.

@@ -144,8 +144,8 @@ last_is_backslash last [] = last
 last_is_backslash last (u ∷ us) = last_is_backslash (is_backslash u) us
 
 -- the verbatim text at the front ends in a backslash
-abbrev pub ends_in_backslash : List Cell → Bool
-ends_in_backslash text = last_is_backslash false (units region.Verbatim text)
+abbrev pub verbatim_ends_in_backslash : List Cell → Bool
+verbatim_ends_in_backslash text = last_is_backslash false (units region.Verbatim text)
 
 -- @= and the text up to @> on the same line
 abbrev pub verbatim_text : LexerState → List Cell → Lexeme
@@ -153,4 +153,4 @@ verbatim_text s text =
     let inside : ℕ = count_before region.Verbatim (drop 2 text) in
     lexeme_of (verbatim_tokens (drop 2 text))
     (1 + inside + two_if (has_end_code (drop inside (drop 2 text))))
-    (with_line (after_item include.Elsewhere false (ends_in_backslash (drop 2 text)) s.line) s)
+    (with_line (after_item include.Elsewhere false (verbatim_ends_in_backslash (drop 2 text)) s.line) s)

@@ -371,8 +371,8 @@ fn pass_equals(reader: &mut Reader, last: u32) -> Option<u32>
     }
 }
 
-fn is_macro(mode: Mode) -> bool
-    ensures { result ≡ spec.is_macro mode }
+fn is_macro_mode(mode: Mode) -> bool
+    ensures { result ≡ spec.is_macro_mode mode }
 {
     matches!(mode, Mode::Macro)
 }
@@ -389,7 +389,7 @@ fn push_mention(
     requires { state.occurrences ≡ length buffers.old.occurrences.items }
     ensures tokens { OnOk result (buffers.new.tokens.items ≡ buffers.old.tokens.items
         ++ fault_if (not name.is_ended) fault.NameEnd name.end_line
-        ++ fault_if (spec.is_macro state.mode) fault.NameInMacro name.line) }
+        ++ fault_if (spec.is_macro_mode state.mode) fault.NameInMacro name.line) }
     ensures occurrences { OnOk result (buffers.new.occurrences.items ≡ buffers.old.occurrences.items
         ++ occurrence_of source.now.lines (spec.in_role role.Mention name) ∷ []) }
     ensures state { IfOk result (λ after. after
@@ -397,7 +397,7 @@ fn push_mention(
 {
     let tokens = &mut buffers.tokens;
     push_fault_if(tokens, !name.is_ended, FaultKind::NameEnd, name.end_line)?;
-    let in_macro = is_macro(state.mode);
+    let in_macro = is_macro_mode(state.mode);
     push_fault_if(tokens, in_macro, FaultKind::NameInMacro, name.line)?;
     let after = push_occurrence(
         source,

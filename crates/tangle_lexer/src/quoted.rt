@@ -252,8 +252,8 @@ fn is_backslash_at(unit: Unit, byte: Option<u8>) -> bool
 }
 
 /// Whether the verbatim text at the position ends in a backslash.
-fn ends_in_backslash(reader: &Reader) -> bool
-    ensures { result ≡ spec.ends_in_backslash reader.now }
+fn verbatim_ends_in_backslash(reader: &Reader) -> bool
+    ensures { result ≡ spec.verbatim_ends_in_backslash reader.now }
 {
     let mut here = reader.copy();
     let mut is_backslash = false;
@@ -278,7 +278,7 @@ pub fn verbatim_text(
         after (spec.verbatim_text state reader.old)) }
 {
     reader.pass(Unit::Two);
-    let is_backslash = ends_in_backslash(reader);
+    let is_backslash = verbatim_ends_in_backslash(reader);
     push_verbatim(tokens, reader, state.last_line)?;
     pass_end(Region::Verbatim, reader);
     let line = state

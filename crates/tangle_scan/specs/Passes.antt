@@ -247,7 +247,7 @@ from_gap lines kept at front es =
 -- The items so far, those of them that are before the current gap, and the state are those of the
 -- tokens so far, which end with the gap `gap`. `front` is the token before the gap, `before` the
 -- last token on the current line, and `prev` the last token.
-pub record IsRead (lines : List SourceLine) (items kept : List Item) (at : PartState) : Type 0 where
+pub record IsPartRead (lines : List SourceLine) (items kept : List Item) (at : PartState) : Type 0 where
   pub gap : List Token
   pub front : Option Token
   pub before : Option Token
@@ -269,7 +269,7 @@ pub record IsRead (lines : List SourceLine) (items kept : List Item) (at : PartS
 -- were not read yet.
 pub record IsPassed (lines : List SourceLine) (whole items kept : List Item) (at : PartState)
     (es : List Token) : Type 0 where
-  pub read : IsRead lines items kept at
+  pub read : IsPartRead lines items kept at
   pub left : whole ≡ from_gap lines kept at read.front
       (without_joins read.gap (spaced_after (texts_of lines) read.prev es))
 

@@ -29,7 +29,7 @@ read_number count n (d ∷ ds) file all few some =
 
 -- what is read as a number and a file is digits, one space and the file
 
-pub record IsRead (count n : ℕ) (rest : List ℕ) (number : ℕ) (file : List ℕ) : Type 0 where
+pub record IsNumberRead (count n : ℕ) (rest : List ℕ) (number : ℕ) (file : List ℕ) : Type 0 where
   pub digits : List ℕ
   pub all : list_all is_digit digits ≡ true
   pub few : length digits ≤ 9 - count
@@ -38,7 +38,7 @@ pub record IsRead (count n : ℕ) (rest : List ℕ) (number : ℕ) (file : List 
   pub whole : rest ≡ digits ++ 32 ∷ file
 
 number_read : (count n : ℕ) (rest : List ℕ) (p : ℕ × List ℕ) → number_and_file count n rest ≡ Some p
-    → IsRead count n rest p.0 p.1
+    → IsNumberRead count n rest p.0 p.1
 number_read count n [] p e = absurd (cc)
 number_read count n (b ∷ bs) p e =
     by (is_digit b && nat_lt count 9) refl ((b == 32) && nat_lt 0 count) refl e
@@ -49,7 +49,7 @@ number_read count n (b ∷ bs) p e =
         → cond t (number_and_file (count + 1) (n * 10 + (b - 48)) bs) (cond u (Some (n, bs)) None)
         ≡ Some p
         → (number_and_file (count + 1) (n * 10 + (b - 48)) bs ≡ Some p
-        → IsRead (count + 1) (n * 10 + (b - 48)) bs p.0 p.1) → IsRead count n (b ∷ bs) p.0 p.1
+        → IsNumberRead (count + 1) (n * 10 + (b - 48)) bs p.0 p.1) → IsNumberRead count n (b ∷ bs) p.0 p.1
     by true is u are e h =
         let k = h e in
         let digit = and_parts (is_digit b) (nat_lt count 9) is in
@@ -98,7 +98,7 @@ module _ (P : Request → Type 0) where
   at_row word line request other h k = search (rules, take-append-drop)
 
   at_number : (request : ℕ → List ℕ → Request) (rest : List ℕ)
-      → ((n : ℕ) (file : List ℕ) → IsRead 0 0 rest n file → P (request n file)) → P BadCommand
+      → ((n : ℕ) (file : List ℕ) → IsNumberRead 0 0 rest n file → P (request n file)) → P BadCommand
       → P (numbered request (number_and_file 0 0 rest))
   at_number request rest h k = search (rules, number_read)
 
@@ -107,7 +107,7 @@ module _ (P : Request → Type 0) where
   at_word line word this other h k = search rules
 
 read_row : (word line rest : List ℕ) (n : ℕ) (file : List ℕ) → line ≡ word ++ rest
-    → IsRead 0 0 rest n file → IsNumbered word n file line
+    → IsNumberRead 0 0 rest n file → IsNumbered word n file line
 read_row word line rest n file e h = search rules
 
 module _ (c : Command) where

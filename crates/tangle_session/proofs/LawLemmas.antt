@@ -19,17 +19,17 @@ use Rattle.tangle_names.specs.NameTable.{table_of}
 use Rattle.tangle_names.specs.Resolving.{first_number, first_occurrence}
 use Rattle.tangle_expansion.specs.Limits.{levels, heaviest}
 use Rattle.tangle_expansion.specs.Outputs.{OutputRead}
-use Rattle.tangle_plans.specs.WebShapes.{shapes}
-use Rattle.tangle_plans.specs.Shapes.{Title, Named, Shapes, Uses}
+use Rattle.tangle_bodies.specs.WebShapes.{shapes}
+use Rattle.tangle_bodies.specs.Shapes.{Title, Named, Shapes, Uses}
 use Rattle.digraph.specs.Reach.{Reaches, here, on, ContainsItself}
 use Rattle.tangle_graph.specs.Faults.{AreGraphFaults, fault_of, fault_occurrence, faults_of_names}
-use Rattle.tangle_plans.specs.Nodes.{title_at}
+use Rattle.tangle_bodies.specs.Nodes.{title_at}
 use Rattle.tangle_graph.proofs.FaultLemmas.{one_list}
 use Rattle.tangle_graph.proofs.NodeLemmas.{title_inside}
-use Rattle.tangle_graph.proofs.StoreLemmas.{there}
+use Rattle.tangle_graph.proofs.NodeMeasureLemmas.{there}
 use Rattle.tangle_graph.proofs.OutputLemmas.{IsFit, outputs_fit}
 use Rattle.tangle_names.proofs.LawLemmas.{occur}
-use Rattle.tangle_plans.proofs.InsideLemmas.{table_inside}
+use Rattle.tangle_bodies.proofs.InsideLemmas.{table_inside}
 use Rattle.tangle_expansion.proofs.Unaffected as unaffected
 use Rattle.tangle_session.specs.Headline.{EachCycleIsReported, IsPlainTangling, NoOutputReachesACycle}
 use Rattle.tangle_session.specs.Headline.{source_at, web_at}

@@ -14,8 +14,8 @@ use Rattle.tangle_names.specs.declared.Resolved.{Resolved}
 use Rattle.tangle_names.specs.Names.{NameText, Meaning, One, full_names, meaning, only_with, prefix}
 use Rattle.tangle_names.specs.NameTable.{TableRead}
 use Rattle.tangle_names.specs.Resolving.{names_in_order, names_of, resolve, resolved_meaning}
-use Rattle.tangle_plans.specs.WebShapes.{is_node, is_piece_of, node_of_occurrence, resolved_at, shape_item, use_of}
-use Rattle.tangle_plans.specs.Shapes.{Shape, ShapeItem, Title}
+use Rattle.tangle_bodies.specs.WebShapes.{is_node, is_piece_of, node_of_occurrence, resolved_at, shape_item, use_of}
+use Rattle.tangle_bodies.specs.Shapes.{Shape, ShapeItem, Title}
 use Rattle.digraph.specs.Nodes.{Node}
 use Rattle.tangle_session.specs.Moves.{HaveSameShapes, IsMoved, item_form, occurrence_form, piece_form}
 use Rattle.tangle_session.specs.Sessions.{ListsAffectedOfWebs, shapes_of}

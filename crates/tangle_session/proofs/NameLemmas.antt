@@ -25,17 +25,17 @@ use Rattle.tangle_names.specs.declared.Resolved.{Resolved}
 use Rattle.tangle_names.specs.declared.Resolved.TheVariants as resolved
 use Rattle.tangle_names.specs.NameTable.{TableRead, table_of}
 use Rattle.tangle_expansion.specs.Outputs.{OutputRead}
-use Rattle.tangle_plans.specs.ItemTags.{uses_resolved}
-use Rattle.tangle_plans.specs.Flat.{depth, weight}
-use Rattle.tangle_plans.specs.Shapes.{Named}
-use Rattle.tangle_plans.specs.WebShapes.{name_at, resolved_at, shapes}
+use Rattle.tangle_bodies.specs.ItemTags.{uses_resolved}
+use Rattle.tangle_bodies.specs.Flat.{depth, weight}
+use Rattle.tangle_bodies.specs.Shapes.{Named}
+use Rattle.tangle_bodies.specs.WebShapes.{name_at, resolved_at, shapes}
 use Rattle.tangle_expansion.specs.Limits.{heaviest, levels}
 use Rattle.tangle_graph.specs.Grouping.{has_number_in}
 use Rattle.tangle_graph.specs.Outputs.{file_names, first_file_name, first_file_occurrence}
 use Rattle.tangle_graph.specs.Outputs.{form_at, is_earlier_file, is_expandable, is_file, is_main_file, is_named_file}
 use Rattle.tangle_graph.specs.Outputs.{is_written, named_file, outputs, shape_has_piece}
 use Rattle.tangle_graph.specs.PlainForms.{plain_form}
-use Rattle.tangle_plans.proofs.InsideLemmas.{table_inside}
+use Rattle.tangle_bodies.proofs.InsideLemmas.{table_inside}
 use Rattle.tangle_graph.proofs.OutputLemmas.{names_below}
 use Rattle.tangle_session.specs.Headline.{output_at, output_bytes, output_files, table_at, web_at}
 use Rattle.tangle_session.proofs.OutputLemmas.{names_written}

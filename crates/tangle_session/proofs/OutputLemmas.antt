@@ -14,7 +14,7 @@ use Rattle.tangle_files.specs.Lines.{FileTable}
 use Rattle.tangle_files.specs.Roles.{RolesRead}
 use Rattle.tangle_scan.specs.Web.{WebRead}
 use Rattle.tangle_names.specs.NameTable.{table_of}
-use Rattle.tangle_plans.specs.Flat.{Symbol}
+use Rattle.tangle_bodies.specs.Flat.{Symbol}
 use Rattle.tangle_expansion.specs.Numbers.{numbers_of}
 use Rattle.tangle_expansion.specs.Outputs.{OutputRead, output_file_bytes, kept_output_bytes}
 use Rattle.tangle_expansion.specs.declared.kept.Kept.{Kept}

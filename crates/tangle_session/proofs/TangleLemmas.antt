@@ -23,12 +23,12 @@ use Rattle.tangle_expansion.specs.Limits.{levels, heaviest, flat_of, IsExpandabl
 use Rattle.tangle_expansion.specs.Numbers.{numbers_of, expansion_bytes}
 use Rattle.tangle_expansion.specs.Outputs.{OutputRead, IsReady, kept_output_bytes, output_file_bytes}
 use Rattle.digraph.specs.Nodes.{Node}
-use Rattle.tangle_plans.specs.Nodes.{title_at}
+use Rattle.tangle_bodies.specs.Nodes.{title_at}
 use Rattle.tangle_graph.specs.Nodes.{IsNodeOf}
 use Rattle.tangle_graph.specs.Outputs.{outputs}
 use Rattle.tangle_graph.specs.Stores.{StoreRead, IsStoreOf}
 use Rattle.tangle_expansion.proofs.LineTruth.{true_to_lines}
-use Rattle.tangle_plans.proofs.InsideLemmas.{table_inside}
+use Rattle.tangle_bodies.proofs.InsideLemmas.{table_inside}
 use Rattle.tangle_graph.proofs.ExpandLemmas.{expandable_at}
 use Rattle.tangle_graph.proofs.OutputLemmas.{IsFit, outputs_fit}
 use Rattle.tangle_affected.proofs.OutputLemmas.{ready}

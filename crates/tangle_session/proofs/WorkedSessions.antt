@@ -13,7 +13,7 @@ use Rattle.tangle_files.specs.Roles.{RolesRead, roles_of}
 use Rattle.tangle_lines.specs.Reading.{reads_in}
 use Rattle.tangle_lexer.specs.Steps.{lexeme, occurrences_from, tokens_from}
 use Rattle.tangle_scan.specs.Web.{WebRead}
-use Rattle.tangle_plans.specs.Shapes.{LineEnd, Mark, NoUse, Word, Written}
+use Rattle.tangle_bodies.specs.Shapes.{LineEnd, Mark, NoUse, Word, Written}
 use Rattle.tangle_session.specs.Edits.{list_refusal, session_refusal}
 use Rattle.tangle_session.specs.Headline.{Apply, ApplyAll, Call, IsAnswered, accepted, files_after, roles_with}
 use Rattle.tangle_session.specs.Headline.{source_at, web_at}

@@ -38,12 +38,12 @@ use Rattle.tangle_names.specs.NameTable.{TableRead, table_of}
 use Rattle.tangle_expansion.specs.Limits.{flat_of}
 use Rattle.tangle_expansion.specs.Numbers.{numbers_of}
 use Rattle.tangle_expansion.specs.Outputs.{OutputRead, output_file_bytes}
-use Rattle.tangle_plans.specs.WebShapes.{shapes}
-use Rattle.tangle_plans.specs.Shapes.{Title, Named, Uses}
+use Rattle.tangle_bodies.specs.WebShapes.{shapes}
+use Rattle.tangle_bodies.specs.Shapes.{Title, Named, Uses}
 use Rattle.digraph.specs.Nodes.{Node}
 use Rattle.digraph.specs.Reach.{Reaches, ContainsItself}
 use Rattle.tangle_graph.specs.Faults.{AreGraphFaults}
-use Rattle.tangle_plans.specs.Nodes.{title_at}
+use Rattle.tangle_bodies.specs.Nodes.{title_at}
 use Rattle.tangle_graph.specs.Outputs.{outputs}
 use Rattle.tangle_session.specs.Edits.{list_memory, list_refusal, session_refusal}
 use Rattle.tangle_session.specs.Laws.{IsReportedSelfContaining}

@@ -5,8 +5,8 @@ use Rattle.tangle_scan.specs.Web.{WebRead, PieceRead}
 use Rattle.tangle_scan.specs.declared.items.Item.{Item}
 use Rattle.tangle_scan.specs.declared.items.Item.TheVariants.{UseOf}
 use Rattle.tangle_names.specs.NameTable.{TableRead}
-use Rattle.tangle_plans.specs.WebShapes.{shape_item}
-use Rattle.tangle_plans.specs.Shapes.{ShapeItem, Title}
+use Rattle.tangle_bodies.specs.WebShapes.{shape_item}
+use Rattle.tangle_bodies.specs.Shapes.{ShapeItem, Title}
 use Rattle.tangle_session.specs.Sessions.{shapes_of}
 
 -- each node keeps its shape

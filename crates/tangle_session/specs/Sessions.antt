@@ -12,9 +12,9 @@ use Rattle.tangle_expansion.specs.Affected.{IsAffected}
 use Rattle.tangle_expansion.specs.Limits.{levels, heaviest, IsExpandableNode}
 use Rattle.digraph.specs.Nodes.{Node}
 use Rattle.tangle_graph.specs.Nodes.{IsNodeOf}
-use Rattle.tangle_plans.specs.WebShapes.{shapes}
-use Rattle.tangle_plans.specs.Shapes.{Shapes}
-use Rattle.tangle_plans.specs.Nodes.{title_at}
+use Rattle.tangle_bodies.specs.WebShapes.{shapes}
+use Rattle.tangle_bodies.specs.Shapes.{Shapes}
+use Rattle.tangle_bodies.specs.Nodes.{title_at}
 
 -- the files, the roles, and the nodes that were expanded in the start or in the last accepted edit
 pub record SessionRead : Type 0 where

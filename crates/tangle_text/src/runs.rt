@@ -22,7 +22,7 @@ fn holds_plain(byte: Option<u8>) -> bool
 
 /// Whether a run may go over the byte at this column, which is not plain.
 #[inline(always)]
-fn goes_on(bytes: &[u8], column: usize) -> bool
+fn run_goes_on(bytes: &[u8], column: usize) -> bool
     requires inside { column < length bytes.now }
     requires other { runs.is_plain (get_or bytes.now column 0) ≡ false }
     ensures { result
@@ -43,7 +43,7 @@ fn goes_over(bytes: &[u8], column: usize) -> bool
     ensures { result
         ≡ runs.is_run_byte (get_or bytes.now column 0) (slice_get bytes.now (column + 1)) }
 {
-    is_plain(bytes[column]) || goes_on(bytes, column)
+    is_plain(bytes[column]) || run_goes_on(bytes, column)
 }
 
 /// The column of the first byte from this column on that no run goes over.

@@ -34,7 +34,7 @@ use Rattle.tangle_lexer.specs.Lexemes.{Lexeme, fault_if}
 use Rattle.tangle_lexer.specs.Comments.{unit_line_end, line_ends, starts_section}
 use Rattle.tangle_lexer.specs.Quoted.{unit_tokens, next_start, at_stop, cut_tokens, verbatim_end}
 use Rattle.tangle_lexer.specs.Constants.{constant_lexeme}
-use Rattle.tangle_lexer.specs.Names.{is_ended, name_end, is_macro}
+use Rattle.tangle_lexer.specs.Names.{is_ended, name_end, is_macro_mode}
 use Rattle.tangle_lexer.specs.Names.{name_in_documentation, definition_or_mention, definition_count}
 use Rattle.tangle_lexer.specs.CText.{code_at, kind_by, kind_at}
 use Rattle.tangle_lexer.specs.Steps.{documentation_code, c_code, c_lexeme, macro_lexeme, lexeme_in, lexeme, lexemes}
@@ -117,7 +117,7 @@ no-name s text = by (definition_count text)
     by : (count : Option ℕ) → HasNoSource (definition_or_mention count s text).tokens
     by None =
         no-append _ _ (no-fault (not (is_ended text)) fault.NameEnd (front_line s.last_line (name_end text)))
-        (no-fault (is_macro s.mode) fault.NameInMacro (front_line s.last_line text))
+        (no-fault (is_macro_mode s.mode) fault.NameInMacro (front_line s.last_line text))
     by (Some count) = seen _ refl
 
 no-constant : (constant : Option AsciiConstant) (s : LexerState) (text : List Cell)

@@ -17,7 +17,7 @@ use Rattle.tangle_lexer.specs.LinesOfC.{with_item, joined_line, line_after_end, 
 use Rattle.tangle_lexer.specs.LinesOfC as lines_of_c
 use Rattle.tangle_lexer.specs.Lexemes.{fault_if}
 use Rattle.tangle_lexer.specs.LinesOfParts.{is_number_sign, is_use, is_directive}
-use Rattle.tangle_lexer.specs.LinesOfParts.{goes_on, join_behind, join_ahead, ends_line, is_inner_line_end}
+use Rattle.tangle_lexer.specs.LinesOfParts.{goes_on, join_behind, join_ahead, ends_line_of_c, is_inner_line_end}
 use Rattle.tangle_lexer.specs.LinesOfParts.{HasInnerEndsAsDirective, uses_in_directive, is_use_fault}
 use Rattle.tangle_lexer.specs.LinesOfParts.{begins_with_use_fault}
 use Rattle.tangle_lexer.specs.LinesOfParts as parts
@@ -77,11 +77,11 @@ module _ (texts : List (List ℕ)) (R : Judgement texts) where
   Goes false before t l e ahead = IsOpen texts (before ++ t ∷ []) l e ahead
 
   one-step : {l m : LineOfC} {e f : AtLineEnd} (t : Token) → is_use t ≡ false → is_use_fault t ≡ false
-      → ((before us : List Token) → IsOpen texts before l e (t ∷ us) → Goes (ends_line texts before t us) before t m f us)
+      → ((before us : List Token) → IsOpen texts before l e (t ∷ us) → Goes (ends_line_of_c texts before t us) before t m f us)
       → Steps l e (t ∷ []) m f
   one-step {l} {m} {e} {f} t no_use no_fault goes = record {
     none = λ us h. no_fault;
-    holds = λ us h next before is. by us h next before is (ends_line texts before t us) (goes before us is);
+    holds = λ us h next before is. by us h next before is (ends_line_of_c texts before t us) (goes before us is);
   }
     where
       by : (us : List Token) → begins_with_use_fault us ≡ false → Holds m f us
@@ -182,7 +182,7 @@ module _ (texts : List (List ℕ)) (R : Judgement texts) where
       )
 
       goes : (before us : List Token) → IsOpen texts before l e (t ∷ us)
-          → Goes (ends_line texts before t us) before t (line_after_end e l) (at_next_line_end e) us
+          → Goes (ends_line_of_c texts before t us) before t (line_after_end e l) (at_next_line_end e) us
       goes before us is = by before us is (join_behind before) (goes_on texts before) (join_ahead us) is.end refl
 
   -- a line end inside a comment or a control text of a directive
@@ -200,7 +200,7 @@ module _ (texts : List (List ℕ)) (R : Judgement texts) where
   module _ (t : Token) (is_used : is_use t ≡ true) (no_fault : is_use_fault t ≡ false)
       (no_inner : is_inner_line_end t ≡ false) (no_join : (us : List Token) → join_ahead (t ∷ us) ≡ false)
       (item : (l : LineOfC) → kind_after texts t l ≡ with_item false l)
-      (ends : (before us : List Token) → ends_line texts before t us ≡ true) where
+      (ends : (before us : List Token) → ends_line_of_c texts before t us ≡ true) where
     pub use-step : {l : LineOfC} {e : AtLineEnd} (n : ℕ)
         → Steps l e (t ∷ use_fault (lines_of_c.is_directive l) n) line.Empty Ends
     use-step {l} {e} n = record {

@@ -18,7 +18,7 @@ use Rattle.tangle_lexer.specs.declared.tokens.SpanKind.TheVariants as span_kind
 use Rattle.tangle_lexer.specs.declared.tokens.Token.TheVariants as token
 use Rattle.tangle_lexer.specs.LinesOfC.{with_item}
 use Rattle.tangle_lexer.specs.Quoted.{range_token, verbatim_end, empty_end, verbatim_tokens, last_is_backslash}
-use Rattle.tangle_lexer.specs.Quoted.{ends_in_backslash}
+use Rattle.tangle_lexer.specs.Quoted.{verbatim_ends_in_backslash}
 use Rattle.tangle_lexer.specs.SpanBytes.{last_byte}
 use Rattle.tangle_lexer.proofs.laws.CutTexts.{verbatim-cut}
 use Rattle.tangle_lexer.proofs.laws.Points.{Point, source_byte, IsTextAt}
@@ -83,7 +83,7 @@ module _ (texts : List (List ℕ)) (R : Judgement texts) (l : LineOfC) where
       (empty-step e (c ∷ cs)) (faults-step texts R (is_line_end c.byte) fault.VerbatimEnd c.line refl)
 
   pub verbatim-steps : (e : AtLineEnd) (at : Point) (text : List Cell) → IsTextAt texts at text
-      → Steps texts R l e (verbatim_tokens text) m (end_by (ends_in_backslash text))
+      → Steps texts R l e (verbatim_tokens text) m (end_by (verbatim_ends_in_backslash text))
   unfolding IsCutFrom
   verbatim-steps e at [] is = empty-end e []
   verbatim-steps e at (c ∷ cs) is =

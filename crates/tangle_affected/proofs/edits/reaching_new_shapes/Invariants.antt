@@ -1,5 +1,5 @@
 use Rattle.std.proofs.Common.{◌≡◌, ◌+◌, length, take}
-use Rattle.tangle_plans.specs.Shapes.{Shapes}
+use Rattle.tangle_bodies.specs.Shapes.{Shapes}
 use Rattle.tangle_graph.specs.Stores.{AreNewShapes, IsStoreOf, StoreRead}
 use Rattle.tangle_affected.specs.Flags.{AreFlagged}
 use Rattle.tangle_affected.proofs.edits.reaching_new_shapes.Given as goal

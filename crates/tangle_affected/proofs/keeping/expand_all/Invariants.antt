@@ -1,5 +1,5 @@
 use Rattle.std.proofs.Common.{◌≡◌, ◌++◌, filter, take}
-use Rattle.tangle_plans.specs.Shapes.{Shapes}
+use Rattle.tangle_bodies.specs.Shapes.{Shapes}
 use Rattle.tangle_graph.specs.Stores.{IsStoreOf, is_expandable_at}
 use Rattle.tangle_affected.proofs.KeepLemmas.{KeepsThese}
 use Rattle.tangle_affected.proofs.keeping.expand_all.Given as goal

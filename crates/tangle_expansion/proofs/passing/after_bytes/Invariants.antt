@@ -1,5 +1,5 @@
 use Rattle.std.proofs.Common.{◌≡◌, ◌≤◌, ◌-◌, ◌++◌, List, length}
-use Rattle.tangle_plans.specs.Flat.{Symbol}
+use Rattle.tangle_bodies.specs.Flat.{Symbol}
 use Rattle.tangle_expansion.specs.Numbers.{NumbersRead}
 use Rattle.tangle_expansion.specs.Writing.{bytes_between, bytes_from}
 use Rattle.tangle_expansion.proofs.passing.after_bytes.Given as goal

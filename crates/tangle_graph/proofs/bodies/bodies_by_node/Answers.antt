@@ -4,7 +4,7 @@ use Rattle.std.proofs.Common.{length-append, arith}
 use Rattle.std.specs.Global.{Global}
 use Rattle.std.specs.declared.rc.Rc.{Rc}
 use Rattle.std.proofs.lemmas.List.{length-map}
-use Rattle.tangle_plans.specs.declared.nodes.NodeBody.{NodeBody}
+use Rattle.tangle_bodies.specs.declared.nodes.NodeBody.{NodeBody}
 use Rattle.tangle_graph.proofs.PushLemmas.{IsBodyMade, bodies_push, new_of_old}
 use Rattle.tangle_graph.proofs.bodies.bodies_by_node.Goals as goal
 

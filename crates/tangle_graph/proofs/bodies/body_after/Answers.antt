@@ -5,10 +5,10 @@ use Rattle.std.proofs.Common.{◌∙◌, ap, refl, sym}
 use Rattle.std.proofs.lemmas.List.{length-map}
 use Rattle.std.proofs.lemmas.Option.{IfSome_then}
 use Rattle.digraph.specs.Graph.{row_at}
-use Rattle.tangle_plans.specs.NodeBodies.{names_at}
-use Rattle.tangle_plans.specs.Nodes.{title_at}
+use Rattle.tangle_bodies.specs.NodeBodies.{names_at}
+use Rattle.tangle_bodies.specs.Nodes.{title_at}
 use Rattle.tangle_graph.proofs.BodyLemmas.{new_unless_same}
-use Rattle.tangle_graph.proofs.PlanLemmas.{body_made, body_of_items, new_if_pieces, numbers, uses_below}
+use Rattle.tangle_graph.proofs.BodyMakingLemmas.{body_made, body_of_items, new_if_pieces, numbers, uses_below}
 use Rattle.tangle_graph.proofs.bodies.body_after.Goals as goal
 
 pub make-requires : goal.make-requires

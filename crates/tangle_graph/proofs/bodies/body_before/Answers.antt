@@ -1,5 +1,5 @@
 use Rattle.std.proofs.Common.{refl}
-use Rattle.tangle_plans.specs.Nodes.{title_at}
+use Rattle.tangle_bodies.specs.Nodes.{title_at}
 use Rattle.tangle_graph.proofs.NameLemmas.{no_shape}
 use Rattle.tangle_graph.proofs.bodies.body_before.Goals as goal
 

@@ -1,7 +1,7 @@
 use Rattle.std.proofs.Common.{◌≡◌, ◌≤◌, true, [], ◌∷◌, arith, min, refl}
 use Rattle.tangle_expansion.specs.Limits.{levels, weight_cap}
-use Rattle.tangle_plans.specs.Flat.{own_weight}
-use Rattle.tangle_plans.specs.Shapes.{Shape}
+use Rattle.tangle_bodies.specs.Flat.{own_weight}
+use Rattle.tangle_bodies.specs.Shapes.{Shape}
 use Rattle.tangle_graph.specs.Outputs.{shape_has_piece}
 use Rattle.tangle_graph.proofs.StepLemmas.{measure_with, measure_without}
 use Rattle.tangle_graph.proofs.measures.measure_of_node.Goals as goal

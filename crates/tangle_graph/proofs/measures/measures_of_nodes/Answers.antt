@@ -6,9 +6,9 @@ use Rattle.digraph.specs.Graph.{HasUse}
 use Rattle.digraph.proofs.GraphLemmas.{use_in}
 use Rattle.digraph.proofs.OrderLemmas.{left_out_deep}
 use Rattle.tangle_expansion.specs.Limits.{levels, weight_cap}
-use Rattle.tangle_plans.specs.Flat.{depth, weight}
-use Rattle.tangle_plans.specs.NodeBodies.{body_uses}
-use Rattle.tangle_plans.specs.Nodes.{title_at}
+use Rattle.tangle_bodies.specs.Flat.{depth, weight}
+use Rattle.tangle_bodies.specs.NodeBodies.{body_uses}
+use Rattle.tangle_bodies.specs.Nodes.{title_at}
 use Rattle.tangle_names.proofs.ContainsLemmas.{no_item}
 use Rattle.tangle_graph.specs.Bodies.{node_bodies}
 use Rattle.tangle_graph.specs.Measures.{measure_of}

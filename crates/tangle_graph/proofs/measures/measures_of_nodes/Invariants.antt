@@ -1,7 +1,7 @@
 use Rattle.std.proofs.Common.{◌≡◌, ◌<◌, List, ℕ, false, length, take}
 use Rattle.tangle_expansion.specs.Limits.{levels, weight_cap}
-use Rattle.tangle_plans.specs.Nodes.{title_at}
-use Rattle.tangle_plans.specs.Shapes.{Shapes}
+use Rattle.tangle_bodies.specs.Nodes.{title_at}
+use Rattle.tangle_bodies.specs.Shapes.{Shapes}
 use Rattle.tangle_graph.specs.Bodies.{AreBodiesOf, node_bodies}
 use Rattle.tangle_graph.specs.Measures.{IsMeasured, measure_of}
 use Rattle.tangle_graph.proofs.measures.measures_of_nodes.Given as goal

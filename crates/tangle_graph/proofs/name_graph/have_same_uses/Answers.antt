@@ -1,6 +1,6 @@
 use Rattle.std.proofs.Common.{rules}
 use Rattle.std.proofs.Common.{◌≡◌, ◌∙◌, ◌<◌, ◌++◌, ◌∷◌, [], arith, length, sym}
-use Rattle.tangle_plans.specs.NodeBodies.{body_uses}
+use Rattle.tangle_bodies.specs.NodeBodies.{body_uses}
 use Rattle.tangle_graph.proofs.NameGraphLemmas.{uses_more}
 use Rattle.tangle_graph.proofs.name_graph.have_same_uses.Goals as goal
 

@@ -6,8 +6,8 @@ use Rattle.std.specs.declared.rc.Rc.{Rc}
 use Rattle.std.proofs.lemmas.List.{length-map}
 use Rattle.digraph.specs.Graph.{Graph}
 use Rattle.digraph.specs.Rows.{IsOnceEach}
-use Rattle.tangle_plans.specs.NodeBodies.{body_uses}
-use Rattle.tangle_plans.specs.declared.nodes.NodeBody.{NodeBody}
+use Rattle.tangle_bodies.specs.NodeBodies.{body_uses}
+use Rattle.tangle_bodies.specs.declared.nodes.NodeBody.{NodeBody}
 use Rattle.tangle_graph.specs.NameGraphs.{AreUsesOf}
 use Rattle.tangle_graph.specs.Bodies.{node_bodies}
 use Rattle.tangle_graph.proofs.NameGraphLemmas.{each_in_range, each_increasing, once_all, once_more}

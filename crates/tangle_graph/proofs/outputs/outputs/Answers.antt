@@ -2,14 +2,14 @@ use Rattle.std.proofs.Common.{rules}
 use Rattle.std.proofs.Common.{◌≡◌, ◌∙◌, ◌<◌, ◌++◌, ◌∷◌, [], length, map, suc, take, filter, get_or, ap, append_assoc}
 use Rattle.std.proofs.Common.{sym, arith, ◌||◌}
 use Rattle.std.specs.Prelude.{All, if◌then◌else◌}
-use Rattle.tangle_plans.specs.Shapes.{Named, Program}
-use Rattle.tangle_plans.specs.WebShapes.{name_at, shapes}
+use Rattle.tangle_bodies.specs.Shapes.{Named, Program}
+use Rattle.tangle_bodies.specs.WebShapes.{name_at, shapes}
 use Rattle.tangle_graph.specs.Measures.{measure_of}
 use Rattle.tangle_graph.specs.Outputs.{main_file, named_file, is_written, is_expandable}
 use Rattle.tangle_graph.specs.Outputs.{is_earlier_file, is_main_file}
 use Rattle.tangle_graph.proofs.ListLemmas.{mapped_more}
 use Rattle.tangle_graph.proofs.NodeLemmas.{title_inside}
-use Rattle.tangle_graph.proofs.StoreLemmas.{piece_by_measure}
+use Rattle.tangle_graph.proofs.NodeMeasureLemmas.{piece_by_measure}
 use Rattle.tangle_graph.proofs.outputs.outputs.Goals as goal
 
 pub loop-id-init : goal.loop-id-init

@@ -4,7 +4,7 @@ use Rattle.std.proofs.lemmas.List.{length-map}
 use Rattle.tangle_scan.specs.Web.{stored_piece}
 use Rattle.tangle_scan.specs.declared.pieces.Piece.{Piece}
 use Rattle.tangle_graph.proofs.GraphLemmas.{resolves_inside}
-use Rattle.tangle_graph.proofs.StoredLemmas.{defined_inside, next_position}
+use Rattle.tangle_graph.proofs.StoredPieces.{defined_inside, next_position}
 use Rattle.tangle_graph.proofs.pieces.node_at.Goals as goal
 
 pub node_of_piece-requires-clause-inside : goal.node_of_piece-requires-clause-inside

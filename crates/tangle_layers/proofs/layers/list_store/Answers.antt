@@ -2,9 +2,9 @@ use Rattle.std.proofs.Common.{◌∙◌, ap, subst, sym}
 use Rattle.std.specs.Prelude.{All}
 use Rattle.tangle_names.specs.NameTable.{TableRead, table_of}
 use Rattle.tangle_expansion.specs.Outputs.{OutputRead, IsReady}
-use Rattle.tangle_plans.specs.Nodes.{IsGroupedBy}
-use Rattle.tangle_plans.specs.WebShapes.{shapes, ResolvesInside}
-use Rattle.tangle_plans.proofs.InsideLemmas.{table_inside}
+use Rattle.tangle_bodies.specs.Nodes.{IsGroupedBy}
+use Rattle.tangle_bodies.specs.WebShapes.{shapes, ResolvesInside}
+use Rattle.tangle_bodies.proofs.InsideLemmas.{table_inside}
 use Rattle.tangle_layers.proofs.OutputLemmas.{outputs_ready}
 use Rattle.tangle_layers.proofs.layers.list_store.Goals as goal
 

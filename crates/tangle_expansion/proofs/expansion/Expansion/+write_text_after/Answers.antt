@@ -2,8 +2,8 @@ use Rattle.std.proofs.Common.{rules}
 use Rattle.std.proofs.Common.{◌+◌, ◌∷◌, ◌++◌, List, [], ap, drop, refl, arith}
 use Rattle.std.specs.Prelude.{Option, unwrap_or}
 use Rattle.std.proofs.lemmas.List.{drop_all}
-use Rattle.tangle_plans.specs.Flat.{Symbol}
-use Rattle.tangle_plans.proofs.DropLemmas.{drop_at}
+use Rattle.tangle_bodies.specs.Flat.{Symbol}
+use Rattle.tangle_bodies.proofs.DropLemmas.{drop_at}
 use Rattle.tangle_expansion.specs.Expanded.{shared_symbols}
 use Rattle.tangle_expansion.specs.Numbers.{expansion_bytes}
 use Rattle.tangle_expansion.specs.Writing.{bytes_from}

@@ -2,9 +2,9 @@ use Rattle.std.proofs.Common.{rules}
 use Rattle.std.proofs.Common.{◌∙◌, ℕ, List, ap, arith, length, map}
 use Rattle.std.proofs.lemmas.List.{length-map}
 use Rattle.tangle_names.specs.NameTable.{table_of}
-use Rattle.tangle_plans.specs.Nodes.{pieces_at}
-use Rattle.tangle_plans.specs.Shapes.{Named}
-use Rattle.tangle_plans.specs.WebShapes.{pieces_of}
+use Rattle.tangle_bodies.specs.Nodes.{pieces_at}
+use Rattle.tangle_bodies.specs.Shapes.{Named}
+use Rattle.tangle_bodies.specs.WebShapes.{pieces_of}
 use Rattle.tangle_expansion.specs.Numbers.{numbers_of_piece}
 use Rattle.tangle_expansion.specs.PieceNumbers.{numbers_of_rows}
 use Rattle.tangle_expansion.proofs.LookupLemmas.{rows_numbers}

@@ -1,4 +1,4 @@
-use Rattle.tangle_plans.specs.Shapes.{Shapes}
+use Rattle.tangle_bodies.specs.Shapes.{Shapes}
 use Rattle.tangle_graph.specs.Measures.{AreMeasures}
 use Rattle.tangle_graph.specs.NamedFiles.{AreFlagged}
 use Rattle.tangle_graph.proofs.named_files.NamedFiles.find.Given as goal

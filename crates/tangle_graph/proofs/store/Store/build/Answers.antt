@@ -3,13 +3,13 @@ use Rattle.std.proofs.lemmas.Bool.Decides.{nat_tests}
 use Rattle.std.proofs.Common.{◌∙◌, ap, length, refl}
 use Rattle.std.proofs.lemmas.List.{length-map}
 use Rattle.std.proofs.lemmas.Option.{IfSome_then}
-use Rattle.tangle_plans.specs.WebShapes.{shapes}
+use Rattle.tangle_bodies.specs.WebShapes.{shapes}
 use Rattle.tangle_graph.specs.declared.name_graph.NameGraph.{NameGraph}
 use Rattle.tangle_graph.proofs.GraphLemmas.{resolves_inside, uses_count}
 use Rattle.tangle_graph.proofs.NameGraphLemmas.{uses_inside}
 use Rattle.tangle_graph.proofs.NameLemmas.{new_shapes_of}
-use Rattle.tangle_graph.proofs.OrderingLemmas.{grouped_by}
-use Rattle.tangle_graph.proofs.StoreIs.{is_built, reaching_is}
+use Rattle.tangle_graph.proofs.StoredRows.{grouped_by}
+use Rattle.tangle_graph.proofs.StoreOfWeb.{is_built, reaching_is}
 use Rattle.tangle_graph.proofs.store.Store.build.Goals as goal
 
 pub name_graph_after-requires-clause-inside : goal.name_graph_after-requires-clause-inside

@@ -2,9 +2,9 @@ use Rattle.std.proofs.Common.{rules}
 use Rattle.std.proofs.Common.{◌∙◌, map, sym}
 use Rattle.std.proofs.lemmas.Result.{IfOk-weaker}
 use Rattle.tangle_expansion.specs.Kept.{used_symbols}
-use Rattle.tangle_plans.specs.Meaning.{body_flat}
-use Rattle.tangle_plans.specs.NodeBodies.{body_uses}
-use Rattle.tangle_plans.specs.declared.nodes.NodeBody.{NodeBody}
+use Rattle.tangle_bodies.specs.Meaning.{body_flat}
+use Rattle.tangle_bodies.specs.NodeBodies.{body_uses}
+use Rattle.tangle_bodies.specs.declared.nodes.NodeBody.{NodeBody}
 use Rattle.tangle_graph.proofs.ExpandLemmas.{expanded_right}
 use Rattle.tangle_graph.proofs.BodyLemmas.{part_read}
 use Rattle.tangle_graph.proofs.StoredBodies.{had, in_store}

@@ -1,12 +1,12 @@
 use Rattle.std.proofs.Common.{◌≡◌, ◌∙◌, ap, map, subst, sym}
 use Rattle.tangle_names.specs.NameTable.{TableRead}
 use Rattle.tangle_names.specs.Resolving.{resolve}
-use Rattle.tangle_plans.specs.Nodes.{title_at}
-use Rattle.tangle_plans.specs.WebShapes.{shapes}
+use Rattle.tangle_bodies.specs.Nodes.{title_at}
+use Rattle.tangle_bodies.specs.WebShapes.{shapes}
 use Rattle.tangle_graph.specs.Measures.{AreMeasures}
 use Rattle.tangle_graph.specs.Stores.{StoreRead}
 use Rattle.tangle_graph.specs.declared.measures.Measure.{Measure}
-use Rattle.tangle_graph.proofs.StoreLemmas.{piece_by_measure}
+use Rattle.tangle_graph.proofs.NodeMeasureLemmas.{piece_by_measure}
 use Rattle.tangle_graph.proofs.store.Store.faults.Goals as goal
 
 pub faults-requires : goal.faults-requires

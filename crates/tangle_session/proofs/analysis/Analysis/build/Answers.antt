@@ -6,7 +6,7 @@ use Rattle.tangle_scan.specs.Web.{WebRead, web_of}
 use Rattle.tangle_names.specs.Faults.{name_faults}
 use Rattle.tangle_names.specs.NameTable.{TableRead, table_of}
 use Rattle.tangle_expansion.specs.Numbers.{numbers_of}
-use Rattle.tangle_plans.specs.Nodes.{IsGroupedBy}
+use Rattle.tangle_bodies.specs.Nodes.{IsGroupedBy}
 use Rattle.tangle_graph.specs.Faults.{AreGraphFaults}
 use Rattle.tangle_graph.specs.WebStores.{IsStoreOfWeb}
 use Rattle.tangle_session.specs.Headline.{source_at, table_at, web_at}

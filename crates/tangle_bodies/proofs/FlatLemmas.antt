@@ -1,0 +1,131 @@
+-- A body that determines a shape has the symbols of the shape.
+use Rattle.std.proofs.Common.{arith}
+use Rattle.std.proofs.Common.{rules}
+use Rattle.std.proofs.lemmas.Bool.Decides.{nat_tests}
+use Rattle.std.proofs.Common.{◌≡◌, ◌∙◌, ℕ, ◌+◌, List, [], ◌∷◌, ◌++◌, map, take, drop, length, refl, ap, sym, subst, append_assoc}
+use Rattle.std.specs.Prelude.{flat_map}
+use Rattle.std.proofs.lemmas.List.{map-append, take-append-drop}
+use Rattle.std.proofs.Math.Seq.{take-append_seam, drop-append_seam}
+use Rattle.tangle_files.specs.Bytes.{space}
+use Rattle.tangle_text.specs.Runs.{chunks, part_of}
+use Rattle.tangle_text.specs.declared.runs.RunPart.{RunPart}
+use Rattle.tangle_text.proofs.RunChunks.{AreChunks, joined, chunks_are, chunks_joined}
+use Rattle.tangle_bodies.specs.Shapes.{Title, Kind, ShapeItem, Written, Mark, AllMacros, Use, NoUse, Shape}
+use Rattle.tangle_bodies.specs.Flat.{Symbol, Byte, MarkOf, Opening, items_flat}
+use Rattle.tangle_bodies.specs.Flat.{pieces_flat}
+use Rattle.tangle_bodies.specs.Flat as symbol
+use Rattle.tangle_bodies.specs.Meaning.{pieces_after, marks_after, with_used, tags_flat, body_flat}
+use Rattle.tangle_bodies.specs.Flat.{own_symbols}
+use Rattle.tangle_bodies.specs.NodeBodies.{HoldsShape, body_title, body_uses, names_at}
+use Rattle.tangle_bodies.specs.Tags.{item_tag, item_bytes, piece_end, shape_tags, shape_bytes}
+use Rattle.tangle_bodies.specs.Shapes.{item_names, shape_names}
+use Rattle.tangle_scan.specs.UnfoldedTags.{chunk_tag, part_tag, run_tags, kind_tags, unfolded_tags}
+use Rattle.tangle_bodies.specs.declared.nodes.NodeBody.{NodeBody}
+use Rattle.tangle_scan.specs.declared.texts.ItemKind.{ItemKind}
+use Rattle.tangle_scan.specs.declared.texts.ItemKind.TheVariants as tag
+use Rattle.tangle_scan.specs.declared.texts.ItemTag.{ItemTag}
+use Rattle.tangle_scan.proofs.lemmas.RunTags.{chunk_size}
+
+module _ (node : Title) where
+  -- the parts of a run have its bytes
+
+  part_flat : (piece marks : ℕ) (p : RunPart) (chunk more : List ℕ) (tags : List ItemTag) (used : List (List Symbol))
+      → (part_tag p).size ≡ length chunk
+      → tags_flat node piece marks (chunk ++ more) (part_tag p ∷ tags) used
+      ≡ map Byte chunk ++ tags_flat node piece marks more tags used
+  part_flat piece marks p chunk more tags used size = search (rules, take-append_seam, drop-append_seam)
+
+  chunks_flat : (piece marks : ℕ) (cs : List (List ℕ)) (more : List ℕ) (tags : List ItemTag)
+      (used : List (List Symbol)) → AreChunks cs
+      → tags_flat node piece marks (joined cs ++ more) (map chunk_tag cs ++ tags) used
+      ≡ map Byte (joined cs) ++ tags_flat node piece marks more tags used
+  chunks_flat piece marks [] more tags used h = refl
+  chunks_flat piece marks (c ∷ cs) more tags used h =
+      let rest = map chunk_tag cs ++ tags in
+      let whole = tags_flat node piece marks more tags used in
+      ap (λ l. tags_flat node piece marks l (chunk_tag c ∷ rest) used) (append_assoc c (joined cs) more)
+      ∙ part_flat piece marks (part_of 0 0 c) c (joined cs ++ more) rest used (chunk_size c h.0)
+      ∙ ap (λ l. map Byte c ++ l) (chunks_flat piece marks cs more tags used h.1)
+      ∙ sym (ap (λ l. l ++ whole) (map-append Byte c (joined cs)) ∙ append_assoc (map Byte c) (map Byte (joined cs)) whole)
+
+  run_flat : (piece marks : ℕ) (bytes more : List ℕ) (tags : List ItemTag) (used : List (List Symbol))
+      → tags_flat node piece marks (bytes ++ more) (run_tags bytes ++ tags) used
+      ≡ map Byte bytes ++ tags_flat node piece marks more tags used
+  unfolding run_tags
+  run_flat piece marks bytes more tags used =
+      subst (λ l. tags_flat node piece marks (l ++ more) (map chunk_tag (chunks bytes) ++ tags) used
+      ≡ map Byte l ++ tags_flat node piece marks more tags used) (chunks_joined bytes)
+      (chunks_flat piece marks (chunks bytes) more tags used (chunks_are bytes))
+
+  -- the symbols are those of the unfolded tags
+
+  kind_flat : (piece marks : ℕ) (t : ItemTag) (k : ItemKind) (bytes : List ℕ) (tags : List ItemTag)
+      (used : List (List Symbol)) → t.kind ≡ k
+      → tags_flat node piece marks bytes (kind_tags k t (take t.size bytes) ++ tags) used
+      ≡ tags_flat node piece marks bytes (t ∷ tags) used
+  kind_flat piece marks t tag.Run bytes tags used is =
+      grind (arith, nat_tests, take-append-drop t.size bytes, run_flat piece marks)
+  kind_flat piece marks t _ bytes tags used is = refl
+
+  unfolded_flat : (piece marks : ℕ) (tags : List ItemTag) (bytes : List ℕ) (used : List (List Symbol))
+      → tags_flat node piece marks bytes (unfolded_tags tags bytes) used ≡ tags_flat node piece marks bytes tags used
+  unfolded_flat piece marks [] bytes used = refl
+  unfolded_flat piece marks (t ∷ tags) bytes used =
+      kind_flat piece marks t t.kind bytes (unfolded_tags tags (drop t.size bytes)) used refl
+      ∙ ap (λ rest. map Byte (take t.size bytes) ++ with_used t.kind (own_symbols node piece marks t.kind) used rest)
+      (λ i us. unfolded_flat (pieces_after piece t.kind) (marks_after marks t.kind) tags (drop t.size bytes) us i)
+
+  -- the symbols of a shape
+
+  written_flat : (piece marks : ℕ) (k : Kind) (written bytes : List ℕ) (tags : List ItemTag) (used : List (List Symbol))
+      → tags_flat node piece marks bytes (item_tag (Written k written) ∷ tags) used
+      ≡ map Byte (take (length written) bytes) ++ tags_flat node piece marks (drop (length written) bytes) tags used
+  written_flat piece marks k written bytes tags used = search rules
+
+  module _ (symbols : List ℕ → List Symbol) where
+    items_shaped : (piece marks : ℕ) (items : List ShapeItem) (bytes : List ℕ) (tags : List ItemTag)
+        (names : List (List ℕ))
+        → tags_flat node piece marks (flat_map item_bytes items ++ bytes) (map item_tag items ++ piece_end ∷ tags)
+        (map symbols (flat_map item_names items ++ names))
+        ≡ items_flat symbols node piece marks items
+        ++ tags_flat node (piece + 1) 0 bytes tags (map symbols names)
+    items_shaped piece marks [] bytes tags names = refl
+    items_shaped piece marks (Written k written ∷ items) bytes tags names =
+        let rest = flat_map item_bytes items ++ bytes in
+        let left = map item_tag items ++ piece_end ∷ tags in
+        let used = map symbols (flat_map item_names items ++ names) in
+        ap (λ l. tags_flat node piece marks l (item_tag (Written k written) ∷ left) used)
+        (append_assoc written (flat_map item_bytes items) bytes)
+        ∙ written_flat piece marks k written (written ++ rest) left used
+        ∙ (λ i. map Byte (take-append_seam written rest i)
+        ++ tags_flat node piece marks (drop-append_seam written rest i) left used)
+        ∙ ap (λ l. map Byte written ++ l) (items_shaped piece marks items bytes tags names)
+        ∙ sym (append_assoc (map Byte written) _ _)
+    items_shaped piece marks (Mark ∷ items) bytes tags names =
+        ap (λ l. MarkOf node piece (marks + 1) ∷ l) (items_shaped piece (marks + 1) items bytes tags names)
+    items_shaped piece marks (AllMacros ∷ items) bytes tags names =
+        ap (λ l. symbol.AllMacros ∷ l) (items_shaped piece marks items bytes tags names)
+    items_shaped piece marks (Use name ∷ items) bytes tags names =
+        ap (λ l. Byte space ∷ symbols name ++ l) (items_shaped piece marks items bytes tags names)
+        ∙ sym (append_assoc (Byte space ∷ symbols name) _ _)
+    items_shaped piece marks (NoUse ∷ items) bytes tags names =
+        ap (λ l. Byte space ∷ l) (items_shaped piece marks items bytes tags names)
+
+    pub shape_flat : (piece marks : ℕ) (shape : Shape)
+        → tags_flat node piece marks (shape_bytes shape) (shape_tags shape) (map symbols (shape_names shape))
+        ≡ pieces_flat symbols node piece shape
+    shape_flat piece marks [] = refl
+    shape_flat piece marks (items ∷ pieces) =
+        ap (λ l. Opening node piece ∷ MarkOf node piece 0 ∷ l)
+        (ap (λ l. tags_flat node piece 0 (flat_map item_bytes items ++ shape_bytes pieces) l
+        (map symbols (flat_map item_names items ++ shape_names pieces)))
+        (append_assoc (map item_tag items) (piece_end ∷ []) (shape_tags pieces))
+        ∙ items_shaped piece 0 items (shape_bytes pieces) (shape_tags pieces) (shape_names pieces)
+        ∙ ap (λ l. items_flat symbols node piece 0 items ++ l) (shape_flat (piece + 1) 0 pieces))
+
+-- the symbols of a body, where each name that it uses has the symbols that it has in the shape
+pub held_flat : (names : List (List ℕ)) (shape : Shape) (body : NodeBody)
+    (symbols : List ℕ → List Symbol) (used : List (List Symbol)) → HoldsShape names shape body
+    → used ≡ map symbols (names_at names (body_uses body))
+    → body_flat body used ≡ pieces_flat symbols (body_title body) 0 shape
+held_flat names shape body symbols used h same = search (rules, unfolded_flat, shape_flat)

@@ -1,0 +1,78 @@
+-- Tags of which each use has the kind that its occurrence gives it.
+use Rattle.std.proofs.lemmas.Bool.Decides.{nat_tests}
+use Rattle.std.proofs.Common.{◌≡◌, ◌∙◌, ◌<◌, ℕ, ◌+◌, true, List, [], ◌∷◌, ◌++◌, length, map, take, drop, get_or, set}
+use Rattle.std.proofs.Common.{refl, ap, sym, arith, append_assoc}
+use Rattle.std.proofs.lemmas.List.{take_more_set, drop-set-lt}
+use Rattle.std.specs.List.{list_all}
+use Rattle.tangle_text.specs.Runs.{chunks, part_of}
+use Rattle.tangle_text.specs.declared.runs.RunPart.{RunPart}
+use Rattle.tangle_scan.specs.declared.texts.ItemKind.{ItemKind}
+use Rattle.tangle_scan.specs.declared.texts.ItemKind.TheVariants as tag
+use Rattle.tangle_scan.specs.declared.texts.ItemTag.{ItemTag}
+use Rattle.tangle_scan.specs.UnfoldedTags.{StandFor, chunk_tag, part_tag, run_tags, tag_sizes, unfolded_tags}
+use Rattle.tangle_names.specs.NameTable.{TableRead}
+use Rattle.tangle_bodies.specs.ItemTags.{is_name, resolved_tags}
+use Rattle.tangle_bodies.specs.WebShapes.{resolved_at}
+use Rattle.tangle_bodies.proofs.DropLemmas.{drop_at}
+
+module _ (table : TableRead) where
+  part-resolved : (p : RunPart) (ts : List ItemTag) (ns : List ℕ)
+      → resolved_tags table (part_tag p ∷ ts) ns ≡ part_tag p ∷ resolved_tags table ts ns
+  part-resolved x ts ns = grind arith
+
+  chunks-resolved : (cs : List (List ℕ)) (ts : List ItemTag) (ns : List ℕ)
+      → resolved_tags table (map chunk_tag cs ++ ts) ns ≡ map chunk_tag cs ++ resolved_tags table ts ns
+  chunks-resolved [] ts ns = refl
+  chunks-resolved (c ∷ cs) ts ns =
+      part-resolved (part_of 0 0 c) (map chunk_tag cs ++ ts) ns ∙ ap (λ l. chunk_tag c ∷ l) (chunks-resolved cs ts ns)
+
+  -- a run has no use
+  run-resolved : (bytes : List ℕ) (ts : List ItemTag) (ns : List ℕ)
+      → resolved_tags table (run_tags bytes ++ ts) ns ≡ run_tags bytes ++ resolved_tags table ts ns
+  unfolding run_tags
+  run-resolved bytes ts ns = chunks-resolved (chunks bytes) ts ns
+
+  tag-resolved : (t : ItemTag) (tags : List ItemTag) (bytes : List ℕ)
+      → ((ns : List ℕ) → unfolded_tags (resolved_tags table tags ns) (drop t.size bytes)
+      ≡ resolved_tags table (unfolded_tags tags (drop t.size bytes)) ns)
+      → (k : ItemKind) → t.kind ≡ k → (ns : List ℕ)
+      → unfolded_tags (resolved_tags table (t ∷ tags) ns) bytes
+      ≡ resolved_tags table (unfolded_tags (t ∷ tags) bytes) ns
+  tag-resolved t tags bytes rest tag.Run is ns =
+      rw is (ap (λ l. run_tags (take t.size bytes) ++ l) (rest ns)
+      ∙ sym (run-resolved (take t.size bytes) (unfolded_tags tags (drop t.size bytes)) ns))
+  tag-resolved t tags bytes rest k is ns = grind (arith, nat_tests, rest)
+
+  unfolded-resolved : (tags : List ItemTag) (bytes : List ℕ) (ns : List ℕ)
+      → unfolded_tags (resolved_tags table tags ns) bytes ≡ resolved_tags table (unfolded_tags tags bytes) ns
+  unfolded-resolved [] bytes ns = refl
+  unfolded-resolved (t ∷ tags) bytes ns =
+      tag-resolved t tags bytes (unfolded-resolved tags (drop t.size bytes)) t.kind refl ns
+
+  sizes-resolved : (tags : List ItemTag) (ns : List ℕ) → tag_sizes (resolved_tags table tags ns) ≡ tag_sizes tags
+  sizes-resolved [] ns = refl
+  sizes-resolved (t ∷ tags) ns = grind (arith, nat_tests, sizes-resolved tags)
+
+  pub stand-resolved : (tags : List ItemTag) (bytes : List ℕ) (unfolded : List ItemTag) (ns : List ℕ)
+      → StandFor tags bytes unfolded
+      → StandFor (resolved_tags table tags ns) bytes (resolved_tags table unfolded ns)
+  stand-resolved tags bytes unfolded ns h = record {
+    are = unfolded-resolved tags bytes ns ∙ ap (λ ts. resolved_tags table ts ns) h.are;
+    sizes = sizes-resolved tags ns ∙ h.sizes;
+  }
+
+  -- where each occurrence resolves to a name
+  pub all-resolved : (tags : List ItemTag) (ns : List ℕ) → list_all (λ n. is_name (resolved_at table n)) ns ≡ true
+      → resolved_tags table tags ns ≡ tags
+  all-resolved [] ns h = refl
+  all-resolved (t ∷ tags) ns h = grind (arith, nat_tests, all-resolved tags)
+
+  -- one more tag is replaced in its place
+  pub step-resolved : (tags : List ItemTag) (i : ℕ) (t new : ItemTag) (ns rest : List ℕ)
+      → i < length tags → t ≡ get_or tags i t
+      → ((ts : List ItemTag) → resolved_tags table (t ∷ ts) ns ≡ new ∷ resolved_tags table ts rest)
+      → take (i + 1) (set tags i new) ++ resolved_tags table (drop (i + 1) (set tags i new)) rest
+      ≡ take i tags ++ resolved_tags table (drop i tags) ns
+  step-resolved tags i t new ns rest low at step =
+      rw (take_more_set tags i new low, drop-set-lt (i + 1) tags i new (omega arith), append_assoc (take i tags), drop_at tags i t low at)
+      (ap (λ l. take i tags ++ l) (sym (step (drop (i + 1) tags))))

@@ -1,0 +1,54 @@
+-- The symbols of a body, with those of the names that it uses in the places of the uses.
+use Rattle.std.specs.Prelude.{ℕ, ◌+◌, List, [], ◌∷◌, ◌++◌, map, flat_map, take, drop}
+use Rattle.std.specs.Prelude.{Option, None, Some, Vec}
+use Rattle.std.specs.Global.{Global}
+use Rattle.tangle_files.specs.Bytes.{space}
+use Rattle.tangle_bodies.specs.Shapes.{Title, Program, Named}
+use Rattle.tangle_bodies.specs.Flat.{Symbol, Byte, own_symbols}
+use Rattle.tangle_bodies.specs.declared.nodes.NodeBody.{NodeBody}
+use Rattle.tangle_scan.specs.declared.texts.ItemKind.{ItemKind}
+use Rattle.tangle_scan.specs.declared.texts.ItemKind.TheVariants as tag
+use Rattle.tangle_scan.specs.declared.texts.ItemTag.{ItemTag}
+
+-- the node with this name; without a name, the program
+abbrev pub title_of : Option (Vec ℕ Global) → Title
+title_of None = Program
+title_of (Some name) = Named name.items
+
+-- the numbers of pieces and marks after a tag of this kind; the opening mark is not counted
+
+abbrev pub pieces_after : ℕ → ItemKind → ℕ
+pieces_after piece tag.PieceEnd = piece + 1
+pieces_after piece _ = piece
+
+abbrev pub marks_after : ℕ → ItemKind → ℕ
+marks_after marks tag.PieceStart = 0
+marks_after marks tag.PieceEnd = 0
+marks_after marks tag.Mark = marks + 1
+marks_after marks _ = marks
+
+-- These symbols of a tag of this kind, and then the rest. At a use, those of the next used name are
+-- between; there is nothing at a use for which there are none, and an expansion that is made has some
+-- for each use.
+abbrev pub with_used : ItemKind → List Symbol → List (List Symbol)
+    → (List (List Symbol) → List Symbol) → List Symbol
+with_used tag.Use own [] rest = []
+with_used tag.Use own (symbols ∷ used) rest = own ++ (symbols ++ rest used)
+with_used _ own used rest = own ++ rest used
+
+-- what is shared for no use comes at the end; no expansion that is made has such
+abbrev pub left_over : List (List Symbol) → List Symbol
+left_over used = flat_map (λ symbols. Byte space ∷ symbols) used
+
+-- The symbols of the remaining tags of a node: `piece` pieces are before the current one, `marks`
+-- marks were in it, and these bytes and symbols of used names remain.
+abbrev pub tags_flat : Title → ℕ → ℕ → List ℕ → List ItemTag → List (List Symbol) → List Symbol
+tags_flat node piece marks bytes [] used = left_over used
+tags_flat node piece marks bytes (t ∷ tags) used =
+    map Byte (take t.size bytes)
+    ++ with_used t.kind (own_symbols node piece marks t.kind) used
+    (tags_flat node (pieces_after piece t.kind) (marks_after marks t.kind) (drop t.size bytes) tags)
+
+-- the symbols of a body, where the names that it uses have these ones, in the order of the uses
+abbrev pub body_flat : NodeBody → List (List Symbol) → List Symbol
+body_flat body used = tags_flat (title_of body.name) 0 0 body.bytes.items body.tags.items used

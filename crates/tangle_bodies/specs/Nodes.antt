@@ -1,0 +1,34 @@
+-- The nodes of a web: their titles, and the rows of their pieces.
+use Rattle.std.specs.Prelude.{◌≡◌, ◌<◌, ℕ, zero, suc, Bool, true, false, List, [], ◌∷◌, length, map}
+use Rattle.std.specs.Prelude.{slice_get, slice_index_or, Option, Some, None}
+use Rattle.std.specs.List.{All}
+use Rattle.digraph.specs.Nodes.{Node}
+use Rattle.tangle_scan.specs.Web.{WebRead, PieceRead, no_piece}
+use Rattle.tangle_names.specs.NameTable.{TableRead}
+use Rattle.tangle_bodies.specs.Shapes.{Title, Program, Named}
+use Rattle.tangle_bodies.specs.WebShapes.{pieces_of}
+
+abbrev pub title_of_name : Option (List ℕ) → Title
+title_of_name None = Program
+title_of_name (Some name) = Named name
+
+-- the title of the node
+abbrev pub title_at : List (List ℕ) → Node → Title
+title_at names zero = Program
+title_at names (suc id) = title_of_name (slice_get names id)
+
+-- the node with this row of pieces has a piece
+abbrev pub row_has_piece : List ℕ → Bool
+row_has_piece [] = false
+row_has_piece (n ∷ ns) = true
+
+-- the pieces with these numbers
+abbrev pub pieces_at : List PieceRead → List ℕ → List PieceRead
+pieces_at pieces numbers = map (λ n. slice_index_or pieces n no_piece) numbers
+
+-- the rows have the numbers of the pieces of the program, and then of each name, in the order of
+-- the table
+pub record IsGroupedBy (web : WebRead) (table : TableRead) (rows : List (List ℕ)) : Type 0 where
+  pub inside : All (All (λ n. n < length web.pieces)) rows
+  pub right : map (pieces_at web.pieces) rows
+      ≡ pieces_of web table Program ∷ map (λ name. pieces_of web table (Named name)) table.names

@@ -1,0 +1,233 @@
+//! Makes the body of a node, piece by piece.
+ghost use Rattle.std.specs.Prelude.{◌≡◌, ◌↔◌, ◌≤◌, ◌<◌, ◌++◌, ◌∷◌, [], drop, length, take, true};
+ghost use Rattle.std.specs.Prelude.{IfOk, List, OnOk};
+ghost use Rattle.std.specs.List.{All, list_all};
+ghost use Rattle.tangle_scan.specs.Texts.{text_of};
+ghost use Rattle.tangle_scan.specs.declared.texts.ItemTag.{ItemTag as TagRead};
+ghost use Rattle.tangle_bodies.specs.ItemTags.{is_name, names_of, resolved_tags};
+ghost use Rattle.tangle_bodies.specs.MakingBodies.{nothing_made, with_piece};
+ghost use Rattle.tangle_bodies.specs.Meaning.{title_of};
+ghost use Rattle.tangle_bodies.specs.NodeBodies.{AreItemsOf, HaveOneShape, body_items};
+ghost use Rattle.tangle_bodies.specs.NodeBodies.{body_title, body_uses};
+ghost use Rattle.tangle_bodies.specs.Nodes.{pieces_at};
+ghost use Rattle.tangle_bodies.specs.WebShapes.{resolved_at};
+
+use crate::nodes::NodeBody;
+use crate::shapes::same_items;
+use std::alloc::Global;
+use std::marker::Model;
+use tangle_lines::NoMemory;
+use tangle_names::{NameTable, Names, Resolved};
+use tangle_scan::{ItemKind, ItemTag, OccurrenceNumber, PieceText, Web};
+
+/// Buffers in which the items of one node after another are made. They are kept for the next node,
+/// so that a body takes only the memory that it needs, and none if an old one has the same items.
+#[derive(Drop)]
+pub struct BodyBuilder {
+    made: NodeBody,
+}
+
+impl Model for BodyBuilder {
+    ghost use Rattle.tangle_bodies.specs.MakingBodies.{items_made};
+    ghost use Rattle.tangle_bodies.specs.NodeBodies.{ItemsRead};
+
+    ghost Value = { ItemsRead };
+
+    ghost view = { items_made };
+}
+
+impl BodyBuilder {
+    /// Empty buffers for a first node.
+    pub fn new(alloc: Global) -> Self
+        ensures { result ≡ nothing_made }
+    {
+        BodyBuilder {
+            made: NodeBody {
+                name: None,
+                bytes: Vec::new(alloc),
+                tags: Vec::new(alloc),
+                uses: Vec::new(alloc),
+            },
+        }
+    }
+
+    /// Makes the items of the pieces with these numbers, in place of what was made before.
+    ///
+    /// # Errors
+    ///
+    /// `NoMemory` where an allocation failed.
+    pub fn make(&mut self, web: &Web, table: &NameTable, numbers: &[usize]) -> Result<(), NoMemory>
+        requires numbers { All (λ n. n < length web.now.pieces) numbers.now }
+        requires ours { length table.now.resolved ≡ length web.now.occurrences }
+        ensures { OnOk result (AreItemsOf web.now.texts table.now
+            (pieces_at web.now.pieces numbers.now) self.new) }
+    {
+        self.clear();
+        for number in numbers {
+            self.add_piece(table, web.piece_text(*number))?;
+        }
+        Ok(())
+    }
+
+    /// Whether the items that were made, with these names, have the same shape as a body with its
+    /// names. `same_names` says that both have the same names.
+    pub fn has_shape_of(
+        &self,
+        names: &Names,
+        body: &NodeBody,
+        other_names: &Names,
+        same_names: bool,
+    ) -> bool
+        requires inside { All (λ id. id < length names.now) self.now.uses }
+        requires other_inside { All (λ id. id < length other_names.now) (body_uses body.now) }
+        requires same_names { same_names ≡ true → names.now ≡ other_names.now }
+        ensures { (result ≡ true)
+            ↔ HaveOneShape names.now other_names.now self.now (body_items body.now) }
+    {
+        if same_names && self.has_uses_of(body) {
+            return same_items(&self.made, body);
+        }
+        self.made.has_shape_of(names, body, other_names)
+    }
+
+    /// Whether the uses that were made have the same numbers as those of a body.
+    pub fn has_uses_of(&self, body: &NodeBody) -> bool
+        ensures { (result ≡ true) ↔ (self.now.uses ≡ body_uses body.now) }
+    {
+        self.made.uses == body.uses
+    }
+
+    /// The body with the items that were made, under this name.
+    ///
+    /// # Errors
+    ///
+    /// `NoMemory` where an allocation failed.
+    pub fn body(&self, alloc: Global, name: Option<Vec<u8>>) -> Result<NodeBody, NoMemory>
+        ensures title { IfOk result (λ body. body_title body ≡ title_of name) }
+        ensures items { IfOk result (λ body. body_items body ≡ self.now) }
+    {
+        Ok(NodeBody {
+            name,
+            bytes: Vec::from_slice(alloc, &self.made.bytes)?,
+            tags: Vec::from_slice(alloc, &self.made.tags)?,
+            uses: Vec::from_slice(alloc, &self.made.uses)?,
+        })
+    }
+
+    fn clear(&mut self)
+        ensures { self.new ≡ nothing_made }
+    {
+        self.made.bytes.clear();
+        self.made.tags.clear();
+        self.made.uses.clear();
+    }
+
+    /// Adds the tag of a border of a piece.
+    fn add_border(&mut self, kind: ItemKind) -> Result<(), NoMemory>
+        ensures { OnOk result (self.new ≡ record self.old {
+          tags = self.old.tags ++ record { kind = kind; size = 0 } ∷ [];
+        }) }
+    {
+        self.made.tags.push(ItemTag { kind, size: 0 })?;
+        Ok(())
+    }
+
+    /// Adds the numbers of the names to which these occurrences resolve. Returns whether each
+    /// resolves to one.
+    fn add_uses(&mut self, table: &NameTable, uses: &[OccurrenceNumber]) -> Result<bool, NoMemory>
+        requires { All (λ n. n < length table.now.resolved) uses.now }
+        ensures uses { OnOk result (self.new ≡ record self.old {
+          uses = self.old.uses ++ names_of table.now uses.now;
+        }) }
+        ensures all { IfOk result (λ all. all
+            ≡ list_all (λ n. is_name (resolved_at table.now n)) uses.now) }
+    {
+        let mut all = true;
+        for used in uses {
+            match table.resolve(used.number()) {
+                Resolved::Name(id) => self.made.uses.push(id)?,
+                Resolved::NoFullName | Resolved::Ambiguous => all = false,
+            }
+        }
+        Ok(all)
+    }
+
+    /// Adds the tags of a piece in which these occurrences are used. `all_resolve` says whether each
+    /// resolves to a name.
+    fn add_tags(
+        &mut self,
+        table: &NameTable,
+        tags: &[ItemTag],
+        uses: &[OccurrenceNumber],
+        all_resolve: bool,
+    ) -> Result<(), NoMemory>
+        requires uses { All (λ n. n < length table.now.resolved) uses.now }
+        requires all { all_resolve ≡ list_all (λ n. is_name (resolved_at table.now n)) uses.now }
+        ensures { OnOk result (self.new ≡ record self.old {
+          tags = self.old.tags ++ resolved_tags table.now tags.now uses.now;
+        }) }
+    {
+        let first = self.made.tags.len();
+        self.made.tags.extend_from_slice(tags)?;
+        if !all_resolve {
+            mark_unresolved(&mut self.made.tags, first, table, uses);
+        }
+        Ok(())
+    }
+
+    /// Adds a piece.
+    fn add_piece(&mut self, table: &NameTable, text: PieceText) -> Result<(), NoMemory>
+        requires { All (λ n. n < length table.now.resolved) (text_of text).uses }
+        ensures { OnOk result (self.new ≡ with_piece table.now self.old (text_of text.entry)) }
+    {
+        let all_resolve = self.add_uses(table, text.uses)?;
+        self.add_border(ItemKind::PieceStart)?;
+        self.add_tags(table, text.tags, text.uses, all_resolve)?;
+        self.made.bytes.extend_from_slice(text.bytes)?;
+        self.add_border(ItemKind::PieceEnd)
+    }
+}
+
+/// A tag, with the kind that the first of these occurrences gives it if it is a use, and the
+/// occurrences in the uses after it.
+fn resolved_tag<'u>(
+    table: &NameTable,
+    tag: ItemTag,
+    uses: &'u [OccurrenceNumber],
+) -> (ItemTag, &'u [OccurrenceNumber])
+    requires { All (λ n. n < length table.now.resolved) uses.now }
+    ensures tag { (tags : List TagRead) → resolved_tags table.now (tag ∷ tags) uses.now
+        ≡ result.0 ∷ resolved_tags table.now tags result.1.now }
+    ensures left { All (λ n. n < length table.now.resolved) result.1.now }
+{
+    match (tag.kind, uses) {
+        (ItemKind::Use, [used, rest @ ..]) => {
+            let kind = match table.resolve(used.number()) {
+                Resolved::Name(_) => ItemKind::Use,
+                Resolved::NoFullName | Resolved::Ambiguous => ItemKind::NoUse,
+            };
+            (ItemTag { kind, ..tag }, rest)
+        }
+        _ => (tag, uses),
+    }
+}
+
+/// Marks the uses among the tags from this one on whose occurrences resolve to no name.
+fn mark_unresolved(
+    tags: &mut Vec<ItemTag>,
+    first: usize,
+    table: &NameTable,
+    uses: &[OccurrenceNumber],
+)
+    requires first { first ≤ length tags.old.items }
+    requires uses { All (λ n. n < length table.now.resolved) uses.now }
+    ensures { tags.new.items ≡ take first tags.old.items
+        ++ resolved_tags table.now (drop first tags.old.items) uses.now }
+{
+    let mut left = uses;
+    for i in first..tags.len() {
+        let (tag, rest) = resolved_tag(table, tags[i], left);
+        tags[i] = tag;
+        left = rest;
+    }
+}

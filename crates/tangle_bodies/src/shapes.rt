@@ -1,0 +1,75 @@
+//! Compares shapes.
+ghost use Rattle.std.specs.Prelude.{◌≡◌, ◌<◌, ◌↔◌, true, false, length};
+ghost use Rattle.std.specs.List.{All};
+ghost use Rattle.tangle_bodies.specs.NodeBodies.{HaveOneShape, body_tags, body_bytes, body_items};
+ghost use Rattle.tangle_bodies.specs.NodeBodies.{body_uses, names_at};
+
+use crate::nodes::NodeBody;
+use crate::tags::same_tags;
+use crate::tags_left::TagsLeft;
+use tangle_names::Names;
+
+/// Whether the names with these numbers in one table are, one by one, those with the other numbers
+/// in the other table.
+fn use_same_names(names: &Names, uses: &[usize], other_names: &Names, other_uses: &[usize]) -> bool
+    requires inside { All (λ id. id < length names.now) uses.now }
+    requires other_inside { All (λ id. id < length other_names.now) other_uses.now }
+    ensures { (result ≡ true)
+        ↔ (names_at names.now uses.now ≡ names_at other_names.now other_uses.now) }
+{
+    if uses.len() != other_uses.len() {
+        return false;
+    }
+    for i in 0..uses.len() {
+        if names.text(uses[i]) != other_names.text(other_uses[i]) {
+            return false;
+        }
+    }
+    true
+}
+
+/// Whether the tags that remain are the same on both sides.
+fn same_tags_left(mut left: TagsLeft, mut other: TagsLeft) -> bool
+    ensures { (result ≡ true) ↔ (left.entry ≡ other.entry) }
+{
+    while let Some(tag) = left.next() {
+        if !other.pass_tag(tag) {
+            return false;
+        }
+    }
+    other.next().is_none()
+}
+
+/// Whether the items of two bodies have the same kinds and the same bytes. Where the same items are
+/// in other runs, the tags differ, and the items are compared one by one.
+pub(crate) fn same_items(body: &NodeBody, other: &NodeBody) -> bool
+    ensures some { result ≡ true → (body_tags body.now ≡ body_tags other.now)
+        × (body_bytes body.now ≡ body_bytes other.now) }
+    ensures none { result ≡ false → body_tags body.now ≡ body_tags other.now → body_bytes body.now
+        ≡ body_bytes other.now → ⊥ }
+{
+    if body.bytes != other.bytes {
+        return false;
+    }
+    if same_tags(&body.tags, &other.tags) {
+        return true;
+    }
+    same_tags_left(
+        TagsLeft::new(&body.tags, &body.bytes),
+        TagsLeft::new(&other.tags, &other.bytes),
+    )
+}
+
+impl NodeBody {
+    /// Whether this body and another, each with the names of its web, have the same shape: the same
+    /// pieces, with items of the same kinds and bytes, and uses of the same names. Section numbers
+    /// and origins do not belong to a shape, but the positions of the marks do.
+    pub fn has_shape_of(&self, names: &Names, other: &NodeBody, other_names: &Names) -> bool
+        requires inside { All (λ id. id < length names.now) (body_uses self.now) }
+        requires other_inside { All (λ id. id < length other_names.now) (body_uses other.now) }
+        ensures { (result ≡ true)
+            ↔ HaveOneShape names.now other_names.now (body_items self.now) (body_items other.now) }
+    {
+        same_items(self, other) && use_same_names(names, &self.uses, other_names, &other.uses)
+    }
+}

@@ -1,7 +1,0 @@
-use Rattle.std.proofs.Common.{rules}
-use Rattle.std.proofs.lemmas.List.{drop_all}
-use Rattle.tangle_plans.proofs.CountLemmas.{body_counted}
-use Rattle.tangle_plans.proofs.nodes.NodeBody.symbol_count.Goals as goal
-
-pub returns : goal.returns
-returns c = search (rules, drop_all, body_counted)
