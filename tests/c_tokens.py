@@ -148,16 +148,21 @@ JOINED_BY_GCC = re.compile(rb'\\[ \t\v\f]+\n')
 
 
 def is_defined(text):
-    """Whether C23 and gcc read the tokens of this text by the same grammar."""
-    found = elements(spliced(text))
+    """Whether C23 and gcc read the tokens of this text, with no directive in it, by the same grammar."""
     first = True                # no token is before this element on its line
-    for each in found:
-        if first and each in (b'#', b'%:') or each in (b'"', b"'") or is_open(each):
-            return False
-        if ENDED_BY_GCC.match(each):
+    for each in elements(spliced(text)):
+        if first and each in (b'#', b'%:'):
             return False
         first = each == b'\n' or first and not kind(each)
-    return not (TRIGRAPH.search(text) or JOINED_BY_GCC.search(text + b'\n') or text.endswith(b'\\'))
+    return is_read_alike(text + b'\n') and not text.endswith(b'\\')
+
+
+def is_read_alike(text):
+    """The same of a text of whole lines, whose directives are aside."""
+    if TRIGRAPH.search(text) or JOINED_BY_GCC.search(text):
+        return False
+    found = elements(spliced(text))
+    return not any(each in (b'"', b"'") or is_open(each) or ENDED_BY_GCC.match(each) for each in found)
 
 
 def is_open(element):

@@ -11,9 +11,10 @@ usage: compiler.py CTANGLE TOP        TOP is the folder of the repository
   one space wherever the web keeps two items apart. The compiler's lists of these lines and of what
   ctangle makes have the same macros, of the same C tokens; or it reads the same tokens of both. The
   lines are made from what the web is made of, and not from any output.
-- Generated webs with groups, each with the macros of its conditions defined and undefined. The
-  compiler says which words it reads, and at which line of which file each one is: at its own one,
-  unless the word is in a stretch.
+- Generated webs of two output files with groups, each with the macros of its conditions defined and
+  undefined. The compiler says which tokens it reads, and at which line of which file each one is: as
+  c_reads.py has it, where it is told which regions are read; and each word at its own line, unless
+  the word is in a stretch.
 
 The last line is 'N passed, M failed'.
 """
@@ -23,10 +24,12 @@ import re
 import sys
 import tempfile
 from collections import Counter
+from itertools import product
 
 ctangle, top = (os.path.abspath(path) for path in sys.argv[1:3])
 import random_directives
 import random_groups
+from c_reads import c_reads, read_by_compiler
 from c_tokens import tokens
 from checks import check, lay, read, run_all, same
 from random_macros import KINDS, Web
@@ -35,13 +38,12 @@ from running import run
 STORED = os.path.join(top, 'tests', 'compiler')
 WEBS = 400
 DIRECTIVES = 300        # webs with lines for the preprocessor
-GROUPS = 300            # webs with groups, of which some are left out
+GROUPS = 150            # webs with groups, of which some are left out
 TOGETHER = 50           # how many webs one run of the compiler reads
 LEAST = 20              # so often each pair of kinds, and each other place, is in the generated webs
 
 C23 = '-std=gnu2x'      # with what gcc adds to it, as raw strings
 MACROS = ([], ['A'], ['B'], ['A', 'B'])         # those of the conditions that are defined
-WHERE = re.compile(rb'\{P:([^;]*);F:[^;]*;L:([0-9]+);[^}]*\}([^{\s]+)')
 DEFINED = re.compile(rb'#define ([\w$]+)(\([^)]*\))?(?: (.*))?')
 
 
@@ -70,13 +72,11 @@ def preprocessed(name, folder, file):
     return tokens(text)
 
 
-def words_read(name, folder, macros):
-    """The words that the compiler reads of a.c where these macros are defined, each with its file and line."""
-    defined = ['-D' + macro for macro in macros]
-    text, errors, status = run(['cc', C23, '-E', '-P', '-fdebug-cpp', *defined, 'a.c'], folder)
-    check(status == 0 and not errors, name, errors.decode(errors='replace')[:1000])
-    found = [(word, (file, int(line))) for file, line, word in WHERE.findall(text)]
-    return [(word, place) for word, place in found if random_groups.WORD.fullmatch(word)]
+def read_where_defined(name, folder, file, macros):
+    """The tokens that the compiler reads of a file where these macros are defined, each with its file and line."""
+    found, errors = read_by_compiler(folder, file, *['-D' + macro for macro in macros])
+    check(not errors, name, errors.decode(errors='replace')[:1000])
+    return found
 
 
 # ---------------------------------------------------------------------- stored webs
@@ -189,9 +189,9 @@ def test_generated_groups():
         name, web = 'generated groups %d' % number, random_groups.Web(chance)
         with tempfile.TemporaryDirectory() as folder:
             lay(folder, web.files)
-            tangle(name, folder, 'a')
-            for macros in MACROS:
-                check_words('%s with %s' % (name, macros), web, words_read(name, folder, macros), macros, places)
+            tangle(name, folder, random_groups.CHANGE.decode())
+            for file, macros in product(web.programs, MACROS):
+                check_groups('%s, %s with %s' % (name, file, macros), folder, web, file, macros, places)
         places.update(web.places)
     print('%(words)d words at lines of their own, %(wrong)d at others' % places)
     forms = ['if', 'ifdef', 'ifndef', 'elif', 'elifdef', 'elifndef', 'else', 'endif']
@@ -200,9 +200,13 @@ def test_generated_groups():
         check(places[place] >= LEAST, 'generated groups', 'only %d times: %s' % (places[place], place))
 
 
-def check_words(name, web, found, macros, places):
-    same([word for word, _ in found], web.words_read(macros), name + ', the words')
-    asked = [(word, place) for word, place in found if word not in web.in_stretches]
+def check_groups(name, folder, web, file, macros, places):
+    found = read_where_defined(name, folder, file, macros)
+    ours = c_reads(web.regions(file, macros), file.encode(), read(folder, file))
+    same([(each.token, each.place) for each in ours if not each.in_directive], found, name + ', the tokens')
+    words = [(word, place) for word, place in found if random_groups.WORD.fullmatch(word)]
+    same([word for word, _ in words], web.words_read(file, macros), name + ', the words')
+    asked = [(word, place) for word, place in words if word not in web.in_stretches]
     wrong = [(word, place, web.place_of[word]) for word, place in asked if place != web.place_of[word]]
     places.update(words=len(asked) - len(wrong), wrong=len(wrong))
     same(wrong, [], name + ', words at wrong lines: each, where it is said to be, where it is')

@@ -75,6 +75,7 @@ they say how a value is held in memory, or what a function has done so far.
 '''
 
 FEW = 2                 # the most functions of a row
+PROGRAMS = 'ctangle_cli'
 MANY_KINDS = 6          # a row that names more kinds of faults is about all of them
 
 HEAD = re.compile(
@@ -322,7 +323,8 @@ class Part:
     def code(self, listed):
         """What cites one of these: functions of the crate first, public ones, and those whose
         clauses cite little else. Where none of the crate does, its nearest, a private one if there
-        is one, and then those of other crates, private ones first. Laws come last."""
+        is one, and then those of other crates, private ones first; but for those of the programs,
+        which rest on all that is promised of C. Laws come last."""
         found = [contract for one in listed for contract in self.definitions.contracts[one]]
         found = [one for one in found if one.clause != 'requires'] or found
         if any(map(self.is_own, found)):
@@ -332,7 +334,8 @@ class Part:
         first = nearest(listed, lambda one: self.is_own(one) and not one.is_public) \
             or nearest(listed, self.is_own)
         if all(one.is_law for one in found):
-            first = first or nearest(listed, lambda one: not one.is_law and not one.is_public)
+            first = first or nearest(listed, lambda one: not (
+                one.is_law or one.is_public or one.crate == PROGRAMS))
         others = sorted(found, key=lambda one: (one.is_law, one.is_public, len(one.cited)))
         first = [one for one in first if one[:3] == first[0][:3]]
         return first + others or nearest(listed, promises)

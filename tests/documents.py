@@ -566,8 +566,9 @@ def check_calls(crates):
 
 
 def is_law(text):
-    """A function without a body states a law, and so does one whose body only calls laws."""
-    return re.search(r'\)\s*(ensures.*)?\{(\s*\w+\(\);)*\s*\}\s*\Z', re.sub(r'^\s*(//|#\[).*$', '', text, flags=re.M).rstrip(), re.S)
+    """A law has neither parameters nor a result, and its body is empty or only calls laws."""
+    text = re.sub(r'^\s*(//|#\[).*$', '', text, flags=re.M).rstrip()
+    return definitions.LAW.search(text) and re.search(r'\{(\s*\w+\(\);)*\s*\}\s*\Z', text)
 
 
 def edited_functions(here, edit):

@@ -22,6 +22,7 @@ conversations conversations.py RETANGLE TOP
 streams streams.py CTANGLE RETANGLE FAIL TOP
 compiler compiler.py CTANGLE TOP
 compiler c_tokens.py TOP
+compiler read_outputs.py CTANGLE TOP
 sizes sizes.py CTANGLE RETANGLE TOP
 comparison compare.py generated CTANGLE 0 4000
 comparison web_tokens.py CTANGLE 0 4000

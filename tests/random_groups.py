@@ -7,6 +7,7 @@ one piece and end in another. Some are in included files or in the change file.
 import re
 from collections import Counter, namedtuple
 
+from c_reads import regions
 from changed_lines import ChangedLines, bytes_of
 from random_directives import BACKS, CONTINUED, FRONTS, INNER_ENDS, ON_A_LINE
 
@@ -39,19 +40,22 @@ AFTER_HEADS = [b'\n'] * 5 + [b' ']
 ENDS = BACKS + [b' \\\n', b' \\\n\\\n']
 MACRO = b'@d N x \\\n  x\n'
 
+# Names of files in which #line writes a backslash before a byte.
+CHANGE, INCLUDED = b'a"\\b.ch', ('b.w', 'c\\d.w')
+
 
 class Web:
     def __init__(self, chance):
         self.chance, self.count, self.places = chance, 0, Counter()
-        self.lines = self._some_lines(0) + [self._program_line()]
-        self.sections = [(b'@c', self.lines)]
+        self.programs = {file: self._some_lines(0) + [self._program_line()] for file in ('a.c', 'b.c')}
+        self.sections = [(b'@c', self.programs['a.c']), (b'@(b.c@>=', self.programs['b.c'])]
         for _ in range(chance.randint(1, 4)):
             self._add_name()
         starts, text = self._text()
         source = ChangedLines(chance, text)
         self.places['a change'] += bool(source.changes)
-        self.origins = list(source.places)
-        self.files = {'a.ch': bytes_of(source.changes), **self._files(source.lines)}
+        self.origins = [(CHANGE if file == b'a.ch' else file, line) for file, line in source.places]
+        self.files = {CHANGE.decode(): bytes_of(source.changes), **self._files(source.lines)}
         self.place_of = {word.group(): self.origins[text[:word.start()].count(b'\n')] for word in WORD.finditer(text)}
         self.in_stretches = {word for start, line in starts for word in self._in_stretches(start, line)}
 
@@ -123,7 +127,7 @@ class Web:
     def _files(self, lines):
         """The web and the files that it includes, if these are the lines of both."""
         files, rows = {}, list(range(len(lines)))
-        for file in ('b.w', 'c.w')[:self.chance.randint(0, 2)]:
+        for file in INCLUDED[:self.chance.randint(0, 2)]:
             start = self.chance.randint(1, len(rows) - 1)
             moved = rows[start:start + self.chance.randint(1, 6)]
             if all(isinstance(row, int) for row in moved):
@@ -140,18 +144,18 @@ class Web:
 
     # ------------------------------------------------------------------ words
 
-    def words_read(self, macros):
-        """The words that a compiler reads where these macros are defined."""
-        found, groups = [], []              # of each group: whether this region is read, whether one has been read
-        for line in flat(self.lines):
-            if line.role == 'begin':
-                groups.append([line.test(macros)] * 2)
-            elif line.role == 'turn':
-                is_read = not groups[-1][1] and line.test(macros)
-                groups[-1] = [is_read, is_read or groups[-1][1]]
-            elif line.role == 'end':
-                groups.pop()
-            elif all(is_read for is_read, _ in groups):
+    def regions(self, file, macros):
+        """Of each region of the file, whether a compiler reads it where these macros are defined."""
+        lines = [line for line in flat(self.programs[file]) if line.role]
+        return regions((line.role, line.test and line.test(macros)) for line in lines)
+
+    def words_read(self, file, macros):
+        """The words that it reads then."""
+        found, is_read, following = [], True, iter(self.regions(file, macros))
+        for line in flat(self.programs[file]):
+            if line.role:
+                is_read = next(following)
+            elif is_read:
                 found += WORD.findall(line.web)
         return found
 

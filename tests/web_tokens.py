@@ -4,7 +4,8 @@ usage: web_tokens.py CTANGLE FIRST COUNT      generated webs, by their seeds
 
 The items of a part or macro that stand together are a group (tests/reference/groups.py). The tokens
 of the bytes that are written for a macro, or for a piece, are those of its groups, one group after
-another. c_tokens.py says what tokens are. PREMISES has the premises of the law.
+another, and in a piece those of its line marks, at the line ends, uses and @h where the rules leave
+one. c_tokens.py says what tokens are. PREMISES has the premises of the law.
 
 - Typed webs: what is written for them has the tokens of their groups, and wrong texts do not.
 - Each premise is needed: typed webs break no other one, and are read otherwise.
@@ -13,12 +14,11 @@ another. c_tokens.py says what tokens are. PREMISES has the premises of the law.
 - Generated webs, each output file of ctangle to which the law applies as a whole: its tokens are
   those of the macros and of the groups, where a name stands for what it gives.
 
-The bytes of a piece are its own, without those of the names that it uses. A line mark is a
-directive, and no token. A macro is also one line for C, and has parameters where the web has them.
+The bytes of a piece are its own, without those of the names that it uses. A macro is also one line
+for C, and has parameters where the web has them.
 The last line is 'N passed, M failed'.
 """
 import os
-import re
 import sys
 import tempfile
 from collections import Counter
@@ -30,7 +30,7 @@ from c_tokens import COMMENT, elements, kind, spliced, tokens
 from checks import check, read_if_there, run_all, same
 from compare import arguments_of, make_folder, make_folders_of
 from files import ROLES, table_of
-from groups import groups_of, text_of
+from groups import ALONE, row_of, text_of
 from output import macro_text
 from running import run
 from tangling import Tangling
@@ -38,30 +38,33 @@ from tangling import Tangling
 LEAST = 90              # the premises hold for at least this percentage of parts without faults
 FILES = 1200            # at least as many output files that have tokens are read as a whole
 
-LINE_MARK = re.compile(rb'\n#line [0-9]+ "(?:\\.|[^"\\\n])*"(?=\n)')
-
 
 class Part:
-    """A macro or piece: its groups, and the bytes that are written for it."""
+    """A macro or piece: its row of groups and line marks, each with its text, and the bytes that are written for it.
+    `marks` has what is written for the marks of a piece, by the place of the line end, use or @h before each."""
 
-    def __init__(self, part, written, macros):
-        self.is_macro = part.is_macro
-        self.groups = groups_of(part)
-        self.texts = [text_of(group, macros) for group in self.groups]
-        self.written = written
+    def __init__(self, part, written, macros, front, marks):
+        self.is_macro, self.written = part.is_macro, written
+        self.row = [(None, front)]
+        for group in row_of(part):
+            first = group[0]
+            if first.kind != 'LineEnd':
+                self.row.append((group, text_of(group, macros)))
+            if first.kind == 'LineEnd' or first.kind in ALONE:
+                self.row.append((None, marks.get(first.at, b'')))
+        self.groups = [group for group, _ in self.row if group]
+        self.texts = [text for group, text in self.row if group]
 
     def tokens(self):
-        """The tokens of the groups, one after another."""
-        front = [b'#', b'define'] if self.is_macro else []
-        return front + [token for text in self.texts for token in tokens(text)]
+        """The tokens of the row, one text after another."""
+        return [token for _, text in self.row for token in tokens(text)]
 
     def has_all_macros(self):
         return any(group[0].kind == 'AllMacros' for group in self.groups)
 
     def is_read_as_meant(self, written):
         """The law, if this is what is written."""
-        read = tokens(LINE_MARK.sub(b'', written))
-        return read == self.tokens() and (not self.is_macro or self.is_macro_as_meant(written))
+        return tokens(written) == self.tokens() and (not self.is_macro or self.is_macro_as_meant(written))
 
     def is_macro_as_meant(self, written):
         has_them = has_parameters(b'#define ' + self.texts[0])
@@ -143,13 +146,17 @@ class Web:
 
     def __init__(self, tangling):
         web, self.writer, self.tangling = tangling.web, tangling.writer(), tangling
-        self.macros = [self._part(part, macro_text(items))
+        self.macros = [self._part(part, macro_text(items), b'#define', {})
                        for part, items in zip(web.macro_parts, web.macros)]
-        self.pieces = {piece.section: self._part(part, self._own_bytes(piece))
+        self.pieces = {piece.section: self._part(part, self._own_bytes(piece), self.writer.mark(piece.place),
+                                                 self._marks_of(piece))
                        for part, piece in zip(web.piece_parts, web.pieces)}
 
-    def _part(self, part, written):
-        return None if part.has_fault else Part(part, written, self.writer.macros)
+    def _part(self, part, written, front, marks):
+        return None if part.has_fault else Part(part, written, self.writer.macros, front, marks)
+
+    def _marks_of(self, piece):
+        return {item.at: self.writer.mark(item.value) for item in piece.items if item.kind == 'LineMark'}
 
     def _own_bytes(self, piece):
         """What is written for a piece, without what is written for the names that it uses."""
@@ -183,8 +190,8 @@ class Web:
         found, graph = [], self.tangling.graph
         for piece in graph.pieces[node]:
             part = self.pieces[piece.section]
-            for group, text in zip(part.groups, part.texts):
-                used = graph.use(group[0]) if group[0].kind == 'UseOf' else None
+            for group, text in part.row:
+                used = graph.use(group[0]) if group and group[0].kind == 'UseOf' else None
                 found += tokens(text) if used is None else self._tokens_of(used)
         return found
 
@@ -208,6 +215,9 @@ TYPED = (
     (b'@ @c a-/@ B.\n', OPENING + b'a-/ /*:1*/', (OPENING + b'a-//*:1*/',)),
     (b"@ @c @'a'.b\n", OPENING + b'97 .b\n/*:1*/', (OPENING + b'97.b\n/*:1*/',)),
     (b'@ @c a\\\nb\n', OPENING + b'a\\\nb\n/*:1*/', (OPENING + b'a\\\n b\n/*:1*/',)),
+    (b'@ @c a@&\nb\nc\n', OPENING + b'ab\n#line 3 "a.w"\nc\n/*:1*/',
+     (OPENING + b'ab\nc\n/*:1*/', b'/*1:*/ab\n#line 3 "a.w"\nc\n/*:1*/',                 # no mark
+      OPENING + b'ab\nc\n#line 3 "a.w"\n/*:1*/', OPENING + b'ab\n#line 2 "a.w"\nc\n/*:1*/')),
 )
 
 
@@ -282,8 +292,7 @@ def check_files(web, seed, found, project, folder):
     for name, expected in files:
         found['files'] += expected != []
         text = read_if_there(folder, os.fsdecode(name))
-        read = None if text is None else tokens(LINE_MARK.sub(b'', text))
-        same(read, expected, 'tokens of %r of generated web %d' % (name, seed))
+        same(None if text is None else tokens(text), expected, 'tokens of %r of generated web %d' % (name, seed))
 
 
 def main():

@@ -8,14 +8,19 @@ ALONE = ('UseOf', 'Defs')
 
 def groups_of(part):
     """The tokens of each group, after rules 1 and 2. A use, and all macros, are a group by themselves."""
+    return [group for group in row_of(part) if group[0].kind != 'LineEnd']
+
+
+def row_of(part):
+    """The groups, and each line end between them as a list by itself, in their order."""
     tokens = without_joins(with_spaces(part.tokens, part.is_macro))
     if part.is_macro:
         tokens = without_end(without_backslashes(tokens))
     made = [[]]
     for is_run, run, _ in runs(tokens, SPACE):
         if is_run:
-            is_apart = part.is_macro or _rest_of_gap(made[-1], run)
-            made += [[]] if is_apart else []
+            rest = run if part.is_macro else _rest_of_gap(made[-1], run)
+            made += [[token] for token in rest if token.kind == 'LineEnd'] + [[]] if rest else []
         elif run[0].kind in ALONE:
             made += [run, []]
         else:

@@ -4,4 +4,6 @@ pub mod LongerLemmas
 pub mod TouchingLemmas
 pub mod LongestLemmas
 pub mod BorderLemmas
+pub mod CountingLemmas
 pub mod WorkedTokens
+pub mod WorkedCounting

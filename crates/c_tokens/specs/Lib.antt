@@ -3,3 +3,4 @@ pub mod Grammar
 pub mod Reading
 pub mod Touching
 pub mod Borders
+pub mod Counting

@@ -1,10 +1,11 @@
 //! Laws of the tokens that a C compiler reads.
-ghost use Rattle.std.specs.Prelude.{◌≡◌, ◌≤◌, ℕ, List, ◌∷◌, ◌++◌, true, length, take, flat_map};
+ghost use Rattle.std.specs.Prelude.{◌≡◌, ◌≤◌, ℕ, List, [], ◌∷◌, ◌++◌, true, length, take, map, flat_map};
 ghost use Rattle.std.specs.List.{concat};
 ghost use Rattle.c_tokens.specs.Grammar.{is_element};
 ghost use Rattle.c_tokens.specs.Reading.{spliced, longest, elements, tokens};
 ghost use Rattle.c_tokens.specs.Touching.{TextKind, IsOfKind, kinds_may_touch};
 ghost use Rattle.c_tokens.specs.Borders.{are_apart, are_all_apart};
+ghost use Rattle.c_tokens.specs.Counting.{c_reads};
 
 /// Each byte of a text, without the backslashes before line feeds, is in one white-space character,
 /// comment or token, in order. At each place the longest one that there can be is taken.
@@ -29,4 +30,9 @@ pub fn texts_with_borders_stay_apart()
     ensures two { (a b : List ℕ) → are_apart a b ≡ true → tokens (a ++ b) ≡ tokens a ++ tokens b }
     ensures row { (texts : List (List ℕ)) → are_all_apart texts ≡ true
         → tokens (concat texts) ≡ flat_map tokens texts }
+{}
+
+/// A compiler that leaves out no region counts each token, in order.
+pub fn each_token_is_counted()
+    ensures { (file text : List ℕ) → map (λ read. read.token) (c_reads [] file text) ≡ tokens text }
 {}

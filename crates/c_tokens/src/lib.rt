@@ -5,5 +5,6 @@
 mod laws;
 
 pub use laws::{
-    elements_are_the_longest, texts_that_may_touch_stay_apart, texts_with_borders_stay_apart,
+    each_token_is_counted, elements_are_the_longest, texts_that_may_touch_stay_apart,
+    texts_with_borders_stay_apart,
 };

@@ -7,11 +7,14 @@ use Rattle.tangle_files.specs.declared.edits.Edit.{Edit}
 use Rattle.tangle_script.specs.Requests.{Command, Request, is_edit, request_of}
 use Rattle.tangle_script.specs.Requests.Request.{Show, Begin, Commit, Cancel}
 use Rattle.tangle_script.specs.Requests.Request.{Faults, Work, Quit, BadCommand}
-use Rattle.tangle_script.specs.Script.{Dialogue, Replies}
-use Rattle.tangle_session.specs.Headline.{Call, Apply, ApplyAll, History, Answered}
+use Rattle.tangle_script.specs.Endings.{ConversationEnds}
+use Rattle.tangle_script.specs.Endings.ConversationEnds.{IsAtQuit, IsAtInputEnd, IsUnread, IsTooLong, IsUnwritten}
+use Rattle.tangle_script.specs.Endings.ConversationEnds.{IsOutOfMemory as IsShortOfMemory}
+use Rattle.tangle_script.specs.Script.{AreAnswered, Conversation, Dialogue, Exchange, IsCut, Replies}
+use Rattle.tangle_session.specs.Headline.{Call, Apply, ApplyAll, History, Started, Answered, IsStarted}
 use Rattle.tangle_session.specs.Sessions.{SessionRead}
 use Rattle.ctangle_cli.specs.Conversation.{AnswersBegin, AnswersCancel, AnswersCommit, AnswersIn}
-use Rattle.ctangle_cli.specs.Conversation.{SessionAndDraft, answers, request_for}
+use Rattle.ctangle_cli.specs.Conversation.{HasError, SessionAndDraft, answers, request_for}
 use Rattle.ctangle_cli.specs.Histories.{AreCallsOf, IsCallOf, IsEdit, IsHeld, IsOpened, IsCommitted, IsDropped}
 use Rattle.ctangle_cli.specs.Histories.{IsNoEdit, IsOutOfMemory, is_of_list}
 
@@ -96,3 +99,49 @@ module _ (files : FileTable) (roles : RolesRead) where
         (d.0, d.1, first.0, rest.0, d.2.draft, d.5, refl, first.1, rest.1),
         subst (λ cs. History files roles cs t.session) (append_assoc calls first.0 rest.0) rest.2,
       )
+
+  -- so do the commands of a whole conversation
+  module _ (calls : List Call) where
+    abbrev Extends : Exchange SessionAndDraft → Type 0
+    Extends s = (more : List Call) × History files roles (calls ++ more) s.state.session
+
+    later : (t : SessionRead) (first rest : List Call) → History files roles ((calls ++ first) ++ rest) t
+        → (more : List Call) × History files roles (calls ++ more) t
+    later t first rest history =
+        (first ++ rest, subst (λ cs. History files roles cs t) (append_assoc calls first rest) history)
+
+    all : (old new : Exchange SessionAndDraft) (commands : List Command) → Extends old
+        → AreAnswered answers old new commands → Extends new
+    all old new commands so_far a =
+        let next = goes_on (calls ++ so_far.0) old.state new.state commands a.output so_far.1 a.answered in
+        later new.state.session so_far.0 next.0 next.2
+
+    cut : (old new : Exchange SessionAndDraft) (commands : List Command) → Extends old
+        → IsCut answers old new commands → Extends new
+    cut old new commands so_far is =
+        let front = all old is.before is.front so_far is.is_answered in
+        let next = replied (calls ++ front.0) is.before.state new.state (request_of is.last) is.at_last.0 front.1 is.at_last.1 in
+        later new.state.session front.0 next.0 next.2
+
+    pub ends_go_on : (old new : Conversation SessionAndDraft) (status : ℕ)
+        → ConversationEnds answers HasError old new status → History files roles calls old.exchange.state.session
+        → (more : List Call) × History files roles (calls ++ more) new.exchange.state.session
+    ends_go_on old new status ends history = by ends ([], still calls old.exchange.state.session history)
+      where
+        by : ConversationEnds answers HasError old new status → Extends old.exchange → Extends new.exchange
+        by (IsAtQuit read are quit is) start =
+            all quit.before new.exchange (quit.last ∷ []) (all old.exchange quit.before quit.front start quit.is_answered)
+            quit.at_last.1
+        by (IsAtInputEnd read are end none answered is) start = all old.exchange new.exchange _ start answered
+        by (IsUnread read given within failed ended is) start = all old.exchange new.exchange _ start ended.is_answered
+        by (IsTooLong read more given long calm ended is) start = all old.exchange new.exchange _ start ended.is_answered
+        by (IsUnwritten read are (inl now) is) start = cut old.exchange new.exchange _ start now
+        by (IsUnwritten read are (inr last) is) start = cut old.exchange new.exchange _ start last.2
+        by (IsShortOfMemory read are long ended is) start = all old.exchange new.exchange _ start ended.is_answered
+
+-- a session that is started is a history of its own files
+pub from_start : (files : FileTable) (roles : RolesRead) (session : SessionRead) → IsStarted files roles session
+    → History session.files session.roles [] session
+from_start files roles session is =
+    subst (λ (x : FileTable × RolesRead). History x.0 x.1 [] session)
+    (λ i. ((sym is.files_are) i, (sym is.roles_are) i)) (Started is)

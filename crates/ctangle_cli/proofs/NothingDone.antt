@@ -63,6 +63,6 @@ unstarted_not_3 usage names (IsUnloaded roles ending is why reported status) =
 
 pub run_not_3 : (arguments : List (List ℕ)) → RunEnds arguments nothing_done nothing_done 3 → ⊥
 run_not_3 arguments (IsUnstarted ends) = unstarted_not_3 usage_line (names_by_arguments arguments) ends
-run_not_3 arguments (IsTangled roles started session is starts ends) =
+run_not_3 arguments (IsTangled roles started session is starts ends read) =
     tangled_not_3 ends.outputs ends.faults started.folder
-    (subst (λ s. TangledEnds ends.outputs ends.faults (moment started.folder s) nothing_done 3) starts.silent ends.ends)
+    (subst (λ s. TangledEnds ends.outputs ends.faults (moment started.folder s) nothing_done 3) starts.unwritten ends.ends)

@@ -1,5 +1,6 @@
 -- A C compiler reads the output files of plain tangling as the author wrote them.
 use Rattle.std.proofs.Common.{arith}
+use Rattle.std.proofs.Common.{rules}
 use Rattle.std.proofs.Common.{◌≡◌, ℕ, zero, suc, Bool, true, false, List, [], ◌∷◌, ◌++◌, Option, None, Some, Ok, Err, refl, ap, sym, subst, if◌then◌else◌}
 use Rattle.std.specs.List.{list_any}
 use Rattle.std.specs.Str.{bytes_eq}
@@ -11,7 +12,6 @@ use Rattle.tangle_files.specs.declared.edits.Edit.{Edit}
 use Rattle.tangle_files.specs.declared.refusal.Refusal.{Refusal}
 use Rattle.tangle_files.specs.declared.marks.MarkMode.{MarkMode}
 use Rattle.tangle_files.specs.declared.marks.MarkMode.TheVariants.{Full}
-use Rattle.tangle_lines.specs.Reading.{SourceRead}
 use Rattle.tangle_names.specs.NameTable.{table_of}
 use Rattle.tangle_scan.proofs.laws.WebLaws.{web-line-truth}
 use Rattle.tangle_bodies.specs.WebShapes.{shapes}
@@ -20,8 +20,10 @@ use Rattle.tangle_expansion.specs.Limits.{flat_of}
 use Rattle.tangle_expansion.specs.Numbers.{expansion_bytes, numbers_of}
 use Rattle.tangle_expansion.specs.Outputs.{output_file_bytes}
 use Rattle.tangle_expansion.proofs.LineTruth.{true_to_lines}
-use Rattle.tangle_c_tokens.specs.LineFeeds.{HaveNoLineFeeds}
-use Rattle.tangle_c_tokens.specs.Files.{FilesAreReadByParts, HasNoLineFeeds}
+use Rattle.tangle_expansion.proofs.NumberLemmas.{node_numbers_of}
+use Rattle.tangle_expansion.proofs.PieceLemmas.{pieces_written}
+use Rattle.tangle_c_tokens.specs.LineFeeds.{FilesHaveNoLineFeed}
+use Rattle.tangle_c_tokens.proofs.FileLemmas.{AreWrittenByPieces, file-is_read}
 use Rattle.tangle_c_tokens.proofs.TableLemmas.{added-have, edited-have, source-has}
 use Rattle.tangle_graph.proofs.OutputLemmas.{outputs_fit}
 use Rattle.tangle_loading.specs.Loading.{Contents, Load, Loaded, add_answer, ask, ask_all, load_of, rounds_after}
@@ -31,23 +33,21 @@ use Rattle.tangle_session.specs.Headline.{AreMade, Call, Apply, ApplyAll, Histor
 use Rattle.tangle_session.specs.Headline.{source_at, web_at}
 use Rattle.tangle_session.specs.Sessions.{SessionRead}
 use Rattle.ctangle_cli.specs.Run.{Moment, StartsSession}
-use Rattle.ctangle_cli.specs.WhatTheCompilerReads.{OutputsAreReadAsWritten, node_of}
+use Rattle.ctangle_cli.specs.WhatTheCompilerReads.{OutputsAreReadAsWritten, OutputsStayReadAsWritten, node_of}
 
--- what `files_are_read_by_parts` says
-abbrev pub FilesAreRead : Type 0
-FilesAreRead = (source : SourceRead) (marks : MarkMode) → HasNoLineFeeds source → FilesAreReadByParts source marks
+by-pieces : AreWrittenByPieces
+by-pieces = search (rules, pieces_written, node_numbers_of)
 
-pub read-as-written : FilesAreRead → (files : FileTable) (roles : RolesRead) → HaveNoLineFeeds files
-    → OutputsAreReadAsWritten files roles
+pub read-as-written : (files : FileTable) (roles : RolesRead) → FilesHaveNoLineFeed files → OutputsAreReadAsWritten files roles
 unfolding web_at source_at
-read-as-written read files roles clear output there =
+read-as-written files roles clear output there =
     let source = source_at files roles in
     let web = web_at files roles in
     let node = node_of files roles output in
     let fit = outputs_fit web (table_of web) (table_inside web) roles.out output there in
     record {
-      tokens = λ whole. read source roles.marks (source-has files roles clear) output.has_macros output.has_piece node
-          whole.macros (λ is. (fit.there is, whole.pieces is));
+      tokens = λ whole. file-is_read by-pieces source roles.marks (source-has files roles clear)
+          output.has_macros output.has_piece node whole.macros (λ is. (fit.there is, whole.pieces is));
       lines = λ full. record {
         of_node = expansion_bytes (numbers_of web (table_of web) Full) (flat_of (shapes web (table_of web)) node);
         made = ap (λ (m : MarkMode). output_file_bytes (numbers_of web (table_of web) m) output.has_macros output.has_piece
@@ -59,15 +59,15 @@ read-as-written read files roles clear output there =
 -- files that are loaded
 
 abbrev IsClear : Loaded → Type 0
-IsClear (Ok files) = HaveNoLineFeeds files
+IsClear (Ok files) = FilesHaveNoLineFeed files
 IsClear (Err ending) = Unit {0}
 
 added-clear : (files : FileTable) (name bytes : List ℕ) (refusal : Option Refusal) → add_refusal files name bytes ≡ refusal
-    → HaveNoLineFeeds files → IsClear (unless_refused files name bytes refusal)
+    → FilesHaveNoLineFeed files → IsClear (unless_refused files name bytes refusal)
 added-clear files name bytes None is clear = added-have files name bytes is clear
 added-clear files name bytes (Some refusal) is clear = tt
 
-answer-clear : (needed : Bool) (files : FileTable) (name : List ℕ) (answer : Option (List ℕ)) → HaveNoLineFeeds files
+answer-clear : (needed : Bool) (files : FileTable) (name : List ℕ) (answer : Option (List ℕ)) → FilesHaveNoLineFeed files
     → IsClear (add_answer needed files name answer)
 answer-clear true files name None clear = tt
 answer-clear false files name None clear = clear
@@ -110,45 +110,39 @@ module _ (contents : Contents) where
           (all-clear true (so_far [] (Ok [])) (roles.web ∷ named_in roles.change) (record { names = tt; lines = tt }))
 
 pub started-clear : (roles : RolesRead) (old new : Moment) (session : SessionRead) → StartsSession roles old new session
-    → HaveNoLineFeeds session.files
+    → FilesHaveNoLineFeed session.files
 started-clear roles old new session starts =
-    subst HaveNoLineFeeds (sym starts.started.files_are)
+    subst FilesHaveNoLineFeed (sym starts.started.files_are)
     (subst IsClear starts.loads.gives.0 (load-clear starts.loads.contents roles))
-
-pub started-read : FilesAreRead → (roles : RolesRead) (old new : Moment) (session : SessionRead)
-    → StartsSession roles old new session → OutputsAreReadAsWritten session.files session.roles
-started-read read roles old new session starts =
-    read-as-written read session.files session.roles (started-clear roles old new session starts)
 
 -- files that are edited
 
 edits-clear : (files : FileTable) (roles : RolesRead) (edits : List Edit) → list_refusal files roles edits ≡ None
-    → HaveNoLineFeeds files → HaveNoLineFeeds (edited_all files edits)
+    → FilesHaveNoLineFeed files → FilesHaveNoLineFeed (edited_all files edits)
 edits-clear files roles [] none clear = clear
 edits-clear files roles (edit ∷ edits) none clear =
     edits-clear (edited files edit) roles edits (grind (arith, none))
     (edited-have files edit (grind (arith, none)) clear)
 
 made-clear : (before : SessionRead) (edits : List Edit) (after : SessionRead)
-    → list_refusal before.files before.roles edits ≡ None → AreMade before edits after → HaveNoLineFeeds before.files
-    → HaveNoLineFeeds after.files
+    → list_refusal before.files before.roles edits ≡ None → AreMade before edits after → FilesHaveNoLineFeed before.files
+    → FilesHaveNoLineFeed after.files
 made-clear before edits after none made clear =
-    subst HaveNoLineFeeds (sym made.files) (edits-clear before.files before.roles edits none clear)
+    subst FilesHaveNoLineFeed (sym made.files) (edits-clear before.files before.roles edits none clear)
 
-history-clear : (files : FileTable) (roles : RolesRead) (calls : List Call) (session : SessionRead) → HaveNoLineFeeds files
-    → History files roles calls session → HaveNoLineFeeds session.files
-history-clear files roles calls session clear (Started is) = subst HaveNoLineFeeds (sym is.files_are) clear
+history-clear : (files : FileTable) (roles : RolesRead) (calls : List Call) (session : SessionRead) → FilesHaveNoLineFeed files
+    → History files roles calls session → FilesHaveNoLineFeed session.files
+history-clear files roles calls session clear (Started is) = subst FilesHaveNoLineFeed (sym is.files_are) clear
 history-clear files roles calls session clear (Answered before call history answered) =
     by call answered (history-clear files roles _ before clear history)
   where
-    by : (call : Call) → IsAnswered before call session → HaveNoLineFeeds before.files → HaveNoLineFeeds session.files
+    by : (call : Call) → IsAnswered before call session → FilesHaveNoLineFeed before.files → FilesHaveNoLineFeed session.files
     by (Apply edit (Ok done)) a now =
         made-clear before (edit ∷ []) session (grind (arith, a.0)) a.1 now
-    by (Apply edit (Err refusal)) a now = subst (λ (s : SessionRead). HaveNoLineFeeds s.files) (sym a.1) now
+    by (Apply edit (Err refusal)) a now = subst (λ (s : SessionRead). FilesHaveNoLineFeed s.files) (sym a.1) now
     by (ApplyAll edits (Ok done)) a now = made-clear before edits session a.0 a.1 now
-    by (ApplyAll edits (Err refused)) a now = subst (λ (s : SessionRead). HaveNoLineFeeds s.files) (sym a.1) now
+    by (ApplyAll edits (Err refused)) a now = subst (λ (s : SessionRead). FilesHaveNoLineFeed s.files) (sym a.1) now
 
-pub history-read : FilesAreRead → (files : FileTable) (roles : RolesRead) (calls : List Call) (session : SessionRead)
-    → HaveNoLineFeeds files → History files roles calls session → OutputsAreReadAsWritten session.files session.roles
-history-read read files roles calls session clear history =
-    read-as-written read session.files session.roles (history-clear files roles calls session clear history)
+pub stay-read : (files : FileTable) (roles : RolesRead) → FilesHaveNoLineFeed files → OutputsStayReadAsWritten files roles
+stay-read files roles clear calls session history =
+    read-as-written session.files session.roles (history-clear files roles calls session clear history)

@@ -7,7 +7,7 @@ use Rattle.tangle_files.specs.Roles.{RolesRead}
 use Rattle.tangle_faults.specs.Faults.{FaultRead}
 use Rattle.tangle_script.specs.Endings.{ConversationEnds}
 use Rattle.tangle_script.specs.Script.{Conversation}
-use Rattle.tangle_session.specs.Headline.{IsPlainTangling, IsStarted}
+use Rattle.tangle_session.specs.Headline.{Call, History, IsPlainTangling, IsStarted}
 use Rattle.tangle_session.specs.Sessions.{SessionRead}
 use Rattle.tangle_folders.specs.declared.folder.FolderFault.{FolderFault}
 use Rattle.tangle_folders.specs.declared.folder.FolderFault.TheVariants.{NoMemory}
@@ -21,6 +21,8 @@ use Rattle.tangle_loading.specs.Loading.LoadEnd.{NoMemory as LoadMemory}
 use Rattle.tangle_loading.specs.Endings.{LoadGives}
 use Rattle.ctangle_cli.specs.Messages.{usage_line, ending_line, unwritten_line}
 use Rattle.ctangle_cli.specs.Messages.{fault_lines, faults_status}
+use Rattle.ctangle_cli.specs.WhatTheCompilerReads.{OutputsAreReadAsWritten}
+use Rattle.ctangle_cli.specs.WhatTheCompilerReads.{OutputsStayReadAsWritten}
 
 -- what the folder and the error stream report at a moment
 pub record Moment : Type 0 where
@@ -112,7 +114,7 @@ pub record StartsSession (roles : RolesRead) (old new : Moment) (session : Sessi
   pub files : FileTable
   pub loads : LoadGives roles old.folder new.folder (Ok files)
   pub started : IsStarted files roles session
-  pub silent : new.stream ≡ old.stream
+  pub unwritten : new.stream ≡ old.stream
 
 -- how a run of this program ends that starts no session; `names` are those that its arguments give
 pub data EndsUnstarted (program usage : List ℕ) (names : Option RolesRead)
@@ -137,11 +139,12 @@ pub data RunEnds (arguments : List (List ℕ)) (old new : Moment) (status : ℕ)
   -- status 2 or 3: no session is started
   IsUnstarted : EndsUnstarted (codes "ctangle") usage_line (names_by_arguments arguments) old new
       status → RunEnds arguments old new status
-  -- status 0, 1 or 3: a session is started, which gives the faults and the outputs
+  -- status 0, 1 or 3: a session is started, which gives the faults and the outputs; a C compiler
+  -- reads each output as the author wrote it
   IsTangled : (roles : RolesRead) (started : Moment) (session : SessionRead)
       → names_by_arguments arguments ≡ Some roles → StartsSession roles old started session
       → SessionEnds session.files session.roles started new status
-      → RunEnds arguments old new status
+      → OutputsAreReadAsWritten session.files session.roles → RunEnds arguments old new status
 
 -- How a run of `retangle` ends. `before` and `after` give the conversation at its two ends, for each
 -- state of a session: what the writer of the answers and the reader of the script report then.
@@ -149,14 +152,20 @@ pub data RetangleEnds (arguments : List Text) (old new : Moment)
     (before after : SessionAndDraft → Conversation SessionAndDraft) (status : ℕ) : Type 0 where
   -- status 2 or 3: no session is started, nothing of the script is read, and nothing is answered;
   -- the usage is clap's
-  IsSilent : (usage : List ℕ)
+  IsUnanswered : (usage : List ℕ)
       → EndsUnstarted (codes "retangle") usage (retangle_names_of arguments) old new status
       → after ≡ before → RetangleEnds arguments old new before after status
-  -- status 0, 1 or 3: a session is started, which answers the script
-  IsConversation : (roles : RolesRead) (session : SessionRead) (last : SessionAndDraft)
-      → retangle_names_of arguments ≡ Some roles → StartsSession roles old new session
+  -- status 0, 1 or 3: a session is started, which answers the script; the last session is at the
+  -- end of a history. A C compiler reads each output as the author wrote it, in the first session
+  -- and after any calls.
+  IsConversation : (roles : RolesRead) (session : SessionRead) (calls : List Call)
+      (last : SessionAndDraft) → retangle_names_of arguments ≡ Some roles
+      → StartsSession roles old new session
       → ConversationEnds answers HasError (before (record { session = session; draft = None }))
-      (after last) status → RetangleEnds arguments old new before after status
+      (after last) status
+      → History session.files session.roles calls last.session
+      → OutputsStayReadAsWritten session.files session.roles
+      → RetangleEnds arguments old new before after status
 
 -- a moment at which nothing was read, created, asked for or written, and nothing failed
 abbrev pub nothing_done : Moment

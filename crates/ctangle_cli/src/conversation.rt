@@ -14,7 +14,9 @@ ghost use Rattle.tangle_script.specs.Requests.Request.{Create as create, Discard
 ghost use Rattle.tangle_script.specs.Requests.Request.{Insert as insert, Remove as remove};
 ghost use Rattle.tangle_script.specs.Requests.Request.{Replace as replace};
 ghost use Rattle.tangle_script.specs.Script.{Replies, WritesAnswer, conversation};
-ghost use Rattle.tangle_session.specs.Headline.{output_at};
+ghost use Rattle.tangle_files.specs.Lines.{FileTable};
+ghost use Rattle.tangle_files.specs.Roles.{RolesRead};
+ghost use Rattle.tangle_session.specs.Headline.{Call, History, output_at};
 ghost use Rattle.ctangle_cli.specs.Conversation.{HasError, answers, edit_line};
 ghost use Rattle.ctangle_cli.specs.Conversation.{edit_number, list_line, listed_faults};
 ghost use Rattle.ctangle_cli.specs.Conversation.{marks_request, request_for, session_and_draft};
@@ -332,7 +334,8 @@ impl Project for SessionProject {
 
 /// Answers a script of edits and questions, and returns the status with which the program ends.
 /// While a list of edits is open, edits are held, and questions are answered from the session
-/// without them. A list that is still open at the end of the run is dropped.
+/// without them. A list that is still open at the end of the run is dropped. The edits that are
+/// made go on with any history of the session (`history`).
 ///
 /// The status is 0, or 1 where an error is among the faults at the end of the script. It is 3 where
 /// the reader or the writer failed, the script is longer than `SCRIPT_LIMIT`, or memory ran out for
@@ -343,11 +346,14 @@ pub fn run_retangle<R: Feed, S: Sink>(
     feed: &mut R,
     sink: &mut S,
 ) -> u8
-    ensures { (draft : Option (List EditRead)) × ConversationEnds answers HasError
+    ensures ends { (draft : Option (List EditRead)) × ConversationEnds answers HasError
         (conversation (record { session = session.old; draft = None })
         (S.stream sink.old) (R.remaining feed.old) (R.failures feed.old))
         (conversation (record { session = session.new; draft = draft })
         (S.stream sink.new) (R.remaining feed.new) (R.failures feed.new)) result }
+    ensures history { (files : FileTable) (roles : RolesRead) (calls : List Call)
+        → History files roles calls session.old
+        → (more : List Call) × History files roles (calls ++ more) session.new }
 {
     let mut draft = None;
     run_script::<SessionProject, R, S>(alloc, session, &mut draft, feed, sink)

@@ -1,4 +1,4 @@
-//! Laws of scripts.
+//! Laws of scripts, and of what a C compiler reads.
 ghost use Rattle.std.specs.Prelude.{◌≡◌, ◌++◌, ℕ, List};
 ghost use Rattle.tangle_files.specs.Lines.{FileTable};
 ghost use Rattle.tangle_files.specs.Roles.{RolesRead};
@@ -9,12 +9,8 @@ ghost use Rattle.tangle_session.specs.Headline.{Call, History, accepted, files_a
 ghost use Rattle.tangle_session.specs.Headline.{roles_with};
 ghost use Rattle.ctangle_cli.specs.Conversation.{ListsFaults, SessionAndDraft, answers, shown};
 ghost use Rattle.ctangle_cli.specs.Histories.{AreCallsOf};
-ghost use Rattle.ctangle_cli.specs.Run.{Moment, StartsSession};
-ghost use Rattle.ctangle_cli.specs.WhatTheCompilerReads.{OutputsAreReadAsWritten};
-ghost use Rattle.tangle_c_tokens.specs.LineFeeds.{HaveNoLineFeeds};
-ghost use Rattle.tangle_session.specs.Sessions.{SessionRead};
-
-use tangle_c_tokens::files_are_read_by_parts;
+ghost use Rattle.ctangle_cli.specs.WhatTheCompilerReads.{OutputsStayReadAsWritten};
+ghost use Rattle.tangle_c_tokens.specs.LineFeeds.{FilesHaveNoLineFeed};
 
 /// The commands of a script extend the history of the session: each edit that is passed, and each
 /// list of edits, is one more call, with the answer that was written. Held edits and questions
@@ -44,19 +40,12 @@ pub fn scripts_show_plain_tangling()
         output }
 {}
 
-/// A C compiler reads each output file as the author wrote it (`specs/WhatTheCompilerReads.antt`):
-/// those of each session that a run starts, which are what `ctangle` creates (`runs`); and those of
-/// a session at the end of any history, as of the answers of a script, if no name and no line of
-/// its first files has a line feed (`histories`), as is true where a run starts it (`started`).
+/// A C compiler reads each output file as the author wrote it
+/// (`specs/WhatTheCompilerReads.antt`), in a session that is started with these files, and after any
+/// calls, if no name and no line of the files has a line feed. None has that is added or edited
+/// (`lines_have_no_line_feeds` of `tangle_c_tokens`): so the runs of both programs promise this
+/// without a premise.
 pub fn outputs_are_read_as_written()
-    ensures runs { (roles : RolesRead) (old new : Moment) (session : SessionRead)
-        → StartsSession roles old new session
-        → OutputsAreReadAsWritten session.files session.roles }
-    ensures started { (roles : RolesRead) (old new : Moment) (session : SessionRead)
-        → StartsSession roles old new session → HaveNoLineFeeds session.files }
-    ensures histories { (files : FileTable) (roles : RolesRead) (calls : List Call)
-        (session : SessionRead) → HaveNoLineFeeds files → History files roles calls session
-        → OutputsAreReadAsWritten session.files session.roles }
-{
-    files_are_read_by_parts();
-}
+    ensures { (files : FileTable) (roles : RolesRead) → FilesHaveNoLineFeed files
+        → OutputsStayReadAsWritten files roles }
+{}

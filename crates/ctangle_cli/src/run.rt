@@ -154,8 +154,8 @@ fn run_keeping_session<F: Folder, E: Sink>(
 /// and then each output into the folder, the main file first. The status is 0, or 1 where an error
 /// is among the faults. It is 2, with the usage line, where the arguments give no names. It is 3,
 /// with a line that says why, where a file can't be read or written or is refused, or memory runs
-/// out; and 3 where the error stream fails. What a C compiler reads of the outputs is said by the
-/// law [`outputs_are_read_as_written`](crate::outputs_are_read_as_written).
+/// out; and 3 where the error stream fails. A C compiler reads each output as the author wrote it
+/// (`specs/WhatTheCompilerReads.antt`).
 ///
 /// Of CTANGLE's command line it keeps the three names, their extensions and `-` for no change file;
 /// flags are accepted and have no effect (`docs/programs.md`).
@@ -211,9 +211,10 @@ fn write_refused<E: Sink>(alloc: Global, error: &Error, err: &mut E) -> u8
 /// Returns the status.
 ///
 /// It loads the files, starts a session of them, and answers the script as [`run_retangle`] does,
-/// with its status. The status is 2, and `clap`'s text is written, where `clap` refuses the
-/// arguments, or they ask for help or the version. It is 3, with a line that says why, where a file
-/// can't be read or is refused, or memory runs out; and 3 where the error stream fails.
+/// with its status. A C compiler reads each output that is shown as the author wrote it
+/// (`specs/WhatTheCompilerReads.antt`). The status is 2, and `clap`'s text is written, where `clap`
+/// refuses the arguments, or they ask for help or the version. It is 3, with a line that says why,
+/// where a file can't be read or is refused, or memory runs out; and 3 where the error stream fails.
 ///
 /// CWEB has no such program (`docs/sessions.md`).
 pub fn run_retangle_before_exit<A: AsStr, F: Folder, E: Sink, R: Feed, S: Sink>(

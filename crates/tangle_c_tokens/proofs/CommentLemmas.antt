@@ -8,6 +8,7 @@ use Rattle.std.proofs.Common.{◌∷◌, ◌++◌, refl, ap, ◌∙◌, append_a
 use Rattle.std.specs.Prelude.{◌&&◌, not, ◌==◌, filter, decimal}
 use Rattle.std.specs.List.{list_all}
 use Rattle.std.proofs.lemmas.Bool.{and_parts, or_right}
+use Rattle.std.proofs.lemmas.List.Folds.{list_all-append}
 use Rattle.c_tokens.specs.Bytes.{space, slash, asterisk, backslash}
 use Rattle.c_tokens.specs.Grammar.{is_token, is_punctuator, is_comment, ends_once}
 use Rattle.c_tokens.specs.Reading.{spliced, elements, elements_from}
@@ -33,11 +34,6 @@ digits-inside (b ∷ t) all = grind (arith, nat_tests, digits-inside t)
 
 decimal-inside : (n : ℕ) → list_all is_inside (decimal n) ≡ true
 decimal-inside n = digits-inside (decimal n) (decimal-digits n)
-
-all-append : (a b : List ℕ) → list_all is_inside a ≡ true → list_all is_inside b ≡ true
-    → list_all is_inside (a ++ b) ≡ true
-all-append [] b of_a of_b = of_b
-all-append (x ∷ a) b of_a of_b = grind (arith, nat_tests, all-append a b)
 
 -- the comment as an element
 
@@ -118,7 +114,7 @@ pub after-opening : (n : ℕ) (rest : List ℕ) → Follows [] rest (opening_byt
 after-opening n rest =
     follows-same [] rest (opening_bytes n ++ rest) (comment (decimal n ++ codes ":") ++ rest)
     (ap (λ t. t ++ rest) (opening-is n))
-    (comment-front (decimal n ++ codes ":") rest ((all-append (decimal n) (codes ":") (decimal-inside n) refl)))
+    (comment-front (decimal n ++ codes ":") rest (grind (arith, list_all-append is_inside (decimal n) (codes ":"), decimal-inside n)))
 
 pub after-closing : (n : ℕ) (rest : List ℕ) → Follows [] rest (closing_bytes n ++ rest)
 after-closing n rest = comment-front (58 ∷ decimal n) rest ((decimal-inside n))

@@ -1,11 +1,11 @@
--- The tokens of the file of a node are those of its parts.
+-- The tokens of the file of a node are those of its row.
 use Rattle.std.proofs.Common.{rules}
 use Rattle.std.proofs.Common.{arith}
 use Rattle.tangle_c_tokens.proofs.TextLemmas.{IsMarkText, IsWholeLine}
 use Rattle.tangle_c_tokens.proofs.MarkLemmas.{mark-is_line, mark_end-at, name-at}
 use Rattle.std.proofs.Common.{◌≡◌, ℕ, zero, suc, Bool, true, false, if◌then◌else◌, List, [], ◌∷◌}
 use Rattle.std.proofs.Common.{◌++◌, map, flat_map, append-nil}
-use Rattle.std.proofs.Common.{refl, ap, sym, subst}
+use Rattle.std.proofs.Common.{refl, sym, subst}
 use Rattle.std.specs.List.{AllByRecursion}
 use Rattle.c_tokens.specs.Bytes.{line_feed}
 use Rattle.tangle_files.specs.declared.marks.MarkMode.{MarkMode}
@@ -23,43 +23,22 @@ use Rattle.tangle_bodies.specs.WebShapes.{shapes}
 use Rattle.tangle_bodies.proofs.InsideLemmas.{table_inside}
 use Rattle.tangle_expansion.specs.Limits.{flat_of, levels, IsExpandableNode}
 use Rattle.tangle_expansion.specs.Numbers.{NumbersRead, numbers_of, expansion_bytes}
-use Rattle.tangle_expansion.specs.PieceBytes.{bytes_after_mark}
-use Rattle.tangle_expansion.specs.PieceBytes.{piece_bytes}
+use Rattle.tangle_expansion.specs.PieceBytes.{bytes_after_mark, piece_bytes, used_bytes}
 use Rattle.tangle_expansion.proofs.SameShapes.{flat_by_uses}
 use Rattle.tangle_c_tokens.specs.Reading.{IsReadAsTexts}
 use Rattle.tangle_c_tokens.specs.Kinds.{AreTexts}
 use Rattle.tangle_c_tokens.proofs.kind_lemmas.WebTexts.{macros-texts}
-use Rattle.tangle_c_tokens.specs.Pieces.{IsReadInParts}
-use Rattle.tangle_c_tokens.specs.Pieces.{Passage, OfPart, parts_in_row, passage_text}
-use Rattle.tangle_c_tokens.specs.Files.{FilesAreReadByParts, HasNoLineFeeds, IsWholePiece, MacrosAreWhole}
-use Rattle.tangle_c_tokens.specs.Files.{NodesAreReadByParts, ReachesWholePieces, macro_texts, numbers_in, piece_texts}
-use Rattle.tangle_c_tokens.specs.Files.{shapes_in, texts_of_node, tokens_of_node}
-use Rattle.tangle_c_tokens.proofs.UseLemmas.{each}
+use Rattle.tangle_c_tokens.specs.Pieces.{passage_text}
+use Rattle.tangle_c_tokens.specs.Files.{FilesAreReadByParts, SourceHasNoLineFeed, IsWholePassage, MacrosAreReadAlone}
+use Rattle.tangle_c_tokens.specs.Files.{NodesAreReadByParts, ReachesWholePieces, numbers_in}
+use Rattle.tangle_c_tokens.specs.Files.{shapes_in, texts_of_node, row_of_node}
+use Rattle.tangle_c_tokens.proofs.ListLemmas.{each}
 use Rattle.digraph.specs.Reach.{here, on}
-use Rattle.tangle_c_tokens.proofs.TextLemmas.{no-text, feed-front}
-use Rattle.tangle_c_tokens.proofs.RowLemmas.{without-text, nothing}
+use Rattle.tangle_c_tokens.proofs.TextLemmas.{no-text, feed-front, with-nothing}
 use Rattle.tangle_c_tokens.proofs.FeedLemmas.{KeepsFeed, line-of}
 use Rattle.tangle_c_tokens.proofs.AllMacroLemmas.{both, macros-keep, IsAlone, macros-whole}
 use Rattle.tangle_c_tokens.proofs.NodeLemmas.{pieces-keep, node-read}
 use Rattle.std.proofs.lemmas.Bool.Decides.{nat_tests}
-
--- texts before a row
-
-with-texts : (texts : List (List ℕ)) (row : List Passage)
-    → parts_in_row (map OfPart texts ++ row) ≡ texts ++ parts_in_row row
-with-texts [] row = refl
-with-texts (t ∷ texts) row = ap (λ us. t ∷ us) (with-texts texts row)
-
-texts-of : (mark : Origin → List ℕ) (texts : List (List ℕ)) (row : List Passage) →
-    map (passage_text mark) (map OfPart texts ++ row) ≡ texts ++ map (passage_text mark) row
-texts-of mark [] row = refl
-texts-of mark (t ∷ texts) row = ap (λ us. t ∷ us) (texts-of mark texts row)
-
-after-texts : (mark : Origin → List ℕ) (texts ts : List (List ℕ)) (rest bytes : List ℕ)
-    (read : IsReadInParts mark ts rest) →
-    IsReadAsTexts (texts ++ map (passage_text mark) read.row) bytes → IsReadInParts mark (texts ++ ts) bytes
-after-texts mark texts ts rest bytes read all =
-    grind (arith, nat_tests, with-texts texts read.row, texts-of mark texts read.row)
 
 -- the bytes of a node are those of its pieces, as `nodes_are_written_by_pieces` of tangle_expansion
 -- has it
@@ -73,7 +52,7 @@ AreWrittenByPieces =
     (pieces_of web table node)
 
 module _ (pieces : AreWrittenByPieces) (source : SourceRead) (modes : MarkMode)
-    (feeds : HasNoLineFeeds source) where
+    (feeds : SourceHasNoLineFeed source) where
   abbrev table : TableRead
   table = table_of (web_of source)
 
@@ -92,22 +71,22 @@ module _ (pieces : AreWrittenByPieces) (source : SourceRead) (modes : MarkMode)
   mark-lines : (origin : Origin) → IsMarkText (bytes_after_mark numbers origin)
   mark-lines origin = search (rules, mark_end-at, mark-is_line, name-at)
 
-  macros-alone : MacrosAreWhole source → AllByRecursion (IsAlone source.lines [] [] no-text) (all_macro_tokens source.lines)
+  macros-alone : MacrosAreReadAlone source → AllByRecursion (IsAlone source.lines [] [] no-text) (all_macro_tokens source.lines)
   macros-alone whole = both (AreTexts (texts_of source.lines)) _ _ (macros-texts source.lines feeds.lines) whole
 
-  macros-line : MacrosAreWhole source → IsWholeLine numbers.macros
+  macros-line : MacrosAreReadAlone source → IsWholeLine numbers.macros
   macros-line whole =
       let all =
       macros-whole source.lines [] [] no-text
       (blocks 0 (all_tokens source.lines)) (macros-alone whole) in
       search (rules, line-of, macros-keep)
 
-  abbrev mark_text : Origin → List ℕ
-  mark_text origin = bytes_after_mark numbers origin
-
   abbrev texts_by : (List ℕ → List Symbol) → Title → List (List ℕ)
   texts_by used node =
-      flat_map (piece_texts numbers table used (texts_of source.lines)) (tokens_of_node source node)
+      map
+      (passage_text (texts_of source.lines) (λ occurrence. used_bytes numbers table used occurrence) numbers.macros
+      (λ origin. bytes_after_mark numbers origin))
+      (row_of_node source node)
 
   -- what is written for the names that a node uses is whole
   abbrev AreWholeNames : (List ℕ → List Symbol) → Title → Type 0
@@ -115,12 +94,12 @@ module _ (pieces : AreWrittenByPieces) (source : SourceRead) (modes : MarkMode)
       AllByRecursion (λ name. IsWholeLine (expansion_bytes numbers (used name))) (shape_names (all_shapes node))
 
   node-by-parts : (used : List ℕ → List Symbol) (node : Title)
-      → AllByRecursion (IsWholePiece source) (tokens_of_node source node) → AreWholeNames used node →
-      (tail : List ℕ) (us : List (List ℕ)) → IsReadInParts mark_text us tail →
-      IsReadInParts mark_text (texts_by used node ++ us)
+      → AllByRecursion (IsWholePassage source) (row_of_node source node) → AreWholeNames used node →
+      (tail : List ℕ) (us : List (List ℕ)) → IsReadAsTexts us tail →
+      IsReadAsTexts (texts_by used node ++ us)
       (expansion_bytes numbers (pieces_flat used node 0 (all_shapes node)) ++ tail)
   node-by-parts used node whole names tail us read =
-      subst (λ bytes. IsReadInParts mark_text (texts_by used node ++ us) (bytes ++ tail))
+      subst (λ bytes. IsReadAsTexts (texts_by used node ++ us) (bytes ++ tail))
       (sym (written used node))
       (node-read source numbers table used mark-lines macros-line node tail us read
       (blocks 0 (all_tokens source.lines)) (whole, names))
@@ -148,27 +127,27 @@ module _ (pieces : AreWrittenByPieces) (source : SourceRead) (modes : MarkMode)
       let used : List ℕ → List Symbol = λ name. flat fuel all_shapes (Named name) in
       let bytes : List ℕ = expansion_bytes numbers (flat (suc fuel) all_shapes (Named name)) in
       let read = node-by-parts used (Named name) (reaches (Named name) here)
-      (names-by used (Named name) reaches (name-line fuel)) [] [] (nothing mark_text) in
+      (names-by used (Named name) reaches (name-line fuel)) [] [] no-text in
       grind (arith, nat_tests, append-nil bytes, node-keeps used)
 
   node-then : (node : Title) → IsExpandableNode all_shapes node → ReachesWholePieces source node
-      → (tail : List ℕ) (us : List (List ℕ)) → IsReadInParts mark_text us tail →
-      IsReadInParts mark_text (texts_of_node source modes node ++ us)
+      → (tail : List ℕ) (us : List (List ℕ)) → IsReadAsTexts us tail →
+      IsReadAsTexts (texts_of_node source modes node ++ us)
       (expansion_bytes numbers (flat_of all_shapes node) ++ tail)
   node-then node expandable reaches tail us read =
       let used : List ℕ → List Symbol = λ name. flat_of all_shapes (Named name) in
-      subst (λ symbols. IsReadInParts mark_text (texts_by used node ++ us)
+      subst (λ symbols. IsReadAsTexts (texts_by used node ++ us)
       (expansion_bytes numbers symbols ++ tail))
       (sym (flat_by_uses levels all_shapes node expandable.shallow))
       (node-by-parts used node (reaches node here) (names-by used node reaches (name-line levels)) tail us read)
 
   pub node-is_read : NodesAreReadByParts source modes
   node-is_read node expandable reaches =
-      subst (λ us. IsReadInParts mark_text us (expansion_bytes numbers (flat_of all_shapes node)))
+      subst (λ us. IsReadAsTexts us (expansion_bytes numbers (flat_of all_shapes node)))
       (append-nil (texts_of_node source modes node))
-      (subst (IsReadInParts mark_text (texts_of_node source modes node ++ []))
+      (subst (IsReadAsTexts (texts_of_node source modes node ++ []))
       (append-nil (expansion_bytes numbers (flat_of all_shapes node)))
-      (node-then node expandable reaches [] [] (nothing mark_text)))
+      (node-then node expandable reaches [] [] no-text))
 
   abbrev bytes_in_file : Bool → Title → List ℕ
   bytes_in_file has_piece node =
@@ -178,22 +157,17 @@ module _ (pieces : AreWrittenByPieces) (source : SourceRead) (modes : MarkMode)
   IsReady node = IsExpandableNode all_shapes node × ReachesWholePieces source node
 
   node-in-file : (has_piece : Bool) (node : Title) → (has_piece ≡ true → IsReady node) →
-      IsReadInParts mark_text (if has_piece then texts_of_node source modes node else [])
-      (bytes_in_file has_piece node)
-  node-in-file false node ready = nothing mark_text
+      IsReadAsTexts (if has_piece then texts_of_node source modes node else []) (bytes_in_file has_piece node)
+  node-in-file false node ready = no-text
   node-in-file true node ready =
-      subst (λ us. IsReadInParts mark_text us (bytes_in_file true node))
+      subst (λ us. IsReadAsTexts us (bytes_in_file true node))
       (append-nil (texts_of_node source modes node))
       (node-then node (ready refl).0 (ready refl).1 (line_feed ∷ []) []
-      (without-text mark_text (line_feed ∷ []) [] [] (feed-front []) (nothing mark_text)))
+      (with-nothing [] (line_feed ∷ []) [] (feed-front []) no-text))
 
   pub file-is_read : FilesAreReadByParts source modes
   file-is_read false has_piece node whole ready = node-in-file has_piece node ready
   file-is_read true has_piece node whole ready =
-      let rest : List ℕ = bytes_in_file has_piece node in
-      let read = node-in-file has_piece node ready in
-      after-texts mark_text
-      (flat_map (macro_texts (texts_of source.lines)) (all_macro_tokens source.lines))
-      (if has_piece then texts_of_node source modes node else []) rest (numbers.macros ++ rest) read
-      (macros-whole source.lines rest (map (passage_text mark_text) read.row) read.read
-      (blocks 0 (all_tokens source.lines)) (macros-alone (whole refl)))
+      macros-whole source.lines (bytes_in_file has_piece node) (if has_piece then texts_of_node source modes node else [])
+      (node-in-file has_piece node ready)
+      (blocks 0 (all_tokens source.lines)) (macros-alone (whole refl))

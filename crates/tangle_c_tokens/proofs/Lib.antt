@@ -1,10 +1,10 @@
 pub mod kind_lemmas
+pub mod ListLemmas
 pub mod TextLemmas
 pub mod GroupLemmas
 pub mod EdgeLemmas
 pub mod MacroLemmas
 pub mod WebLemmas
-pub mod RowLemmas
 pub mod PieceLemmas
 pub mod WorkedMacros
 pub mod WorkedPieces

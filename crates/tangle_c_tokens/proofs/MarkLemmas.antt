@@ -19,7 +19,7 @@ use Rattle.c_tokens.proofs.TouchingLemmas.{one-element, plain-element}
 use Rattle.tangle_files.specs.declared.marks.MarkMode.{MarkMode}
 use Rattle.tangle_files.specs.declared.marks.MarkMode.TheVariants.{Full, Bare}
 use Rattle.tangle_expansion.specs.Numbers.{escaped, mark_end, mark_bytes}
-use Rattle.tangle_c_tokens.specs.LineFeeds.{HasNoLineFeed}
+use Rattle.tangle_c_tokens.specs.LineFeeds.{TextHasNoLineFeed}
 use Rattle.tangle_c_tokens.proofs.FeedLemmas.{KeepsFeed, keeps-last}
 use Rattle.tangle_c_tokens.proofs.TextLemmas.{space-between}
 use Rattle.std.proofs.lemmas.Bool.Decides.{nat_tests}
@@ -60,7 +60,7 @@ string-whole : (t : List ℕ) → ends_quoted double_quote t ≡ true → IsInLi
     → is_whole (double_quote ∷ t) ≡ true
 string-whole t ends line = search (rules, spliced-line, one-element, plain-element)
 
-name-line : (name more : List ℕ) → HasNoLineFeed name → IsInLine more
+name-line : (name more : List ℕ) → TextHasNoLineFeed name → IsInLine more
     → IsInLine (escaped name ++ more)
 name-line [] more none line = line
 name-line (b ∷ name) more none line =
@@ -71,7 +71,7 @@ name-line (b ∷ name) more none line =
     by true rest = cc rest
     by false rest = cc rest
 
-name-quoted : (name : List ℕ) → HasNoLineFeed name
+name-quoted : (name : List ℕ) → TextHasNoLineFeed name
     → ends_quoted double_quote (escaped name ++ double_quote ∷ []) ≡ true
 name-quoted [] none = refl
 name-quoted (b ∷ name) none =
@@ -98,7 +98,7 @@ directive-whole : is_whole (codes "#line") ≡ true
 unfolding is_element is_token is_punctuator
 directive-whole = refl
 
-mark-whole : (n : ℕ) (name : List ℕ) → HasNoLineFeed name → is_whole (mark_line n name) ≡ true
+mark-whole : (n : ℕ) (name : List ℕ) → TextHasNoLineFeed name → is_whole (mark_line n name) ≡ true
 mark-whole n name none =
     let first = space-between (codes "#line") (decimal n ++ space ∷ (double_quote ∷ quoted name)) directive-whole in
     search (rules, space-between, decimal-digits, spliced-line, digits-line, digits-finished, string-whole, name-quoted, name-line)
@@ -110,7 +110,7 @@ mark-keeps n name =
     (append_assoc (decimal n) (space ∷ double_quote ∷ escaped name) (double_quote ∷ [])))
     (keeps-last (codes "#line " ++ (decimal n ++ space ∷ double_quote ∷ escaped name)) [] double_quote refl)
 
-pub mark-is_line : (marks : MarkMode) (n : ℕ) (name : List ℕ) → HasNoLineFeed name →
+pub mark-is_line : (marks : MarkMode) (n : ℕ) (name : List ℕ) → TextHasNoLineFeed name →
     IsMarkText (drop 1 (mark_bytes marks (mark_end name) n))
 mark-is_line Bare n name none = inl refl
 mark-is_line Full n name none =
@@ -126,8 +126,8 @@ mark_end-at [] k = refl
 mark_end-at (name ∷ names) zero = refl
 mark_end-at (name ∷ names) (suc k) = mark_end-at names k
 
-pub name-at : (names : List (List ℕ)) (k : ℕ) → AllByRecursion HasNoLineFeed names
-    → HasNoLineFeed (get_or names k [])
+pub name-at : (names : List (List ℕ)) (k : ℕ) → AllByRecursion TextHasNoLineFeed names
+    → TextHasNoLineFeed (get_or names k [])
 name-at [] k all = refl
 name-at (name ∷ names) zero all = all.0
 name-at (name ∷ names) (suc k) all = name-at names k all.1

@@ -1,4 +1,4 @@
--- The bytes of the pieces of a node are read as their parts.
+-- The bytes of the pieces of a node are read as its row.
 use Rattle.tangle_c_tokens.proofs.TextLemmas.{apart-from}
 use Rattle.tangle_c_tokens.proofs.TextLemmas.{keep-other}
 use Rattle.tangle_c_tokens.proofs.TextLemmas.{slash-border}
@@ -6,7 +6,8 @@ use Rattle.std.proofs.Common.{rules}
 use Rattle.tangle_c_tokens.proofs.TextLemmas.{IsMarkText, IsWholeLine}
 use Rattle.std.proofs.Common.{◌≡◌, ℕ, Bool, true, false, if◌then◌else◌, List, [], ◌∷◌}
 use Rattle.std.proofs.Common.{◌++◌, map, drop, flat_map}
-use Rattle.std.proofs.Common.{append_assoc, refl, sym, subst, cond}
+use Rattle.std.proofs.Common.{append_assoc, Option, refl, sym, subst, cond, ap, ◌∙◌}
+use Rattle.std.proofs.lemmas.List.{map-append}
 use Rattle.std.specs.Prelude.{filter}
 use Rattle.std.specs.List.{AllByRecursion}
 use Rattle.c_tokens.specs.Bytes.{line_feed}
@@ -28,14 +29,15 @@ use Rattle.tangle_expansion.specs.Numbers.{mark_bytes_at}
 use Rattle.tangle_expansion.specs.Numbers.{opening_bytes, closing_bytes}
 use Rattle.tangle_expansion.specs.PieceBytes.{bytes_after_mark, used_bytes}
 use Rattle.tangle_expansion.specs.PieceBytes.{items_bytes, piece_bytes}
-use Rattle.tangle_c_tokens.specs.Pieces.{parts, IsReadInParts, IsWholePart}
-use Rattle.tangle_c_tokens.specs.Files.{IsWholePiece, MacrosAreWhole, node_tokens, piece_texts}
-use Rattle.tangle_c_tokens.proofs.TextLemmas.{feed-front}
+use Rattle.tangle_c_tokens.specs.Reading.{IsReadAsTexts}
+use Rattle.tangle_c_tokens.specs.Pieces.{Passage, mark_place, passage_text, row_after, row_of_piece}
+use Rattle.tangle_c_tokens.specs.Files.{IsWholePassage, MacrosAreReadAlone, node_row}
+use Rattle.tangle_c_tokens.proofs.TextLemmas.{feed-front, follows-same, with-mark, with-nothing}
 use Rattle.tangle_c_tokens.proofs.CommentLemmas.{after-opening, after-closing}
-use Rattle.tangle_c_tokens.proofs.RowLemmas.{with-mark, without-text}
 use Rattle.tangle_c_tokens.proofs.PieceLemmas.{piece-by-parts}
-use Rattle.tangle_c_tokens.proofs.PartLemmas.{parts-whole, uses-whole}
-use Rattle.tangle_c_tokens.proofs.UseLemmas.{IsWholeName, all-back, all-front, names_in, part-uses-whole}
+use Rattle.tangle_c_tokens.proofs.PartLemmas.{IsWholeText, row-whole, uses-whole}
+use Rattle.tangle_c_tokens.proofs.UseLemmas.{IsWholeName, names_in, part-uses-whole}
+use Rattle.tangle_c_tokens.proofs.ListLemmas.{all-back, all-front}
 use Rattle.tangle_c_tokens.proofs.FeedLemmas.{KeepsFeed, keeps-more, closing-keeps}
 
 line_feed_first : (marks : MarkMode) (ending : List ℕ) (line : ℕ)
@@ -48,7 +50,7 @@ grouped o m i c rest = simp append_assoc
 module _ (source : SourceRead) (numbers : NumbersRead) (table : TableRead)
     (used : List ℕ → List Symbol)
     (marks : (origin : Origin) → IsMarkText (bytes_after_mark numbers origin))
-    (macros_whole : MacrosAreWhole source → IsWholeLine numbers.macros) where
+    (macros_whole : MacrosAreReadAlone source → IsWholeLine numbers.macros) where
   abbrev lines : List SourceLine
   lines = source.lines
 
@@ -58,39 +60,65 @@ module _ (source : SourceRead) (numbers : NumbersRead) (table : TableRead)
   abbrev pub bytes_of : PieceRead → List ℕ
   bytes_of piece = piece_bytes numbers table used (texts_of lines) piece
 
-  abbrev pub texts_in : List Token → List (List ℕ)
-  texts_in es = piece_texts numbers table used (texts_of lines) es
+  abbrev written : ℕ → List ℕ
+  written occurrence = used_bytes numbers table used occurrence
+
+  abbrev pub texts_in : List Passage → List (List ℕ)
+  texts_in row = map (passage_text (texts_of lines) written numbers.macros mark) row
+
+  abbrev AreWhole : List Passage → Type 0
+  AreWhole row = AllByRecursion (IsWholePassage source) row
 
   abbrev AreWholeNames : List Item → Type 0
   AreWholeNames items = AllByRecursion (IsWholeName lines numbers table used) (names_in lines numbers table used items)
 
-  -- the parts of a piece with its uses
-  parts-of : (line : ℕ) (es : List Token) → IsWholePiece source (part_tokens (texts_of lines) es)
-      → AreWholeNames (part_items lines line es)
-      → AllByRecursion (IsWholePart (texts_of lines) (used_bytes numbers table used) numbers.macros)
-      (parts (texts_of lines) (part_tokens (texts_of lines) es))
-  parts-of line es whole names =
-      let tokens = part_tokens (texts_of lines) es in
-      let written = used_bytes numbers table used in
-      parts-whole (texts_of lines) written numbers.macros [] tokens refl
-      (uses-whole (texts_of lines) written numbers.macros tokens
-      (part-uses-whole lines numbers table used line es names)
-      (λ is. macros_whole (whole.macros is)))
-      whole.groups
+  -- the piece of a C part
+  abbrev part_piece : ℕ → Option ℕ → ℕ → List Token → PieceRead
+  part_piece section occurrence line es = record {
+    section = section;
+    origin = origin_at lines line;
+    occurrence = occurrence;
+    items = part_items lines line es;
+  }
+
+  -- the row of its tokens
+  abbrev part_row : ℕ → List Token → List Passage
+  part_row line es =
+      row_after (texts_of lines) [] (flat_map mark_place (part_items lines line es)) (part_tokens (texts_of lines) es)
+
+  -- the row with what is written for uses
+  row-of : (line : ℕ) (es : List Token) → AreWhole (part_row line es) → AreWholeNames (part_items lines line es)
+      → AllByRecursion (IsWholeText (texts_of lines) written numbers.macros) (part_row line es)
+  row-of line es whole names =
+      row-whole source written numbers.macros macros_whole [] (flat_map mark_place (part_items lines line es))
+      (part_tokens (texts_of lines) es) refl
+      (uses-whole source written numbers.macros macros_whole (part_tokens (texts_of lines) es)
+      (part-uses-whole lines numbers table used line es names))
+      whole
 
   -- a piece, and what is written after it
-  piece-read : (section line : ℕ) (origin : Origin) (es : List Token) (rest : List ℕ)
-      (ts : List (List ℕ)) →
-      IsWholePiece source (part_tokens (texts_of lines) es) → AreWholeNames (part_items lines line es)
-      → IsReadInParts mark ts rest →
-      IsReadInParts mark (texts_in (part_tokens (texts_of lines) es) ++ ts)
-      ((opening_bytes section ++ mark_bytes_at numbers origin
-      ++ items_bytes numbers table used (texts_of lines)
-      (part_items lines line es) ++ closing_bytes section) ++ rest)
-  piece-read section line origin es rest ts whole names read =
+  piece-read : (section line : ℕ) (occurrence : Option ℕ) (es : List Token) (rest : List ℕ) (ts : List (List ℕ)) →
+      let piece : PieceRead = part_piece section occurrence line es in
+      let row : List Passage = row_of_piece (texts_of lines) piece (part_tokens (texts_of lines) es) in
+      AreWhole row → AreWholeNames piece.items → IsReadAsTexts ts rest
+      → IsReadAsTexts (texts_in row ++ ts) (bytes_of piece ++ rest)
+  piece-read section line occurrence es rest ts whole names read =
+      let origin = origin_at lines line in
+      let opening = opening_bytes section in
+      let items = items_bytes numbers table used (texts_of lines) (part_items lines line es) in
       let tail = closing_bytes section ++ rest in
-      let marked = with-mark mark origin ((items_bytes numbers table used (texts_of lines) (part_items lines line es)) ++ tail) (texts_in (part_tokens (texts_of lines) es) ++ ts) (marks origin) (piece-by-parts lines (λ occurrence. used_bytes numbers table used occurrence) mark numbers.macros marks tail ts (without-text mark tail rest ts (after-closing section rest) read) ((λ a whole ends. (search (rules, apart-from, keep-other, slash-border)))) line es (parts-of line es whole names)) in
-      search (rules, grouped, line_feed_first, without-text, after-opening, feed-front)
+      let later = mark origin ++ (items ++ tail) in
+      let us = texts_in (part_row line es) ++ ts in
+      with-nothing (line_feed ∷ later) (bytes_of (part_piece section occurrence line es) ++ rest) (mark origin ∷ us)
+      (follows-same [] (line_feed ∷ later) _ (opening ++ line_feed ∷ later)
+      (grouped opening (mark_bytes_at numbers origin) items (closing_bytes section) rest
+      ∙ ap (λ m. opening ++ (m ++ (items ++ tail))) (line_feed_first numbers.marks _ origin.line))
+      (after-opening section (line_feed ∷ later)))
+      (with-nothing later (line_feed ∷ later) (mark origin ∷ us) (feed-front later)
+      (with-mark (mark origin) (items ++ tail) us (marks origin)
+      (piece-by-parts lines written mark numbers.macros marks tail ts
+      (with-nothing rest tail ts (after-closing section rest) read)
+      (λ a whole ends. (search (rules, apart-from, keep-other, slash-border))) line es (row-of line es whole.1 names))))
 
   -- the bytes of pieces do not end in a backslash
   pub pieces-keep : (pieces : List PieceRead) → KeepsFeed (flat_map bytes_of pieces)
@@ -100,27 +128,27 @@ module _ (source : SourceRead) (numbers : NumbersRead) (table : TableRead)
 
   -- `tail` is written after the node, and read as the texts `us`.
   module _ (node : Title) (tail : List ℕ) (us : List (List ℕ))
-      (tail_read : IsReadInParts mark us tail) where
+      (tail_read : IsReadAsTexts us tail) where
     abbrev pub node_bytes : List PieceRead → List ℕ
     node_bytes pieces = flat_map bytes_of (filter (is_piece_of table node) pieces) ++ tail
 
-    abbrev pub texts_then : List PieceRead → List (List Token) → List (List ℕ)
-    texts_then pieces tokens = flat_map texts_in (node_tokens table node pieces tokens) ++ us
+    abbrev pub row_in : List PieceRead → List (List Token) → List Passage
+    row_in pieces tokens = node_row (texts_of lines) table node pieces tokens
 
     -- the pieces of the node among these are whole, and so is what is written for their uses
     abbrev pub AreReady : List PieceRead → List (List Token) → Type 0
     AreReady pieces tokens =
-        AllByRecursion (IsWholePiece source) (node_tokens table node pieces tokens)
+        AreWhole (row_in pieces tokens)
         × AllByRecursion (IsWholeName lines numbers table used)
         (shape_names (shape_of (texts_of lines) table (filter (is_piece_of table node) pieces)))
 
+    abbrev pub IsRead : List PieceRead → List (List Token) → Type 0
+    IsRead pieces tokens = AreReady pieces tokens
+        → IsReadAsTexts (texts_in (row_in pieces tokens) ++ us) (node_bytes pieces)
+
     pub node-read : (bs : List Block) →
-        AreReady (flat_map (piece_of lines) bs)
-        (flat_map (λ b. map (λ p. part_tokens (texts_of lines) b.tokens) (piece_of lines b)) bs) →
-        IsReadInParts mark
-        (texts_then (flat_map (piece_of lines) bs)
-        (flat_map (λ b. map (λ p. part_tokens (texts_of lines) b.tokens) (piece_of lines b)) bs))
-        (node_bytes (flat_map (piece_of lines) bs))
+        IsRead (flat_map (piece_of lines) bs)
+        (flat_map (λ b. map (λ p. part_tokens (texts_of lines) b.tokens) (piece_of lines b)) bs)
     node-read [] ready = tail_read
     node-read (b ∷ bs) ready = by b.kind (node-read bs) ready
       where
@@ -131,54 +159,41 @@ module _ (source : SourceRead) (numbers : NumbersRead) (table : TableRead)
         each = flat_map
             (λ b. map (λ p. part_tokens (texts_of lines) b.tokens) (piece_of lines b)) bs
 
-        ts : List (List ℕ)
-        ts = flat_map texts_in (node_tokens table node all each)
-
-        later : List ℕ
-        later = flat_map bytes_of (filter (is_piece_of table node) all)
-
         es : List Token
         es = part_tokens (texts_of lines) b.tokens
 
-        chosen : (line : ℕ) (piece : PieceRead) (is : Bool)
-            → piece ≡ record { section = b.section; origin = origin_at lines line; occurrence = piece.occurrence; items = part_items lines line b.tokens }
-            → (AreReady all each → IsReadInParts mark (ts ++ us) (later ++ tail))
-            → AllByRecursion (IsWholePiece source) ((if is then es ∷ [] else []) ++ node_tokens table node all each)
+        chosen : (line : ℕ) (occurrence : Option ℕ) (is : Bool)
+            → let piece : PieceRead = part_piece b.section occurrence line b.tokens in
+            IsRead all each
+            → AreWhole ((if is then row_of_piece (texts_of lines) piece es else []) ++ row_in all each)
             → AllByRecursion (IsWholeName lines numbers table used)
             (shape_names (shape_of (texts_of lines) table
             (cond is (piece ∷ filter (is_piece_of table node) all) (filter (is_piece_of table node) all))))
-            → IsReadInParts mark (flat_map texts_in ((if is then es ∷ [] else []) ++ node_tokens table node all each) ++ us)
+            → IsReadAsTexts
+            (texts_in ((if is then row_of_piece (texts_of lines) piece es else []) ++ row_in all each) ++ us)
             (flat_map bytes_of
             (cond is (piece ∷ filter (is_piece_of table node) all)
             (filter (is_piece_of table node) all)) ++ tail)
-        chosen line piece true same next whole names =
+        chosen line occurrence true next whole names =
+            let piece : PieceRead = part_piece b.section occurrence line b.tokens in
+            let row = row_of_piece (texts_of lines) piece es in
             let own = names_in lines numbers table used piece.items in
             let others = shape_names (shape_of (texts_of lines) table (filter (is_piece_of table node) all)) in
             let IsName = IsWholeName lines numbers table used in
-            subst (IsReadInParts mark ((texts_in es ++ ts) ++ us))
-            (sym (append_assoc (bytes_of piece) later tail))
-            (subst (λ ws. IsReadInParts mark ws (bytes_of piece ++ (later ++ tail)))
-            (sym (append_assoc (texts_in es) ts us))
-            (subst (λ (p : PieceRead). IsReadInParts mark (texts_in es ++ (ts ++ us)) (bytes_of p ++ (later ++ tail))) (sym same)
-            (piece-read b.section line (origin_at lines line) b.tokens (later ++ tail) (ts ++ us) whole.0
-            (subst (λ (p : PieceRead). AreWholeNames p.items) same (all-front IsName own others names))
-            (next (whole.1, all-back IsName own others names)))))
-        chosen line piece false same next whole names = next (whole, names)
+            let ts = texts_in (row_in all each) in
+            let later = flat_map bytes_of (filter (is_piece_of table node) all) in
+            subst (λ us. IsReadAsTexts us ((bytes_of piece ++ later) ++ tail))
+            (sym (ap (λ ws. ws ++ us) (map-append (passage_text (texts_of lines) written numbers.macros mark) row (row_in all each)) ∙ append_assoc (texts_in row) ts us))
+            (subst (IsReadAsTexts (texts_in row ++ (ts ++ us))) (sym (append_assoc (bytes_of piece) later tail))
+            (piece-read b.section line occurrence b.tokens (later ++ tail) (ts ++ us)
+            (all-front (IsWholePassage source) row (row_in all each) whole) (all-front IsName own others names)
+            (next (all-back (IsWholePassage source) row (row_in all each) whole, all-back IsName own others names))))
+        chosen line occurrence false next whole names = next (whole, names)
 
-        by : (kind : BlockKind)
-            → (AreReady all each → IsReadInParts mark (ts ++ us) (later ++ tail)) →
-            AreReady (kind_piece lines kind b ++ all)
-            (map (λ p. part_tokens (texts_of lines) b.tokens) (kind_piece lines kind b) ++ each) →
-            IsReadInParts mark
-            (texts_then (kind_piece lines kind b ++ all)
-            (map (λ p. part_tokens (texts_of lines) b.tokens) (kind_piece lines kind b) ++ each))
-            (node_bytes (kind_piece lines kind b ++ all))
+        by : (kind : BlockKind) → IsRead all each →
+            IsRead (kind_piece lines kind b ++ all)
+            (map (λ p. part_tokens (texts_of lines) b.tokens) (kind_piece lines kind b) ++ each)
         by (OfMacro line) next ready = next ready
         by (OfPiece occurrence line) next ready =
-            let piece : PieceRead = record {
-              section = b.section;
-              origin = origin_at lines line;
-              occurrence = occurrence;
-              items = part_items lines line b.tokens;
-            } in
-            chosen line piece (is_piece_of table node piece) refl next ready.0 ready.1
+            chosen line occurrence (is_piece_of table node (part_piece b.section occurrence line b.tokens)) next ready.0
+            ready.1

@@ -252,5 +252,9 @@ pub with-nothing : (rest bytes : List ℕ) (ts : List (List ℕ)) → Follows []
     → IsReadAsTexts ts rest → IsReadAsTexts ts bytes
 with-nothing rest bytes ts follows read = grind (arith, nat_tests)
 
+pub with-mark : (m rest : List ℕ) (ts : List (List ℕ)) → IsMarkText m → IsReadAsTexts ts rest
+    → IsReadAsTexts (m ∷ ts) (m ++ rest)
+with-mark m rest ts is read = with-text m rest (m ++ rest) ts (mark-between m rest is) read
+
 pub no-text : IsReadAsTexts [] []
 no-text = record { read = refl; whole = refl }

@@ -26,18 +26,6 @@ use Rattle.tangle_expansion.specs.PieceBytes.{resolved_bytes, used_bytes}
 use Rattle.tangle_c_tokens.proofs.TextLemmas.{IsWholeLine}
 use Rattle.tangle_c_tokens.proofs.PartLemmas.{token_uses}
 
-pub all-front : {X : Type 0} (P : X → Type 0) (xs ys : List X) → AllByRecursion P (xs ++ ys) → AllByRecursion P xs
-all-front P [] ys h = tt
-all-front P (x ∷ xs) ys h = (h.0, all-front P xs ys h.1)
-
-pub all-back : {X : Type 0} (P : X → Type 0) (xs ys : List X) → AllByRecursion P (xs ++ ys) → AllByRecursion P ys
-all-back P [] ys h = h
-all-back P (x ∷ xs) ys h = all-back P xs ys h.1
-
-pub each : {X : Type 0} (P : X → Type 0) (xs : List X) → ((x : X) → Contains xs x → P x) → AllByRecursion P xs
-each P [] f = tt
-each P (x ∷ xs) f = (f x (0, omega arith, refl), each P xs (λ y c. f y (suc c.0, omega (arith, c.1), c.2)))
-
 module _ (lines : List SourceLine) where
   of-items : (before : Option Token) (at : TurnSoFar) (counted : Origin) (es : List Token)
       → flat_map item_uses (items_by_origin lines before at counted es) ≡ flat_map token_uses es

@@ -1,15 +1,15 @@
--- A web whose program reaches whole pieces and not one that is open, and what C reads otherwise: a slash at the end of a piece,
+-- A web whose program reaches whole pieces, and not one that is open, and what C reads otherwise: a slash at the end of a piece,
 -- and a name with a line feed.
 use Rattle.std.proofs.Common.{arith}
-use Rattle.std.proofs.Common.{◌≡◌, ℕ, ◌+◌, false, List, [], ◌∷◌, ◌++◌, codes, drop, refl, take}
-use Rattle.std.specs.List.{AllByRecursion}
+use Rattle.std.proofs.Common.{◌≡◌, ℕ, ◌+◌, false, List, [], ◌∷◌, ◌++◌, codes, refl, subst, sym}
+use Rattle.std.specs.List.{AllByRecursion, Contains}
+use Rattle.digraph.specs.Reach.{Reaches, here, on}
 use Rattle.c_tokens.specs.Grammar.{is_element, is_token, is_punctuator}
 use Rattle.c_tokens.specs.Reading.{tokens}
 use Rattle.tangle_lines.specs.Reading.{SourceLine, SourceRead}
 use Rattle.tangle_lexer.specs.Steps.{lexeme, occurrences_from, tokens_from}
-use Rattle.tangle_scan.specs.ReadAsMeant.{all_piece_tokens}
-use Rattle.tangle_bodies.specs.Shapes.{Named, Program, shape_names}
-use Rattle.tangle_c_tokens.specs.Files.{IsWholePiece, MacrosAreWhole, shapes_in}
+use Rattle.tangle_bodies.specs.Shapes.{Named, Program, Title, Uses, shape_names}
+use Rattle.tangle_c_tokens.specs.Files.{IsWholePassage, MacrosAreReadAlone, ReachesWholePieces, row_of_node, shapes_in}
 use Rattle.std.proofs.lemmas.Bool.Decides.{nat_tests}
 
 abbrev lines_from : ℕ → List (List ℕ) → List SourceLine
@@ -29,14 +29,20 @@ web =
 abbrev source : SourceRead
 source = record { files = (codes "a.w", web) ∷ []; lines = lines_from 1 web; faults = [] }
 
-macros_alone : MacrosAreWhole source
+macros_alone : MacrosAreReadAlone source
 unfolding lexeme tokens_from is_element is_token is_punctuator
 macros_alone = grind (arith, nat_tests)
 
--- the pieces of the program and of the name that it uses
-pieces_whole : AllByRecursion (IsWholePiece source) (take 2 (all_piece_tokens source.lines))
-unfolding lexeme tokens_from is_element is_token is_punctuator
-pieces_whole = grind (arith, nat_tests, macros_alone)
+abbrev IsWhole : Title → Type 0
+IsWhole node = AllByRecursion (IsWholePassage source) (row_of_node source node)
+
+program_whole : IsWhole Program
+unfolding lexeme tokens_from occurrences_from is_element is_token is_punctuator
+program_whole = grind (arith, nat_tests, macros_alone)
+
+name_whole : IsWhole (Named (codes "Use"))
+unfolding lexeme tokens_from occurrences_from is_element is_token is_punctuator
+name_whole = grind (arith, nat_tests, macros_alone)
 
 -- the program reaches no other name
 names_used : (shape_names (shapes_in source Program) ≡ codes "Use" ∷ [])
@@ -44,9 +50,23 @@ names_used : (shape_names (shapes_in source Program) ≡ codes "Use" ∷ [])
 unfolding lexeme tokens_from occurrences_from
 names_used = (refl, refl)
 
+name_reaches : ReachesWholePieces source (Named (codes "Use"))
+name_reaches other here = name_whole
+name_reaches other (on {b = Program} uses onward) = absurd uses
+name_reaches other (on {b = Named name} uses onward) =
+    let none : Contains [] name = subst (λ names. Contains names name) names_used.1 uses in absurd (omega (arith, none.1))
+
+reaches : ReachesWholePieces source Program
+reaches other here = program_whole
+reaches other (on {b = Program} uses onward) = absurd uses
+reaches other (on {b = Named name} uses onward) =
+    let one : Contains (codes "Use" ∷ []) name = subst (λ names. Contains names name) names_used.0 uses in
+    let same : codes "Use" ≡ name = grind (arith, one.1, one.2) in
+    name_reaches other (subst (λ (name : List ℕ). Reaches (Uses (shapes_in source)) (Named name) other) (sym same) onward)
+
 -- the third piece is not whole
-piece_open : AllByRecursion (IsWholePiece source) (drop 2 (all_piece_tokens source.lines)) → ⊥
-unfolding lexeme tokens_from is_element is_token is_punctuator
+piece_open : IsWhole (Named (codes "Other")) → ⊥
+unfolding lexeme tokens_from occurrences_from is_element is_token is_punctuator
 piece_open h = grind (arith, nat_tests)
 
 -- a slash at the end of a piece, directly before the closing mark

@@ -1,11 +1,12 @@
--- Pieces of which C reads the tokens of the parts, and one for each premise that reads otherwise
+-- Pieces of which C reads the tokens of the row, and one for each premise that reads otherwise
 -- without it.
-use Rattle.std.proofs.Common.{◌≡◌, ℕ, true, false, List, [], ◌∷◌, map, flat_map, codes, refl}
+use Rattle.std.proofs.Common.{◌≡◌, ℕ, ◌+◌, true, false, List, [], ◌∷◌, ◌++◌, map, flat_map, codes, refl}
 use Prim.Native.String.{String}
 use Rattle.c_tokens.specs.Grammar.{is_element, is_token, is_punctuator}
 use Rattle.c_tokens.specs.Reading.{tokens}
 use Rattle.c_tokens.specs.Borders.{is_whole, keep_lines}
 use Rattle.c_tokens.specs.Bytes.{line_feed}
+use Rattle.tangle_lines.specs.declared.origin.Origin.{Origin}
 use Rattle.tangle_lines.specs.Reading.{SourceLine}
 use Rattle.tangle_lexer.specs.declared.tokens.Token.{Token}
 use Rattle.tangle_lexer.specs.declared.tokens.Token.TheVariants as token
@@ -13,7 +14,7 @@ use Rattle.tangle_lexer.specs.declared.tokens.SpanKind.{SpanKind}
 use Rattle.tangle_lexer.specs.declared.tokens.SpanKind.TheVariants as span_kind
 use Rattle.tangle_scan.specs.Rules.{texts_of, part_tokens, part_items}
 use Rattle.tangle_scan.specs.ItemBytes.{piece_item_bytes}
-use Rattle.tangle_c_tokens.specs.Pieces.{parts, part_text}
+use Rattle.tangle_c_tokens.specs.Pieces.{mark_place, passage_text, row_after}
 use Rattle.tangle_c_tokens.proofs.WorkedMacros.{words}
 
 -- The items of the examples. The second line has another origin than a compiler counts, so a mark
@@ -56,26 +57,29 @@ line_end = token.LineEnd 0
 abbrev use_of_name : Token
 use_of_name = token.UseOf 0 0
 
--- the bytes of a piece and the texts of its parts, if these are written for uses and for marks
--- after their first line feed
-module _ (used mark : List ℕ) where
+-- the bytes of a piece and the texts of its row, if these are written for uses and for marks after
+-- their first line feed
+module _ (used : List ℕ) (mark : Origin → List ℕ) where
   abbrev bytes : List Token → List ℕ
   bytes es =
-      flat_map (piece_item_bytes (texts_of lines) (λ occurrence. used) (λ origin. mark) [])
-      (part_items lines 0 es)
+      flat_map (piece_item_bytes (texts_of lines) (λ occurrence. used) mark []) (part_items lines 0 es)
 
   abbrev texts : List Token → List (List ℕ)
   texts es =
-      map (λ part. part_text (texts_of lines) (λ occurrence. used) [] part.items)
-      (parts (texts_of lines) (part_tokens (texts_of lines) es))
+      map (passage_text (texts_of lines) (λ occurrence. used) [] mark)
+      (row_after (texts_of lines) [] (flat_map mark_place (part_items lines 0 es))
+      (part_tokens (texts_of lines) es))
 
-  -- C reads these words of the piece, and these of its parts
+  -- C reads these words of the piece, and these of its row
   abbrev AreRead : List Token → String → String → Type 0
-  AreRead es read of_parts =
-      (tokens (bytes es) ≡ words read) × (flat_map tokens (texts es) ≡ words of_parts)
+  AreRead es read of_row =
+      (tokens (bytes es) ≡ words read) × (flat_map tokens (texts es) ≡ words of_row)
 
-abbrev mark_text : List ℕ
-mark_text = codes "#line 5 \"a.w\"\n"
+abbrev line_mark : Origin → List ℕ
+line_mark origin = codes "#line " ++ (origin.line + 48) ∷ codes " \"a.w\"\n"
+
+abbrev no_mark : Origin → List ℕ
+no_mark origin = []
 
 -- A word over two lines of which the first is continued, a use, and a word after a line end.
 
@@ -83,14 +87,15 @@ abbrev whole : List Token
 whole = els ∷ backslash_sign ∷ token.White ∷ line_end ∷ letter ∷ use_of_name ∷ line_end ∷ name ∷ []
 
 whole_written : bytes
-    (codes "y+z") mark_text whole ≡ codes "els\\\ne y+z\n#line 5 \"a.w\"\n\n#line 5 \"a.w\"\nx"
+    (codes "y+z") line_mark whole ≡ codes "els\\\ne y+z\n#line 1 \"a.w\"\n\n#line 5 \"a.w\"\nx"
 whole_written = refl
 
-whole_parts : texts (codes "y+z") mark_text whole ≡ codes "els\\\ne" ∷ codes "y+z" ∷ codes "x" ∷ []
-whole_parts = refl
+whole_row : texts (codes "y+z") line_mark whole
+    ≡ codes "els\\\ne" ∷ codes "y+z" ∷ codes "#line 1 \"a.w\"\n" ∷ codes "#line 5 \"a.w\"\n" ∷ codes "x" ∷ []
+whole_row = refl
 
-whole_read : AreRead (codes "y+z") mark_text whole
-    "else y + z # line 5 \"a.w\" # line 5 \"a.w\" x" "else y + z x"
+whole_read : AreRead (codes "y+z") line_mark whole
+    "else y + z # line 1 \"a.w\" # line 5 \"a.w\" x" "else y + z # line 1 \"a.w\" # line 5 \"a.w\" x"
 unfolding is_element is_token is_punctuator
 whole_read = (refl, refl)
 
@@ -100,7 +105,7 @@ abbrev comment : List Token
 comment = slash ∷ asterisk ∷ line_end ∷ name ∷ []
 
 comment_read :
-    (tokens (bytes [] [] comment) ≡ []) × (flat_map tokens (texts [] [] comment) ≡ words "x")
+    (tokens (bytes [] no_mark comment) ≡ []) × (flat_map tokens (texts [] no_mark comment) ≡ words "x")
 unfolding is_element is_token is_punctuator
 comment_read = (refl, refl)
 
@@ -113,7 +118,7 @@ comment_refused = refl
 abbrev use_before : List Token
 use_before = use_of_name ∷ name ∷ []
 
-use_before_read : AreRead (codes "y\\") [] use_before "yx" "y \\ x"
+use_before_read : AreRead (codes "y\\") no_mark use_before "yx" "y \\ x"
 unfolding is_element is_token is_punctuator
 use_before_read = (refl, refl)
 

@@ -13,7 +13,7 @@ use Rattle.tangle_scan.specs.Web.{WebRead}
 use Rattle.tangle_c_tokens.specs.Reading.{IsReadAsTexts}
 use Rattle.tangle_c_tokens.specs.Edges.{begins_as, ends_as, number_goes_on_with}
 use Rattle.tangle_c_tokens.specs.Kinds.{item_kind, is_range}
-use Rattle.tangle_c_tokens.specs.LineFeeds.{HaveNoLineFeed}
+use Rattle.tangle_c_tokens.specs.LineFeeds.{SourceLinesHaveNoLineFeed}
 use Rattle.tangle_c_tokens.specs.Groups.{Group, groups, group_text}
 
 module _ (texts : List (List ℕ)) where
@@ -53,6 +53,6 @@ module _ (texts : List (List ℕ)) where
 -- the same of each macro of a web, if no source line has a line feed
 abbrev pub MacrosAreReadByGroups : SourceRead → WebRead → Type 0
 MacrosAreReadByGroups source web =
-    HaveNoLineFeed source.lines
+    SourceLinesHaveNoLineFeed source.lines
     → AllZip (λ items es. IsReadByGroups web.texts es (macro_bytes web.texts items))
     web.macros (all_macro_tokens source.lines)

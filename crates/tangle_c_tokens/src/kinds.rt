@@ -15,8 +15,8 @@ ghost use Rattle.tangle_scan.specs.Rules.{without_faults, may_touch};
 ghost use Rattle.tangle_scan.specs.ReadAsMeant.{all_piece_tokens, all_macro_tokens};
 ghost use Rattle.c_tokens.specs.Touching.{kinds_may_touch};
 ghost use Rattle.tangle_c_tokens.specs.Kinds.{item_kind, AreTexts};
-ghost use Rattle.tangle_c_tokens.specs.LineFeeds.{HasNoLineFeed, HaveNoLineFeed};
-ghost use Rattle.tangle_c_tokens.specs.LineFeeds.{FilesHaveNoLineFeed, HaveNoLineFeeds};
+ghost use Rattle.tangle_c_tokens.specs.LineFeeds.{TextHasNoLineFeed, SourceLinesHaveNoLineFeed};
+ghost use Rattle.tangle_c_tokens.specs.LineFeeds.{FileLinesHaveNoLineFeed, FilesHaveNoLineFeed};
 
 /// The table of what may touch is that of the kinds of texts of C's grammar (`table`). Each word
 /// and each sign of a web is a text of its kind. So is each quoted text, with all its ranges,
@@ -26,11 +26,11 @@ ghost use Rattle.tangle_c_tokens.specs.LineFeeds.{FilesHaveNoLineFeed, HaveNoLin
 pub fn items_are_of_their_kinds()
     ensures table { (texts : List (List ℕ)) (e f : Token)
         → may_touch texts e f ≡ kinds_may_touch (item_kind texts e) (item_kind texts f) }
-    ensures source { (lines : List SourceLine) → HaveNoLineFeed lines
+    ensures source { (lines : List SourceLine) → SourceLinesHaveNoLineFeed lines
         → AreTexts (texts_of lines) (without_faults (all_tokens lines)) }
-    ensures pieces { (lines : List SourceLine) → HaveNoLineFeed lines
+    ensures pieces { (lines : List SourceLine) → SourceLinesHaveNoLineFeed lines
         → AllByRecursion (AreTexts (texts_of lines)) (all_piece_tokens lines) }
-    ensures macros { (lines : List SourceLine) → HaveNoLineFeed lines
+    ensures macros { (lines : List SourceLine) → SourceLinesHaveNoLineFeed lines
         → AllByRecursion (AreTexts (texts_of lines)) (all_macro_tokens lines) }
 {}
 
@@ -38,11 +38,11 @@ pub fn items_are_of_their_kinds()
 /// none of the source has. A file that is added, and an edit that is not refused, bring no line
 /// feed into a name or a line.
 pub fn lines_have_no_line_feeds()
-    ensures cut { (bytes : List ℕ) → AllByRecursion HasNoLineFeed (cut bytes) }
-    ensures source { (files : FileTable) (roles : RolesRead) → FilesHaveNoLineFeed files
-        → HaveNoLineFeed (source_of files roles).lines }
+    ensures cut { (bytes : List ℕ) → AllByRecursion TextHasNoLineFeed (cut bytes) }
+    ensures source { (files : FileTable) (roles : RolesRead) → FileLinesHaveNoLineFeed files
+        → SourceLinesHaveNoLineFeed (source_of files roles).lines }
     ensures added { (files : FileTable) (name bytes : List ℕ) → add_refusal files name bytes ≡ None
-        → HaveNoLineFeeds files → HaveNoLineFeeds (with_file files name bytes) }
+        → FilesHaveNoLineFeed files → FilesHaveNoLineFeed (with_file files name bytes) }
     ensures edited { (files : FileTable) (edit : Edit) → edit_refusal files edit ≡ None
-        → HaveNoLineFeeds files → HaveNoLineFeeds (edited files edit) }
+        → FilesHaveNoLineFeed files → FilesHaveNoLineFeed (edited files edit) }
 {}

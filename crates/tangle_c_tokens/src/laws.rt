@@ -3,7 +3,7 @@ ghost use Rattle.tangle_files.specs.declared.marks.MarkMode.{MarkMode};
 ghost use Rattle.tangle_lines.specs.Reading.{SourceRead};
 ghost use Rattle.tangle_scan.specs.Web.{web_of};
 ghost use Rattle.tangle_c_tokens.specs.Macros.{MacrosAreReadByGroups};
-ghost use Rattle.tangle_c_tokens.specs.Files.{HasNoLineFeeds, NodesAreReadByParts};
+ghost use Rattle.tangle_c_tokens.specs.Files.{SourceHasNoLineFeed, NodesAreReadByParts};
 ghost use Rattle.tangle_c_tokens.specs.Files.{FilesAreReadByParts};
 
 use tangle_expansion::nodes_are_written_by_pieces;
@@ -14,14 +14,14 @@ pub fn macros_are_read_by_groups()
     ensures { (source : SourceRead) → MacrosAreReadByGroups source (web_of source) }
 {}
 
-/// Of what a node expands to a C compiler reads the tokens of its groups of items and of what is
-/// written for its uses, one after another, with line marks between them (`names`). The premise is
-/// that the groups of items of the pieces that the node reaches are whole. The same of a file,
+/// Of what a node expands to a C compiler reads the tokens of its row, one text after another: of
+/// its groups of items, of what is written for its uses, and of line marks (`names`). The premise
+/// is that the groups of items of the pieces that the node reaches are whole. The same of a file,
 /// which may begin with all macros (`files`).
 pub fn files_are_read_by_parts()
-    ensures names { (source : SourceRead) (marks : MarkMode) → HasNoLineFeeds source
+    ensures names { (source : SourceRead) (marks : MarkMode) → SourceHasNoLineFeed source
         → NodesAreReadByParts source marks }
-    ensures files { (source : SourceRead) (marks : MarkMode) → HasNoLineFeeds source
+    ensures files { (source : SourceRead) (marks : MarkMode) → SourceHasNoLineFeed source
         → FilesAreReadByParts source marks }
 {
     nodes_are_written_by_pieces();

@@ -15,7 +15,7 @@ use Rattle.tangle_text.specs.Text.{Cell, line_bytes, line_text, text_from, texts
 use Rattle.tangle_lexer.specs.SpanBytes.{first_byte}
 use Rattle.c_tokens.specs.Bytes.{line_feed}
 use Rattle.c_tokens.specs.Borders.{has_bytes}
-use Rattle.tangle_c_tokens.specs.LineFeeds.{HaveNoLineFeed}
+use Rattle.tangle_c_tokens.specs.LineFeeds.{SourceLinesHaveNoLineFeed}
 use Rattle.std.proofs.lemmas.Bool.Decides.{nat_tests}
 
 -- the cells after a cell are at the next column, or at the front of a line after a line end
@@ -72,7 +72,7 @@ line-in-lines texts line column (b ∷ bs) rest is low none front all =
 
 pub text-in-lines : (texts : List (List ℕ)) (n : ℕ) (lines : List SourceLine)
     → ((k : ℕ) → get_or texts (n + k) [] ≡ get_or (texts_of lines) k [])
-    → HaveNoLineFeed lines → AreInLines texts (text_from n lines)
+    → SourceLinesHaveNoLineFeed lines → AreInLines texts (text_from n lines)
 text-in-lines texts n [] is none = tt
 text-in-lines texts n (l ∷ ls) is none =
     line-in-lines texts n 0 l.bytes (text_from (n + 1) ls)

@@ -18,7 +18,7 @@ use Rattle.tangle_scan.specs.Web.{kind_macro}
 use Rattle.tangle_scan.specs.Web.BlockKind.{OfMacro, OfPiece}
 use Rattle.tangle_scan.specs.ReadAsMeant.{all_piece_tokens, all_macro_tokens}
 use Rattle.tangle_c_tokens.specs.Kinds.{is_range, AreTexts}
-use Rattle.tangle_c_tokens.specs.LineFeeds.{HaveNoLineFeed}
+use Rattle.tangle_c_tokens.specs.LineFeeds.{SourceLinesHaveNoLineFeed}
 use Rattle.tangle_c_tokens.proofs.kind_lemmas.Lines.{text-in-lines}
 use Rattle.tangle_c_tokens.proofs.kind_lemmas.Texts.{texts-by}
 use Rattle.tangle_c_tokens.proofs.kind_lemmas.LexemeTexts.{lexemes-whole}
@@ -27,7 +27,7 @@ use Rattle.tangle_c_tokens.proofs.kind_lemmas.RuleTexts.{backslashes-texts}
 use Rattle.tangle_c_tokens.proofs.kind_lemmas.MacroNames.{kept-name}
 use Rattle.std.proofs.lemmas.Bool.Decides.{nat_tests}
 
-pub source-texts : (lines : List SourceLine) → HaveNoLineFeed lines
+pub source-texts : (lines : List SourceLine) → SourceLinesHaveNoLineFeed lines
     → AreTexts (texts_of lines) (without_faults (all_tokens lines))
 unfolding tokens_from
 source-texts lines none = search (rules, lexemes-whole, text-in-lines, zero-add)
@@ -116,13 +116,13 @@ module _ (lines : List SourceLine) where
       by (OfMacro line) rest = grind (arith, nat_tests, kept (is_macro texts (macro_items texts b.tokens)) refl rest)
       by (OfPiece occurrence line) rest = search rules
 
-  blocks-have : HaveNoLineFeed lines → HaveTexts texts (blocks 0 (all_tokens lines))
+  blocks-have : SourceLinesHaveNoLineFeed lines → HaveTexts texts (blocks 0 (all_tokens lines))
   blocks-have none = search (rules, blocks-texts, bodies-texts, source-texts)
 
-  pub pieces-texts : HaveNoLineFeed lines
+  pub pieces-texts : SourceLinesHaveNoLineFeed lines
       → AllByRecursion (AreTexts texts) (all_piece_tokens lines)
   pieces-texts none = pieces-have (blocks 0 (all_tokens lines)) (blocks-have none)
 
-  pub macros-texts : HaveNoLineFeed lines
+  pub macros-texts : SourceLinesHaveNoLineFeed lines
       → AllByRecursion (AreTexts texts) (all_macro_tokens lines)
   macros-texts none = macros-have (blocks 0 (all_tokens lines)) (blocks-have none)

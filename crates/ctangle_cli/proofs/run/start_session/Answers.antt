@@ -19,5 +19,5 @@ returns-clause-started g c = record {
   files = _;
   loads = c.in-Ok.ensures.ok;
   started = rw c.in-Ok.ensures.roles at c.in-Ok-start.ensures.started;
-  silent = refl;
+  unwritten = refl;
 }

@@ -1,0 +1,81 @@
+-- A compiler that leaves out no region reads all tokens.
+use Rattle.std.proofs.Common.{◌≡◌, ℕ, Bool, true, false, List, [], ◌∷◌, ◌++◌, map, drop, length}
+use Rattle.std.proofs.Common.{refl, ap, sym, subst, ◌∙◌}
+use Rattle.std.specs.Prelude.{◌||◌, if◌then◌else◌, filter, flat_map}
+use Rattle.std.specs.Str.{bytes_eq}
+use Rattle.std.proofs.lemmas.List.{map-append, append_assoc}
+use Rattle.std.proofs.lemmas.Slice.Eq.{bytes_eq-Decides}
+use Rattle.c_tokens.specs.Bytes.{line_feed}
+use Rattle.c_tokens.specs.Grammar.{is_token, is_punctuator}
+use Rattle.c_tokens.specs.Reading.{elements, tokens}
+use Rattle.c_tokens.specs.Counting.{Element, Line, Count, Read, rows, with_rows, lines, is_directive, directive}
+use Rattle.c_tokens.specs.Counting.{begins_group, turns_group, region_after, counted, count_after, read_of, reads, c_reads}
+
+abbrev texts_of : List Element → List (List ℕ)
+texts_of es = map (λ e. e.text) es
+
+abbrev tokens_in : List Line → List (List ℕ)
+tokens_in ls = flat_map (λ l. texts_of l.tokens) ls
+
+abbrev tokens_of : List Read → List (List ℕ)
+tokens_of found = map (λ read. read.token) found
+
+with_rows-texts : (rs : List ℕ) (es : List (List ℕ)) → map (λ e. e.text) (with_rows rs es) ≡ es
+with_rows-texts rs [] = refl
+with_rows-texts rs (e ∷ es) = ap (λ more. e ∷ more) (with_rows-texts (drop (length e) rs) es)
+
+if-same : {A : Type 0} (b : Bool) (x : A) → (if b then x else x) ≡ x
+if-same true x = refl
+if-same false x = refl
+
+-- a line feed is no token
+line-feed-no-token : (e : List ℕ) → bytes_eq e (line_feed ∷ []) ≡ true → is_token e ≡ false
+unfolding is_token is_punctuator
+line-feed-no-token e h = subst (λ t. is_token t ≡ false) (sym ((bytes_eq-Decides e (line_feed ∷ [])).0 h)) refl
+
+abbrev Splits : List Element → Type 0
+Splits es = (front : List Element) → tokens_in (lines front es) ≡ texts_of front ++ filter is_token (texts_of es)
+
+splits-after : (e : Element) (es : List Element) → Splits es → (b : Bool) → bytes_eq e.text (line_feed ∷ []) ≡ b →
+    (c : Bool) → is_token e.text ≡ c → Splits (e ∷ es)
+splits-after e es more true h c k front =
+    rw h (rw (line-feed-no-token e.text h) (ap (λ rest. texts_of front ++ rest) (more [])))
+splits-after e es more false h true k front =
+    rw h (rw k (more (front ++ e ∷ [])
+    ∙ ap (λ t. t ++ filter is_token (texts_of es)) (map-append (λ e. e.text) front (e ∷ []))
+    ∙ append_assoc (texts_of front) (e.text ∷ []) (filter is_token (texts_of es))))
+splits-after e es more false h false k front = rw h (rw k (more front))
+
+lines-tokens : (es : List Element) → Splits es
+lines-tokens [] front = refl
+lines-tokens (e ∷ es) front =
+    splits-after e es (lines-tokens es) (bytes_eq e.text (line_feed ∷ [])) refl (is_token e.text) refl front
+
+read-texts : (count : Count) (b : Bool) (es : List Element) →
+    tokens_of (map (λ e. record { token = e.text; origin = counted count e.row; in_directive = b }) es) ≡ texts_of es
+read-texts count b [] = refl
+read-texts count b (e ∷ es) = ap (λ more. e.text ∷ more) (read-texts count b es)
+
+read-after : (words : List (List ℕ)) → region_after words true true ≡ true
+read-after words = if-same-twice (begins_group words) (turns_group words)
+  where
+    if-same-twice : (b c : Bool) → (if b then true else if c then true else true) ≡ true
+    if-same-twice true c = refl
+    if-same-twice false true = refl
+    if-same-twice false false = refl
+
+reads-tokens : (count : Count) (ls : List Line) → tokens_of (reads [] true count ls) ≡ tokens_in ls
+reads-tokens count [] = refl
+reads-tokens count (line ∷ ls) =
+    let words : List (List ℕ) = directive line.tokens in
+    rw (if-same {A = List Bool} (begins_group words || turns_group words) []) (rw (read-after words) (
+    map-append (λ read. read.token) (read_of count line.tokens) (reads [] true (count_after count line.after words) ls)
+    ∙ ap (λ t. t ++ tokens_of (reads [] true (count_after count line.after words) ls))
+    (read-texts count (is_directive line.tokens) line.tokens)
+    ∙ ap (λ more. texts_of line.tokens ++ more) (reads-tokens (count_after count line.after words) ls)))
+
+pub all-counted : (file text : List ℕ) → tokens_of (c_reads [] file text) ≡ tokens text
+all-counted file text =
+    reads-tokens (record { row = 0; origin = record { file = file; line = 1 } }) (lines [] (with_rows (rows 0 text) (elements text)))
+    ∙ lines-tokens (with_rows (rows 0 text) (elements text)) []
+    ∙ ap (filter is_token) (with_rows-texts (rows 0 text) (elements text))
