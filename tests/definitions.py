@@ -24,7 +24,7 @@ PAGES = {
     'docs/scanning.md': ['tangle_text', 'tangle_lexer', 'tangle_scan'],
     'docs/names.md': [
         'tangle_text/NameBytes', 'tangle_lexer/Names', 'tangle_lexer/Occurrences', 'tangle_names'],
-    'docs/tokens.md': ['c_tokens', 'tangle_c_tokens', 'ctangle_cli/WhatTheCompilerReads'],
+    'docs/tokens.md': ['c_tokens', 'tangle_c_tokens', 'tangle_c_lines', 'ctangle_cli/WhatTheCompilerReads'],
     'docs/graphs.md': ['digraph'],
     'docs/expansion.md': ['tangle_bodies', 'tangle_expansion', 'tangle_graph'],
     'docs/output.md': [
@@ -33,7 +33,8 @@ PAGES = {
         'tangle_graph/Outputs', 'tangle_graph/PlainForms', 'tangle_session/Writes'],
     'docs/faults.md': [
         'tangle_faults', 'tangle_names/Faults', 'tangle_graph/Faults', 'tangle_session/Laws'],
-    'docs/edits.md': ['tangle_expansion/Affected', 'tangle_affected', 'tangle_session/Moves'],
+    'docs/edits.md': [
+        'tangle_expansion/Affected', 'tangle_graph/Affected', 'tangle_graph/Keeping', 'tangle_session/Moves'],
     'docs/sessions.md': [
         'tangle_files/Edits', 'tangle_files/Edited', 'tangle_session/Edits', 'tangle_script',
         'ctangle_cli/RetangleArguments', 'ctangle_cli/Conversation'],

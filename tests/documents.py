@@ -69,8 +69,8 @@ LINKED = ('', 'docs', 'docs/generated', 'bench', 'tests', 'tests/reference')
 FOLDERS = ('crates', 'docs', 'examples', 'tests', 'bench')
 
 # The crates in which nodes are expanded and expansions written.
-EXPANDING = ('tangle_bodies', 'tangle_expansion', 'tangle_graph', 'tangle_affected', 'tangle_session', 'ctangle_cli',
-             'ctangle', 'retangle')
+EXPANDING = ('tangle_bodies', 'tangle_expansion', 'tangle_graph', 'tangle_session', 'ctangle_cli', 'ctangle',
+             'retangle')
 
 # Which function calls what, once in its text. A session begins one work in a start and one in a
 # list of edits (one edit is made as a list), and starts no other session; each expansion is made in
@@ -82,9 +82,9 @@ CALLS = {
     'expand_all': ['tangle_session/session.rt: start'],
     'expand_again': ['tangle_session/tangling.rt: tangle_again'],
     'affected': [],
-    'reaching_new_shapes': ['tangle_affected/edits.rt: affected', 'tangle_affected/keeping.rt: expand_again'],
-    'expand_next': ['tangle_affected/keeping.rt: expand_all', 'tangle_affected/keeping.rt: expand_again'],
-    'expand': ['tangle_affected/keeping.rt: expand_next', 'tangle_graph/store.rt: expand'],
+    'reaching_new_shapes': ['tangle_graph/edits.rt: affected', 'tangle_graph/keeping.rt: expand_again'],
+    'expand_next': ['tangle_graph/keeping.rt: expand_all', 'tangle_graph/keeping.rt: expand_again'],
+    'expand': ['tangle_graph/keeping.rt: expand_next', 'tangle_graph/store.rt: expand'],
     'expansion_of': ['tangle_expansion/expanding.rt: expand'],
     'make': ['tangle_graph/bodies.rt: body_after'],
     'write_text_after': ['tangle_expansion/writing.rt: write_text_after', 'tangle_expansion/writing.rt: write_text',
@@ -92,10 +92,11 @@ CALLS = {
     'write_text': [],
     'write_file': ['tangle_expansion/outputs.rt: file_size', 'tangle_session/session.rt: write_output_at'],
     'create_output': ['ctangle_cli/writing.rt: create_outputs'],
-    'Session::start': ['ctangle_cli/run.rt: start_session'],
+    'Session::start': ['ctangle_cli/run.rt: start_session', 'tangle_session/histories.rt: start_and_edit'],
     'Analysis::build': ['tangle_session/session.rt: start', 'tangle_session/tangling.rt: tangle_again'],
     'tangle_again': ['tangle_session/session.rt: apply_all'],
-    'apply_all': ['tangle_session/session.rt: apply', 'ctangle_cli/conversation.rt: commit'],
+    'apply_all': ['tangle_session/session.rt: apply', 'tangle_session/histories.rt: apply_each',
+                  'ctangle_cli/conversation.rt: commit'],
     'write_output_at': ['tangle_session/session.rt: write_output', 'ctangle_cli/writing.rt: create_output'],
     'write_output': ['ctangle_cli/conversation.rt: show'],
     'file_size': ['tangle_session/session.rt: output_size'],
@@ -111,14 +112,14 @@ MADE = {
 
 # The callers that have a loop, and what they do in it: nodes are expanded in their order, what an
 # expansion uses is written where it is used, and the outputs are written one by one.
-LOOPS = ['tangle_affected/keeping.rt: expand_all', 'tangle_affected/keeping.rt: expand_again',
+LOOPS = ['tangle_graph/keeping.rt: expand_all', 'tangle_graph/keeping.rt: expand_again',
          'tangle_expansion/expanding.rt: expansion_of', 'tangle_expansion/writing.rt: write_text_after',
-         'ctangle_cli/writing.rt: create_outputs']
+         'tangle_session/histories.rt: apply_each', 'ctangle_cli/writing.rt: create_outputs']
 
 # Bugs that no clause sees, in a file of a crate: what is replaced and by what, in turn.
 PLANTED = {
     'all nodes are expanded in a second work at each edit': (
-        'tangle_affected', 'keeping.rt', '    let flags = reaching_new_shapes(alloc, new, new_shapes, order)?;\n',
+        'tangle_graph', 'keeping.rt', '    let flags = reaching_new_shapes(alloc, new, new_shapes, order)?;\n',
         '    let flags = reaching_new_shapes(alloc, new, new_shapes, order)?;\n'
         '    let mut second = Work::new(alloc);\n    drop(expand_all(alloc, new, &mut second)?);\n'),
     'each node is expanded in a second work too': (
@@ -134,7 +135,7 @@ PLANTED = {
         '    let mut made = Vec::new(alloc);\n    for _ in 0..2 {\n'
         '        made.push(expansion_of(alloc, body, kept)?)?;\n    }\n    let expansion = made.pop().unwrap();\n'),
     'a function that expands goes by another name': (
-        'tangle_affected', 'keeping.rt', '    let expansion = store.expand(alloc, node, kept, work)?;\n',
+        'tangle_graph', 'keeping.rt', '    let expansion = store.expand(alloc, node, kept, work)?;\n',
         '    let twice = Store::expand;\n    let expansion = twice(store, alloc, node, kept, work)?;\n'),
     'a work is made by its fields': (
         'tangle_expansion', 'expanding.rt', '    work.add(node)?;\n',

@@ -46,6 +46,7 @@ ctangle = os.path.abspath(sys.argv[1])
 # ---------------------------------------------------------------------- worked texts
 
 COUNTS = re.compile(rb'\bCounts\s+(\[\]|\([^)]*\))\s+"((?:\\.|[^"\\])*)"\s+"((?:\\.|[^"\\])*)"')
+BEGINS = re.compile(rb'\bBegins\s+"((?:\\.|[^"\\])*)"\s+"((?:\\.|[^"\\])*)"')
 WORKED = 30             # at least as many texts are worked
 
 
@@ -69,6 +70,12 @@ def test_worked_texts(top):
             same(read_by(c_reads.c_reads, choice, b'a.c', text), expected, 'what is read of %r' % text)
             lay(folder, {'a.c': text})
             same(c_reads.read_by_compiler(folder, 'a.c', '-w'), (expected, b''), 'what gcc reads of %r' % text)
+    begins = BEGINS.findall(read(top, 'crates', 'c_tokens', 'proofs', 'WorkedCounting.antt'))
+    check(begins != [], 'worked texts', 'none says where tokens begin')
+    for text, words in begins:
+        found = c_reads.c_reads((), b'a.c', unescaped(text))
+        same(b','.join(b'%d %s' % (each.at, each.token) for each in found), unescaped(words),
+             'where the tokens of %r begin' % text)
 
 
 # Changes of c_reads.py.

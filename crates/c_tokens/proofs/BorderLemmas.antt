@@ -316,7 +316,7 @@ opened-unfinished (p ∷ ps) Q rest c q word begins quote ends =
 
 -- no element goes on over a border
 
-number-token : (t : List ℕ) → is_number t ≡ true → is_token t ≡ true
+pub number-token : (t : List ℕ) → is_number t ≡ true → is_token t ≡ true
 unfolding is_token
 number-token t h = grind (arith, nat_tests)
 

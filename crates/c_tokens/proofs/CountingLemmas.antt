@@ -8,21 +8,22 @@ use Rattle.std.proofs.lemmas.Slice.Eq.{bytes_eq-Decides}
 use Rattle.c_tokens.specs.Bytes.{line_feed}
 use Rattle.c_tokens.specs.Grammar.{is_token, is_punctuator}
 use Rattle.c_tokens.specs.Reading.{elements, tokens}
-use Rattle.c_tokens.specs.Counting.{Element, Line, Count, Read, rows, with_rows, lines, is_directive, directive}
-use Rattle.c_tokens.specs.Counting.{begins_group, turns_group, region_after, counted, count_after, read_of, reads, c_reads}
+use Rattle.c_tokens.specs.Counting.{Place, PlacedElement, LineOfTokens, LineCount, TokenRead, start_of_text, places, with_places}
+use Rattle.c_tokens.specs.Counting.{lines, lines_from, begins_directive, directive, begins_group, turns_group, region_after}
+use Rattle.c_tokens.specs.Counting.{counted, count_after, read_of, reads, c_reads}
 
-abbrev texts_of : List Element → List (List ℕ)
+abbrev texts_of : List PlacedElement → List (List ℕ)
 texts_of es = map (λ e. e.text) es
 
-abbrev tokens_in : List Line → List (List ℕ)
+abbrev tokens_in : List LineOfTokens → List (List ℕ)
 tokens_in ls = flat_map (λ l. texts_of l.tokens) ls
 
-abbrev tokens_of : List Read → List (List ℕ)
+abbrev tokens_of : List TokenRead → List (List ℕ)
 tokens_of found = map (λ read. read.token) found
 
-with_rows-texts : (rs : List ℕ) (es : List (List ℕ)) → map (λ e. e.text) (with_rows rs es) ≡ es
-with_rows-texts rs [] = refl
-with_rows-texts rs (e ∷ es) = ap (λ more. e ∷ more) (with_rows-texts (drop (length e) rs) es)
+with_places-texts : (ps : List Place) (es : List (List ℕ)) → map (λ e. e.text) (with_places ps es) ≡ es
+with_places-texts ps [] = refl
+with_places-texts ps (e ∷ es) = ap (λ more. e ∷ more) (with_places-texts (drop (length e) ps) es)
 
 if-same : {A : Type 0} (b : Bool) (x : A) → (if b then x else x) ≡ x
 if-same true x = refl
@@ -33,10 +34,10 @@ line-feed-no-token : (e : List ℕ) → bytes_eq e (line_feed ∷ []) ≡ true �
 unfolding is_token is_punctuator
 line-feed-no-token e h = subst (λ t. is_token t ≡ false) (sym ((bytes_eq-Decides e (line_feed ∷ [])).0 h)) refl
 
-abbrev Splits : List Element → Type 0
-Splits es = (front : List Element) → tokens_in (lines front es) ≡ texts_of front ++ filter is_token (texts_of es)
+abbrev Splits : List PlacedElement → Type 0
+Splits es = (front : List PlacedElement) → tokens_in (lines front es) ≡ texts_of front ++ filter is_token (texts_of es)
 
-splits-after : (e : Element) (es : List Element) → Splits es → (b : Bool) → bytes_eq e.text (line_feed ∷ []) ≡ b →
+splits-after : (e : PlacedElement) (es : List PlacedElement) → Splits es → (b : Bool) → bytes_eq e.text (line_feed ∷ []) ≡ b →
     (c : Bool) → is_token e.text ≡ c → Splits (e ∷ es)
 splits-after e es more true h c k front =
     rw h (rw (line-feed-no-token e.text h) (ap (λ rest. texts_of front ++ rest) (more [])))
@@ -46,13 +47,13 @@ splits-after e es more false h true k front =
     ∙ append_assoc (texts_of front) (e.text ∷ []) (filter is_token (texts_of es))))
 splits-after e es more false h false k front = rw h (rw k (more front))
 
-lines-tokens : (es : List Element) → Splits es
+lines-tokens : (es : List PlacedElement) → Splits es
 lines-tokens [] front = refl
 lines-tokens (e ∷ es) front =
     splits-after e es (lines-tokens es) (bytes_eq e.text (line_feed ∷ [])) refl (is_token e.text) refl front
 
-read-texts : (count : Count) (b : Bool) (es : List Element) →
-    tokens_of (map (λ e. record { token = e.text; origin = counted count e.row; in_directive = b }) es) ≡ texts_of es
+read-texts : (count : LineCount) (b : Bool) (es : List PlacedElement) →
+    tokens_of (map (λ e. record { token = e.text; at = e.place.at; origin = counted count e.place.row; in_directive = b }) es) ≡ texts_of es
 read-texts count b [] = refl
 read-texts count b (e ∷ es) = ap (λ more. e.text ∷ more) (read-texts count b es)
 
@@ -64,18 +65,18 @@ read-after words = if-same-twice (begins_group words) (turns_group words)
     if-same-twice false true = refl
     if-same-twice false false = refl
 
-reads-tokens : (count : Count) (ls : List Line) → tokens_of (reads [] true count ls) ≡ tokens_in ls
+reads-tokens : (count : LineCount) (ls : List LineOfTokens) → tokens_of (reads [] true count ls) ≡ tokens_in ls
 reads-tokens count [] = refl
 reads-tokens count (line ∷ ls) =
     let words : List (List ℕ) = directive line.tokens in
     rw (if-same {A = List Bool} (begins_group words || turns_group words) []) (rw (read-after words) (
-    map-append (λ read. read.token) (read_of count line.tokens) (reads [] true (count_after count line.after words) ls)
-    ∙ ap (λ t. t ++ tokens_of (reads [] true (count_after count line.after words) ls))
-    (read-texts count (is_directive line.tokens) line.tokens)
-    ∙ ap (λ more. texts_of line.tokens ++ more) (reads-tokens (count_after count line.after words) ls)))
+    map-append (λ read. read.token) (read_of count line.tokens) (reads [] true (count_after count line.end words) ls)
+    ∙ ap (λ t. t ++ tokens_of (reads [] true (count_after count line.end words) ls))
+    (read-texts count (begins_directive line.tokens) line.tokens)
+    ∙ ap (λ more. texts_of line.tokens ++ more) (reads-tokens (count_after count line.end words) ls)))
 
 pub all-counted : (file text : List ℕ) → tokens_of (c_reads [] file text) ≡ tokens text
 all-counted file text =
-    reads-tokens (record { row = 0; origin = record { file = file; line = 1 } }) (lines [] (with_rows (rows 0 text) (elements text)))
-    ∙ lines-tokens (with_rows (rows 0 text) (elements text)) []
-    ∙ ap (filter is_token) (with_rows-texts (rows 0 text) (elements text))
+    reads-tokens (record { row = 0; origin = record { file = file; line = 1 } }) (lines_from start_of_text text)
+    ∙ lines-tokens (with_places (places start_of_text text) (elements text)) []
+    ∙ ap (filter is_token) (with_places-texts (places start_of_text text) (elements text))

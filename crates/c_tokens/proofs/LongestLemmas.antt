@@ -29,7 +29,7 @@ longest-passes test (x ∷ b) h = go (longest (λ t. test (x ∷ t)) b) h (longe
     go zero h rest = search rules
     go (suc more) h rest = search (rules, longer)
 
-longest-one : (b : ℕ) (rest : List ℕ) → 1 ≤ longest is_element (b ∷ rest)
+pub longest-one : (b : ℕ) (rest : List ℕ) → 1 ≤ longest is_element (b ∷ rest)
 longest-one b rest = longest-most is_element (b ∷ rest) 1 (omega arith) (single-element b)
 
 pub longest-is : (b : ℕ) (rest : List ℕ) → is_element (take (longest is_element (b ∷ rest)) (b ∷ rest)) ≡ true

@@ -47,7 +47,7 @@ word-names (b ∷ a) h = grind (arith, nat_tests, word-names a)
 word-identifier : (t : List ℕ) → is_plain_word t ≡ true → is_identifier t ≡ true
 word-identifier t h = search (rules, word-identifier-bytes, word-names)
 
-plain-token : (t : List ℕ) → is_plain t ≡ true → is_token t ≡ true
+pub plain-token : (t : List ℕ) → is_plain t ≡ true → is_token t ≡ true
 unfolding is_token
 plain-token t h = grind (arith, nat_tests, or_cases, word-identifier)
 

@@ -6,9 +6,10 @@ use Rattle.std.specs.Fmt.{digits}
 use Prim.Native.String.{String}
 use Rattle.c_tokens.specs.Bytes.{space}
 use Rattle.c_tokens.specs.Grammar.{is_element, is_token, is_punctuator}
-use Rattle.c_tokens.specs.Counting.{Read, c_reads}
+use Rattle.c_tokens.specs.Counting.{TokenRead, c_reads}
+use Rattle.c_tokens.specs.JoinedLines.{joined_lines}
 
-abbrev shown : Read → List ℕ
+abbrev shown : TokenRead → List ℕ
 shown read = read.token ++ space ∷ read.origin.file ++ space ∷ decimal read.origin.line
 
 abbrev comma : ℕ
@@ -18,8 +19,14 @@ comma = 44
 -- line. The file has the name a.c.
 abbrev Counts : List Bool → String → String → Type 0
 Counts choice text words =
-    let found : List Read = c_reads choice (codes "a.c") (codes text) in
+    let found : List TokenRead = c_reads choice (codes "a.c") (codes text) in
     join_with_byte comma (map shown (filter (λ read. not read.in_directive) found)) ≡ codes words
+
+-- The second text shows the tokens that are read of the first one, each after the number of bytes before it.
+abbrev Begins : String → String → Type 0
+Begins text words =
+    let found : List TokenRead = c_reads [] (codes "a.c") (codes text) in
+    join_with_byte comma (map (λ read. decimal read.at ++ space ∷ read.token) found) ≡ codes words
 
 -- A line's number is one more than the number of line feeds before it, also of those that are taken out.
 lines :
@@ -35,6 +42,28 @@ lines :
     Counts [] "a\n#\n#define m x\\\n y\n#undef m /*\n*/\nb" "a a.c 1,b a.c 7"
 unfolding is_element is_token is_punctuator digits
 lines = (refl, refl, refl, refl, refl, refl, refl, refl, refl, refl)
+
+-- Bytes that are taken out are counted, too. A token with some in it begins before them, one after them begins there.
+beginnings :
+    Begins "a\nb c\n" "0 a,2 b,4 c" ×
+    Begins " a+ b" "1 a,2 +,4 b" ×
+    Begins "a\\\nb c\nd" "0 ab,5 c,7 d" ×
+    Begins "a \\\n\\\nb" "0 a,6 b" ×
+    Begins "\\\nb\\\n" "2 b" ×
+    Begins "\"s\\\nt\" a" "0 \"st\",7 a" ×
+    Begins "/*\\\n*/a" "6 a" ×
+    Begins "#line 7\na" "0 #,1 line,6 7,8 a"
+unfolding is_element is_token is_punctuator digits
+beginnings = (refl, refl, refl, refl, refl, refl, refl, refl)
+
+-- A line feed after a backslash joins two lines.
+joined :
+    (joined_lines [] (codes "") ≡ codes "" ∷ []) ×
+    (joined_lines [] (codes "a\n") ≡ codes "a" ∷ codes "" ∷ []) ×
+    (joined_lines [] (codes "a\\\nb\n\nc") ≡ codes "a\\\nb" ∷ codes "" ∷ codes "c" ∷ []) ×
+    (joined_lines [] (codes "a\\\n\\\n\nb\\") ≡ codes "a\\\n\\\n" ∷ codes "b\\" ∷ []) ×
+    (joined_lines [] (codes "/*\n*/") ≡ codes "/*" ∷ codes "*/" ∷ [])
+joined = (refl, refl, refl, refl, refl)
 
 -- `#line` says which number the line after it has, and of which file it is.
 line_directives :

@@ -4,3 +4,4 @@ pub mod Reading
 pub mod Touching
 pub mod Borders
 pub mod Counting
+pub mod JoinedLines

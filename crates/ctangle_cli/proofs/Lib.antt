@@ -8,3 +8,4 @@ mod WorkedArguments
 mod AnswerLemmas
 mod HistoryLemmas
 mod ReadLemmas
+mod WorkedPage

@@ -2,8 +2,9 @@
 --
 -- The tokens that the compiler reads of a file are those of the groups of items that the author
 -- wrote in the macros and pieces that the file reaches, in the order of expansion, and of line marks
--- where the rules for items leave them (`tokens`). Where line marks are written in full, each byte of
--- an item is at its line of the source, whichever groups of lines the compiler leaves out (`lines`).
+-- where the rules for items leave them (`tokens`). Where line marks are written in full, the
+-- compiler counts each token that begins in a byte of an item at the file and line of the source on
+-- which the author wrote it, whichever groups of lines it leaves out (`lines`).
 --
 -- Both programs promise it of what they write: `RunEnds` of the output files that a run of
 -- `ctangle` creates, and `RetangleEnds` of those that a run of `retangle` shows, before and after
@@ -14,14 +15,16 @@ use Rattle.tangle_files.specs.Roles.{RolesRead}
 use Rattle.tangle_files.specs.declared.marks.MarkMode.TheVariants.{Full}
 use Rattle.tangle_bodies.specs.Nodes.{title_at}
 use Rattle.tangle_bodies.specs.Shapes.{Title}
+use Rattle.tangle_expansion.specs.Location.{ByteClass}
 use Rattle.tangle_expansion.specs.Outputs.{OutputRead}
+use Rattle.tangle_c_lines.specs.CountedLines.{classes_of_file, DirectivesAreSeen}
+use Rattle.tangle_c_lines.specs.CountedLines.{IsCountedAsWritten}
 use Rattle.tangle_c_tokens.specs.Files.{MacrosAreReadAlone, ReachesWholePieces, texts_of_file}
 use Rattle.tangle_c_tokens.specs.Reading.{IsReadAsTexts}
 use Rattle.tangle_graph.specs.Outputs.{outputs}
 use Rattle.tangle_session.specs.Headline.{Call, History}
 use Rattle.tangle_session.specs.Headline.{output_bytes, source_at, table_at, web_at}
 use Rattle.tangle_session.specs.Sessions.{SessionRead}
-use Rattle.tangle_session.specs.Writes.{IsTrueOutput}
 
 module _ (files : FileTable) (roles : RolesRead) where
   abbrev pub node_of : OutputRead → Title
@@ -34,16 +37,23 @@ module _ (files : FileTable) (roles : RolesRead) where
     pub pieces : output.has_piece ≡ true
         → ReachesWholePieces (source_at files roles) (node_of output)
 
+  -- the class of each byte of an output file: whether it is of an item, and of which line
+  abbrev pub classes_of : OutputRead → List ByteClass
+  classes_of output =
+      classes_of_file (source_at files roles) output.has_macros output.has_piece (node_of output)
+
   -- What a C compiler reads of an output file: the tokens of the author's groups, if these are
-  -- whole, and each byte of an item at its line, if line marks are written in full.
+  -- whole, each at its line of the source, if also line marks are written in full, and each line of
+  -- C that begins, turns or ends a group is a directive for the rules, too.
   pub record IsReadAsWritten (output : OutputRead) : Type 0 where
     pub tokens : IsWholeFile output
         → IsReadAsTexts
         (texts_of_file (source_at files roles) roles.marks output.has_macros output.has_piece
         (node_of output))
         (output_bytes files roles output)
-    pub lines : roles.marks ≡ Full
-        → IsTrueOutput (source_at files roles) (web_at files roles) output
+    pub lines : roles.marks ≡ Full → IsWholeFile output
+        → DirectivesAreSeen (classes_of output) (output_bytes files roles output)
+        → IsCountedAsWritten (web_at files roles).file_names (classes_of output) output.name
         (output_bytes files roles output)
 
   -- each output file of plain tangling is read as written

@@ -1,5 +1,6 @@
 //! Laws of scripts, and of what a C compiler reads.
 ghost use Rattle.std.specs.Prelude.{◌≡◌, ◌++◌, ℕ, List};
+ghost use Rattle.tangle_files.specs.Adding.{IsWithinLimits};
 ghost use Rattle.tangle_files.specs.Lines.{FileTable};
 ghost use Rattle.tangle_files.specs.Roles.{RolesRead};
 ghost use Rattle.tangle_script.specs.Requests.{Command};
@@ -42,10 +43,11 @@ pub fn scripts_show_plain_tangling()
 
 /// A C compiler reads each output file as the author wrote it
 /// (`specs/WhatTheCompilerReads.antt`), in a session that is started with these files, and after any
-/// calls, if no name and no line of the files has a line feed. None has that is added or edited
-/// (`lines_have_no_line_feeds` of `tangle_c_tokens`): so the runs of both programs promise this
-/// without a premise.
+/// calls, if no name and no line of the files has a line feed, and the files are within the limits of
+/// tables. None has a line feed that is added or edited (`lines_have_no_line_feeds` of
+/// `tangle_c_tokens`), and no such file is beyond the limits: so the runs of both programs promise
+/// this without a premise.
 pub fn outputs_are_read_as_written()
     ensures { (files : FileTable) (roles : RolesRead) → FilesHaveNoLineFeed files
-        → OutputsStayReadAsWritten files roles }
+        → IsWithinLimits files → OutputsStayReadAsWritten files roles }
 {}

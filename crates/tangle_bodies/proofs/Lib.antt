@@ -10,3 +10,4 @@ pub mod CountLemmas
 pub mod HeldLemmas
 pub mod LeftLemmas
 pub mod FlatLemmas
+pub mod LongerLemmas

@@ -19,6 +19,8 @@ use Rattle.tangle_scan.specs.Web.BlockKind.{OfMacro, OfPiece}
 use Rattle.tangle_c_tokens.specs.Reading.{IsReadAsTexts}
 use Rattle.tangle_c_tokens.specs.Groups.{groups}
 use Rattle.tangle_c_tokens.specs.Kinds.{AreTexts}
+use Rattle.tangle_c_tokens.specs.LineFeeds.{SourceLinesHaveNoLineFeed}
+use Rattle.tangle_c_tokens.proofs.OneLineLemmas.{macro-on_line}
 use Rattle.tangle_c_tokens.specs.Macros.{IsReadAlone}
 use Rattle.tangle_c_tokens.specs.Files.{macro_texts}
 use Rattle.tangle_c_tokens.proofs.MacroLemmas.{macro-by-groups}
@@ -32,14 +34,9 @@ macros-keep texts (items ∷ macros) =
     (search (rules, keeps-last))
     (macros-keep texts macros)
 
-pub both : {X : Type 0} (P Q : X → Type 0) (xs : List X) → AllByRecursion P xs → AllByRecursion Q xs
-    → AllByRecursion (λ x. P x × Q x) xs
-both P Q [] p q = tt
-both P Q (x ∷ xs) p q = ((p.0, q.0), both P Q xs p.1 q.1)
-
 -- `rest` is written after all macros, and read as the texts `ts`.
 module _ (lines : List SourceLine) (rest : List ℕ) (ts : List (List ℕ))
-    (read : IsReadAsTexts ts rest) where
+    (read : IsReadAsTexts ts rest) (none : SourceLinesHaveNoLineFeed lines) where
   abbrev pub macro_tokens_of : Block → List Token
   macro_tokens_of b = without_backslashes (texts_of lines) (macro_tokens (texts_of lines) b.tokens)
 
@@ -77,7 +74,7 @@ module _ (lines : List SourceLine) (rest : List ℕ) (ts : List (List ℕ))
           let more : List (List ℕ) = flat_map (macro_texts (texts_of lines)) each in
           subst (IsReadAsTexts ((texts ++ more) ++ ts)) (sym (append_assoc bytes later rest))
           (subst (λ us. IsReadAsTexts us (bytes ++ (later ++ rest))) (sym (append_assoc texts more ts))
-          (search (rules, macro-by-groups)))
+          (search (rules, macro-by-groups, macro-on_line)))
 
       by : (kind : BlockKind) → AreRead all each →
           AreRead (kind_macro lines kind b ++ all)

@@ -9,19 +9,20 @@ use Rattle.std.specs.Prelude.{◌&&◌, not, ◌==◌, filter, decimal}
 use Rattle.std.specs.List.{list_all}
 use Rattle.std.proofs.lemmas.Bool.{and_parts, or_right}
 use Rattle.std.proofs.lemmas.List.Folds.{list_all-append}
-use Rattle.c_tokens.specs.Bytes.{space, slash, asterisk, backslash}
+use Rattle.c_tokens.specs.Bytes.{line_feed, space, slash, asterisk, backslash}
 use Rattle.c_tokens.specs.Grammar.{is_token, is_punctuator, is_comment, ends_once}
-use Rattle.c_tokens.specs.Reading.{spliced, elements, elements_from}
+use Rattle.c_tokens.specs.Reading.{spliced, elements, elements_from, tokens}
 use Rattle.c_tokens.specs.Borders.{last_element, last_byte}
 use Rattle.c_tokens.specs.Borders.{have_border}
 use Rattle.c_tokens.proofs.TouchingLemmas.{one-element, comment-element}
+use Rattle.c_tokens.proofs.JoinedLemmas.{feeds_taken}
 use Rattle.tangle_c_tokens.proofs.TextLemmas.{Follows, follows-same, apart-from}
 use Rattle.tangle_expansion.specs.Numbers.{opening_bytes, closing_bytes}
 use Rattle.std.proofs.lemmas.Bool.Decides.{nat_tests}
 
 -- the bytes in the comment
 abbrev is_inside : ℕ → Bool
-is_inside b = not (b == asterisk) && not (b == backslash)
+is_inside b = not (b == asterisk) && not (b == backslash) && not (b == line_feed)
 
 abbrev comment : List ℕ → List ℕ
 comment inside = slash ∷ asterisk ∷ inside ++ asterisk ∷ slash ∷ []
@@ -98,12 +99,22 @@ comment-border inside (c ∷ b) all =
 
 -- bytes after a comment, and before one
 
+comment-one : (after : Bool) (inside : List ℕ) → list_all is_inside inside ≡ true
+    → feeds_taken after (inside ++ asterisk ∷ slash ∷ []) ≡ true
+comment-one after [] all = refl
+comment-one after (b ∷ inside) all = grind (arith, nat_tests, comment-one (b == backslash) inside)
+
 comment-front : (inside rest : List ℕ) → list_all is_inside inside ≡ true
     → Follows [] rest (comment inside ++ rest)
 comment-front inside rest all =
-    let apart = apart-from (comment inside) rest (grind (arith, nat_tests, one-comment, comment-ended)) (search (rules, last-slash))
+    let apart = apart-from (comment inside) rest (grind (arith, nat_tests, one-comment, comment-ended))
+    (comment-one false inside all) (search (rules, last-slash))
     (search (rules, spliced-comment, comment-border)) in
-    search (rules, one-comment, no-token)
+    record {
+      read = apart.read ∙ ap (λ es. filter is_token es ++ tokens rest) (one-comment inside all)
+          ∙ ap (λ ts. ts ++ tokens rest) (no-token inside);
+      lines = apart.lines;
+    }
 
 -- the comments around a piece
 

@@ -3,7 +3,7 @@ use Rattle.std.proofs.Common.{rules}
 use Rattle.std.proofs.Common.{arith}
 use Rattle.std.proofs.Common.{◌≡◌, ℕ, Bool, true, false, ◌&&◌, ◌||◌, not, List, [], ◌∷◌, ◌++◌}
 use Rattle.std.proofs.Common.{Option, Some, None, inl, inr, flat_map, ◌⊎◌}
-use Rattle.std.proofs.Common.{sym, subst, if◌then◌else◌}
+use Rattle.std.proofs.Common.{sym, subst}
 use Rattle.std.specs.List.{AllByRecursion, last_or, list_all}
 use Rattle.std.specs.Option.{IfSome}
 use Rattle.c_tokens.specs.Bytes.{line_feed}
@@ -17,6 +17,8 @@ use Rattle.tangle_c_tokens.specs.Kinds.{item_kind, is_range, IsAlone, IsQuotedTe
 use Rattle.tangle_c_tokens.specs.Kinds.{AreTexts}
 use Rattle.tangle_c_tokens.specs.Groups.{Group, group_before, groups_after, group_text}
 use Rattle.tangle_c_tokens.specs.Macros.{text_of, stay_apart, IsReadAlone}
+use Rattle.c_tokens.proofs.JoinedLemmas.{IsOneLine}
+use Rattle.tangle_c_tokens.proofs.ListLemmas.{all-both}
 use Rattle.std.proofs.lemmas.Bool.Decides.{nat_tests}
 
 module _ (texts : List (List ℕ)) where
@@ -55,10 +57,6 @@ module _ (texts : List (List ℕ)) where
   of-written [] all = tt
   of-written (e ∷ es) all = with-first (written_tokens texts es) (of-written es all.1)
     where
-      last : (dropped : Bool) → HaveEdges (if dropped then [] else e ∷ [])
-      last true = search rules
-      last false = search rules
-
       with-first : (fs : List Token) → HaveEdges fs → HaveEdges (with_written texts e fs)
       with-first [] rest = search rules
       with-first (f ∷ fs) rest = search rules
@@ -80,6 +78,11 @@ module _ (texts : List (List ℕ)) where
         (next_item group.rest) ≡ true
     pub ended : next_item group.rest ≡ None
         → keep_lines (group_text texts group.items) (line_feed ∷ []) ≡ true
+    pub one : IsOneLine (group_text texts group.items)
+
+  -- a group that is read alone, on one line
+  abbrev IsAloneOnLine : Group → Type 0
+  IsAloneOnLine group = IsReadAlone texts group × IsOneLine (group_text texts group.items)
 
   apart-edges : (text : List ℕ) (e f : Option Token) → IfSome e HasItsEdges → IfSome f HasItsEdges →
       stay_apart texts text e f ≡ true → are_apart_at_edges text e f ≡ true
@@ -97,8 +100,8 @@ module _ (texts : List (List ℕ)) where
   next-edges (e ∷ es) all = all.0
 
   before-apart : (items rest : List Token) (gs : List Group) → HaveEdges items → HaveEdges rest →
-      (AllByRecursion (IsReadAlone texts) gs → AllByRecursion IsApart gs) →
-      AllByRecursion (IsReadAlone texts) (group_before rest items ++ gs)
+      (AllByRecursion IsAloneOnLine gs → AllByRecursion IsApart gs) →
+      AllByRecursion IsAloneOnLine (group_before rest items ++ gs)
       → AllByRecursion IsApart (group_before rest items ++ gs)
   before-apart items rest gs of_items of_rest next alone = search (rules, apart-edges, last-edges, next-edges)
 
@@ -108,7 +111,7 @@ module _ (texts : List (List ℕ)) where
   more-edges (x ∷ items) e all of_e = (all.0, more-edges items e all.1 of_e)
 
   groups-apart : (items es : List Token) → HaveEdges items → HaveEdges es →
-      AllByRecursion (IsReadAlone texts) (groups_after items es)
+      AllByRecursion IsAloneOnLine (groups_after items es)
       → AllByRecursion IsApart (groups_after items es)
   groups-apart items [] of_items all alone = grind (arith, nat_tests)
   groups-apart items (token.White ∷ es) of_items all alone =
@@ -123,5 +126,9 @@ module _ (texts : List (List ℕ)) where
   -- the groups of a macro that are read alone
   pub apart-groups : (es : List Token) → AreTexts texts es →
       AllByRecursion (IsReadAlone texts) (groups_after [] (written_tokens texts es)) →
+      AllByRecursion (λ group. IsOneLine (group_text texts group.items)) (groups_after [] (written_tokens texts es)) →
       AllByRecursion IsApart (groups_after [] (written_tokens texts es))
-  apart-groups es are = search (rules, groups-apart, of-written, of-texts)
+  apart-groups es are alone one =
+      let written = written_tokens texts es in
+      groups-apart [] written tt (of-written es (of-texts es are))
+      (all-both (IsReadAlone texts) (λ group. IsOneLine (group_text texts group.items)) (groups_after [] written) alone one)

@@ -2,11 +2,12 @@
 use Rattle.std.proofs.Common.{rules}
 use Rattle.std.proofs.Common.{arith}
 use Rattle.tangle_c_tokens.proofs.TextLemmas.{IsWholeLine}
-use Rattle.std.proofs.Common.{◌≡◌, ℕ, true, false, List, [], ◌∷◌}
+use Rattle.std.proofs.Common.{◌≡◌, ℕ, true, false, List, [], ◌∷◌, refl}
 use Rattle.std.proofs.Common.{◌++◌}
 use Rattle.std.proofs.Common.{◌==◌}
-use Rattle.c_tokens.specs.Bytes.{backslash}
-use Rattle.c_tokens.specs.Borders.{is_whole}
+use Rattle.c_tokens.specs.Bytes.{line_feed, backslash}
+use Rattle.c_tokens.specs.Borders.{keep_lines}
+use Rattle.c_tokens.specs.JoinedLines.{LinesAreWhole}
 use Rattle.tangle_expansion.specs.Numbers.{closing_bytes}
 use Rattle.tangle_c_tokens.specs.Edges.{last_byte_passes}
 use Rattle.tangle_c_tokens.proofs.CommentLemmas.{last-slash}
@@ -30,5 +31,9 @@ keeps-last (x ∷ y ∷ a) b c of_b = keeps-last (y ∷ a) b c of_b
 pub closing-keeps : (a : List ℕ) (section : ℕ) → KeepsFeed (a ++ closing_bytes section)
 closing-keeps a section = search (rules, keeps-last, last-slash)
 
-pub line-of : (t : List ℕ) → is_whole t ≡ true → KeepsFeed t → IsWholeLine t
-line-of t whole keeps = grind (arith, nat_tests)
+pub feed-kept : (t : List ℕ) → KeepsFeed t → keep_lines t (line_feed ∷ []) ≡ true
+feed-kept [] keeps = refl
+feed-kept (b ∷ bs) keeps = grind (arith, nat_tests)
+
+pub line-of : (t : List ℕ) → LinesAreWhole t → KeepsFeed t → IsWholeLine t
+line-of t lines keeps = record { lines = lines; kept = feed-kept t keeps }

@@ -1,6 +1,5 @@
 -- The tokens of the file of a node are those of its row.
 use Rattle.std.proofs.Common.{rules}
-use Rattle.std.proofs.Common.{arith}
 use Rattle.tangle_c_tokens.proofs.TextLemmas.{IsMarkText, IsWholeLine}
 use Rattle.tangle_c_tokens.proofs.MarkLemmas.{mark-is_line, mark_end-at, name-at}
 use Rattle.std.proofs.Common.{◌≡◌, ℕ, zero, suc, Bool, true, false, if◌then◌else◌, List, [], ◌∷◌}
@@ -27,18 +26,19 @@ use Rattle.tangle_expansion.specs.PieceBytes.{bytes_after_mark, piece_bytes, use
 use Rattle.tangle_expansion.proofs.SameShapes.{flat_by_uses}
 use Rattle.tangle_c_tokens.specs.Reading.{IsReadAsTexts}
 use Rattle.tangle_c_tokens.specs.Kinds.{AreTexts}
-use Rattle.tangle_c_tokens.proofs.kind_lemmas.WebTexts.{macros-texts}
+use Rattle.tangle_c_tokens.proofs.kind_lemmas.WebTexts.{macros-texts, pieces-texts}
 use Rattle.tangle_c_tokens.specs.Pieces.{passage_text}
 use Rattle.tangle_c_tokens.specs.Files.{FilesAreReadByParts, SourceHasNoLineFeed, IsWholePassage, MacrosAreReadAlone}
 use Rattle.tangle_c_tokens.specs.Files.{NodesAreReadByParts, ReachesWholePieces, numbers_in}
 use Rattle.tangle_c_tokens.specs.Files.{shapes_in, texts_of_node, row_of_node}
-use Rattle.tangle_c_tokens.proofs.ListLemmas.{each}
+use Rattle.tangle_c_tokens.proofs.ListLemmas.{all-both, each}
+use Rattle.c_tokens.specs.JoinedLines.{LinesAreWhole}
 use Rattle.digraph.specs.Reach.{here, on}
 use Rattle.tangle_c_tokens.proofs.TextLemmas.{no-text, feed-front, with-nothing}
 use Rattle.tangle_c_tokens.proofs.FeedLemmas.{KeepsFeed, line-of}
-use Rattle.tangle_c_tokens.proofs.AllMacroLemmas.{both, macros-keep, IsAlone, macros-whole}
+use Rattle.tangle_c_tokens.proofs.AllMacroLemmas.{macros-keep, IsAlone, macros-whole}
+use Rattle.tangle_c_tokens.proofs.OneLineLemmas.{texts-on_line}
 use Rattle.tangle_c_tokens.proofs.NodeLemmas.{pieces-keep, node-read}
-use Rattle.std.proofs.lemmas.Bool.Decides.{nat_tests}
 
 -- the bytes of a node are those of its pieces, as `nodes_are_written_by_pieces` of tangle_expansion
 -- has it
@@ -71,15 +71,15 @@ module _ (pieces : AreWrittenByPieces) (source : SourceRead) (modes : MarkMode)
   mark-lines : (origin : Origin) → IsMarkText (bytes_after_mark numbers origin)
   mark-lines origin = search (rules, mark_end-at, mark-is_line, name-at)
 
-  macros-alone : MacrosAreReadAlone source → AllByRecursion (IsAlone source.lines [] [] no-text) (all_macro_tokens source.lines)
-  macros-alone whole = both (AreTexts (texts_of source.lines)) _ _ (macros-texts source.lines feeds.lines) whole
+  macros-alone : MacrosAreReadAlone source → AllByRecursion (IsAlone source.lines [] [] no-text feeds.lines) (all_macro_tokens source.lines)
+  macros-alone whole = all-both (AreTexts (texts_of source.lines)) _ _ (macros-texts source.lines feeds.lines) whole
 
   macros-line : MacrosAreReadAlone source → IsWholeLine numbers.macros
   macros-line whole =
       let all =
-      macros-whole source.lines [] [] no-text
+      macros-whole source.lines [] [] no-text feeds.lines
       (blocks 0 (all_tokens source.lines)) (macros-alone whole) in
-      search (rules, line-of, macros-keep)
+      line-of numbers.macros (subst LinesAreWhole (append-nil numbers.macros) all.lines) (search (rules, macros-keep))
 
   abbrev texts_by : (List ℕ → List Symbol) → Title → List (List ℕ)
   texts_by used node =
@@ -101,15 +101,16 @@ module _ (pieces : AreWrittenByPieces) (source : SourceRead) (modes : MarkMode)
   node-by-parts used node whole names tail us read =
       subst (λ bytes. IsReadAsTexts (texts_by used node ++ us) (bytes ++ tail))
       (sym (written used node))
-      (node-read source numbers table used mark-lines macros-line node tail us read
-      (blocks 0 (all_tokens source.lines)) (whole, names))
+      (node-read source numbers table used mark-lines macros-line (texts-on_line source.lines feeds.lines) node tail us read
+      (blocks 0 (all_tokens source.lines)) (pieces-texts source.lines feeds.lines) (whole, names))
 
   node-keeps : (used : List ℕ → List Symbol) (node : Title)
       → KeepsFeed (expansion_bytes numbers (pieces_flat used node 0 (all_shapes node)))
   node-keeps used node =
       subst KeepsFeed
       (sym (written used node))
-      (pieces-keep source numbers table used mark-lines macros-line (pieces_of (web_of source) table node))
+      (pieces-keep source numbers table used mark-lines macros-line (texts-on_line source.lines feeds.lines)
+      (pieces_of (web_of source) table node))
 
   -- what a node reaches its names reach
   names-by : (used : List ℕ → List Symbol) (node : Title) → ReachesWholePieces source node
@@ -122,13 +123,13 @@ module _ (pieces : AreWrittenByPieces) (source : SourceRead) (modes : MarkMode)
   -- what a name expands to is whole, if it reaches whole pieces
   name-line : (fuel : ℕ) (name : List ℕ) → ReachesWholePieces source (Named name)
       → IsWholeLine (expansion_bytes numbers (flat fuel all_shapes (Named name)))
-  name-line zero name reaches = record { whole = refl; kept = refl }
+  name-line zero name reaches = record { lines = (refl, tt); kept = refl }
   name-line (suc fuel) name reaches =
       let used : List ℕ → List Symbol = λ name. flat fuel all_shapes (Named name) in
       let bytes : List ℕ = expansion_bytes numbers (flat (suc fuel) all_shapes (Named name)) in
       let read = node-by-parts used (Named name) (reaches (Named name) here)
       (names-by used (Named name) reaches (name-line fuel)) [] [] no-text in
-      grind (arith, nat_tests, append-nil bytes, node-keeps used)
+      line-of bytes (subst LinesAreWhole (append-nil bytes) read.lines) (node-keeps used (Named name))
 
   node-then : (node : Title) → IsExpandableNode all_shapes node → ReachesWholePieces source node
       → (tail : List ℕ) (us : List (List ℕ)) → IsReadAsTexts us tail →
@@ -169,5 +170,5 @@ module _ (pieces : AreWrittenByPieces) (source : SourceRead) (modes : MarkMode)
   file-is_read false has_piece node whole ready = node-in-file has_piece node ready
   file-is_read true has_piece node whole ready =
       macros-whole source.lines (bytes_in_file has_piece node) (if has_piece then texts_of_node source modes node else [])
-      (node-in-file has_piece node ready)
+      (node-in-file has_piece node ready) feeds.lines
       (blocks 0 (all_tokens source.lines)) (macros-alone (whole refl))

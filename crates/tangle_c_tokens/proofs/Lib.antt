@@ -2,13 +2,14 @@ pub mod kind_lemmas
 pub mod ListLemmas
 pub mod TextLemmas
 pub mod GroupLemmas
+pub mod DecimalLemmas
+pub mod OneLineLemmas
 pub mod EdgeLemmas
 pub mod MacroLemmas
 pub mod WebLemmas
 pub mod PieceLemmas
 pub mod WorkedMacros
 pub mod WorkedPieces
-pub mod DecimalLemmas
 pub mod CommentLemmas
 pub mod PartLemmas
 pub mod UseLemmas

@@ -1,10 +1,20 @@
 -- Lists of which each element has a property, by the library's lemmas of `All`.
-use Rattle.std.proofs.Common.{ℕ, List, [], ◌∷◌, ◌++◌, take, drop}
+use Rattle.std.proofs.Common.{ℕ, zero, suc, get_or, List, [], ◌∷◌, ◌++◌, take, drop}
 use Rattle.std.specs.List.{AllByRecursion, Contains}
 use Rattle.std.proofs.lemmas.List.Elements.{All-append, All-drop, All-from_recursion, All-take, Contains-get_or}
 use Rattle.std.proofs.lemmas.List.Elements.{recursion_from_All}
 
+pub all-both : {X : Type 0} (P Q : X → Type 0) (xs : List X) → AllByRecursion P xs → AllByRecursion Q xs
+    → AllByRecursion (λ x. P x × Q x) xs
+all-both P Q [] p q = tt
+all-both P Q (x ∷ xs) p q = ((p.0, q.0), all-both P Q xs p.1 q.1)
+
 module _ {X : Type 0} (P : X → Type 0) where
+  pub all-get : (xs : List X) (n : ℕ) (d : X) → P d → AllByRecursion P xs → P (get_or xs n d)
+  all-get [] n d of_d h = of_d
+  all-get (x ∷ xs) zero d of_d h = h.0
+  all-get (x ∷ xs) (suc n) d of_d h = all-get xs n d of_d h.1
+
   pub all-append : (xs ys : List X) → AllByRecursion P xs → AllByRecursion P ys → AllByRecursion P (xs ++ ys)
   all-append xs ys h k =
       recursion_from_All P _ (All-append P xs ys (All-from_recursion P xs h) (All-from_recursion P ys k))

@@ -28,6 +28,8 @@ use Rattle.tangle_c_tokens.specs.Groups.{Group, group_before, groups_after, grou
 use Rattle.tangle_c_tokens.specs.Macros.{text_of, IsReadAlone, IsReadByGroups}
 use Rattle.tangle_c_tokens.proofs.EdgeLemmas.{are_apart_at_edges, IsApart, apart-groups}
 use Rattle.tangle_c_tokens.proofs.kind_lemmas.TableKinds.{same-table}
+use Rattle.tangle_c_tokens.proofs.OneLineLemmas.{IsGroupOnLine}
+use Rattle.c_tokens.proofs.JoinedLemmas.{lines-one}
 use Rattle.tangle_c_tokens.proofs.GroupLemmas.{last-item, group-one}
 use Rattle.tangle_c_tokens.proofs.TextLemmas.{feed-between, feed-front, space-between}
 use Rattle.tangle_c_tokens.proofs.TextLemmas.{taken-between, kinds-border}
@@ -141,7 +143,8 @@ module _ (texts : List (List ℕ)) (tail : List ℕ) (ts : List (List ℕ))
   at-end : (in_name white : Bool) → ReadsAfter in_name white []
   at-end in_name white items e alone rest =
       let t = group_text texts (items ++ e ∷ []) in
-      grind (arith, nat_tests, feed-between t)
+      with-text t tail (t ++ line_feed ∷ tail) ts
+      (feed-between t tail (lines-one t alone.whole alone.one) (alone.ended refl)) read
 
   at-line_end : (line : ℕ) (es : List Token) → ReadsFront es → (in_name white : Bool)
       → ReadsAfter in_name white (token.LineEnd line ∷ es)
@@ -165,14 +168,15 @@ module _ (texts : List (List ℕ)) (tail : List ℕ) (ts : List (List ℕ))
           let next = front false false rest in
           with-text t (backslash ∷ line_feed ∷ after) (t ++ space ∷ backslash ∷ line_feed ∷ after)
           (texts_in (groups_after [] es) ++ ts)
-          (space-between t (backslash ∷ line_feed ∷ after) alone.whole)
-          (record { read = next.read; whole = next.whole })
+          (space-between t (backslash ∷ line_feed ∷ after) alone.whole alone.one)
+          (with-nothing after (backslash ∷ line_feed ∷ after) (texts_in (groups_after [] es) ++ ts)
+          (taken-between [] after refl refl refl) next)
       by false is =
           let t = group_text texts (items ++ e ∷ []) in
           let after = bytes_from false None false es in
           with-text t after (t ++ backslash ∷ line_feed ∷ after)
           (texts_in (groups_after [] es) ++ ts)
-          (taken-between t after alone.whole
+          (taken-between t after alone.whole alone.one
           (front-border (spliced t) false false es
           (meets-if_no_blank in_name items e (next_item es) is apart)))
           (front false false rest)
@@ -199,7 +203,7 @@ module _ (texts : List (List ℕ)) (tail : List ℕ) (ts : List (List ℕ))
         subst (IsReadAsTexts (t ∷ texts_in (groups_after [] (e ∷ es)) ++ ts))
         (sym (ap (λ bs. t ++ bs) (search (rules, macro_blanks-item, item-bytes))))
         (with-text t after (t ++ space ∷ after) (texts_in (groups_after [] (e ∷ es)) ++ ts)
-        (space-between t after alone.whole)
+        (space-between t after alone.whole alone.one)
         (first (in_name && false && is_name_part e) rest));
   }
     where
@@ -242,7 +246,10 @@ module _ (texts : List (List ℕ)) (tail : List ℕ) (ts : List (List ℕ))
   reads (token.LineEnd line ∷ es) =
       let next = reads es in
       record {
-        front = search rules;
+        front = λ in_name white alone.
+            let after = bytes_from false None false es in
+            with-nothing after (backslash ∷ line_feed ∷ after) (texts_in (groups_after [] es) ++ ts)
+            (taken-between [] after refl refl refl) (next.front false false alone);
         within = λ in_name items e. closed items e (token.LineEnd line ∷ es)
             (group_text texts (items ++ e ∷ []) ++ bytes_from in_name (Some e) false
             (token.LineEnd line ∷ es)) (groups_after [] es)
@@ -257,9 +264,10 @@ module _ (texts : List (List ℕ)) (tail : List ℕ) (ts : List (List ℕ))
 
   pub macro-by-groups : (es : List Token) → AreTexts texts es →
       AllByRecursion (IsReadAlone texts) (groups (written_tokens texts es)) →
+      AllByRecursion (IsGroupOnLine texts) (groups (written_tokens texts es)) →
       IsReadAsTexts (codes "#define" ∷ texts_in (groups (written_tokens texts es)) ++ ts)
       (macro_bytes texts (unmarked_items (macro_blanks texts true None false es)) ++ tail)
-  macro-by-groups es are alone =
+  macro-by-groups es are alone one =
       let written = written_tokens texts es in
       let text = flat_map (macro_item_bytes texts)
       (items_from texts true None false written) in
@@ -268,17 +276,18 @@ module _ (texts : List (List ℕ)) (tail : List ℕ) (ts : List (List ℕ))
       (with-text (codes "#define") (bytes_from true None false written)
       (codes "#define " ++ bytes_from true None false written)
       (texts_in (groups written) ++ ts)
-      (space-between (codes "#define") (bytes_from true None false written) define-whole)
-      ((reads written).front true false (apart-groups texts es are alone)))
+      (space-between (codes "#define") (bytes_from true None false written) define-whole refl)
+      ((reads written).front true false (apart-groups texts es are alone one)))
 
 -- the bytes of a macro alone
 pub one-macro : (texts : List (List ℕ)) (es : List Token) → AreTexts texts es →
+    AllByRecursion (IsGroupOnLine texts) (groups (written_tokens texts es)) →
     IsReadByGroups texts es
     (macro_bytes texts (unmarked_items (macro_blanks texts true None false es)))
-one-macro texts es are alone =
+one-macro texts es are one alone =
     let text = macro_bytes texts
     (unmarked_items (macro_blanks texts true None false es)) in
     let of_groups = map (λ (g : Group). group_text texts g.items) (groups (written_tokens texts es)) in
     subst (λ ts. IsReadAsTexts ts text) (append-nil (codes "#define" ∷ of_groups))
     (subst (IsReadAsTexts (codes "#define" ∷ of_groups ++ [])) (append-nil text)
-    (macro-by-groups texts [] [] no-text es are alone))
+    (macro-by-groups texts [] [] no-text es are alone one))

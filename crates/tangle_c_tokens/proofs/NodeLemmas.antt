@@ -35,7 +35,9 @@ use Rattle.tangle_c_tokens.specs.Files.{IsWholePassage, MacrosAreReadAlone, node
 use Rattle.tangle_c_tokens.proofs.TextLemmas.{feed-front, follows-same, with-mark, with-nothing}
 use Rattle.tangle_c_tokens.proofs.CommentLemmas.{after-opening, after-closing}
 use Rattle.tangle_c_tokens.proofs.PieceLemmas.{piece-by-parts}
-use Rattle.tangle_c_tokens.proofs.PartLemmas.{IsWholeText, row-whole, uses-whole}
+use Rattle.tangle_c_tokens.specs.Kinds.{AreTexts}
+use Rattle.tangle_c_tokens.proofs.OneLineLemmas.{AreOnLine}
+use Rattle.tangle_c_tokens.proofs.PartLemmas.{IsWholeText, row-whole, ready, uses-whole}
 use Rattle.tangle_c_tokens.proofs.UseLemmas.{IsWholeName, names_in, part-uses-whole}
 use Rattle.tangle_c_tokens.proofs.ListLemmas.{all-back, all-front}
 use Rattle.tangle_c_tokens.proofs.FeedLemmas.{KeepsFeed, keeps-more, closing-keeps}
@@ -50,7 +52,8 @@ grouped o m i c rest = simp append_assoc
 module _ (source : SourceRead) (numbers : NumbersRead) (table : TableRead)
     (used : List ℕ → List Symbol)
     (marks : (origin : Origin) → IsMarkText (bytes_after_mark numbers origin))
-    (macros_whole : MacrosAreReadAlone source → IsWholeLine numbers.macros) where
+    (macros_whole : MacrosAreReadAlone source → IsWholeLine numbers.macros)
+    (on_line : (es : List Token) → AreTexts (texts_of source.lines) es → AreOnLine (texts_of source.lines) false es) where
   abbrev lines : List SourceLine
   lines = source.lines
 
@@ -87,11 +90,14 @@ module _ (source : SourceRead) (numbers : NumbersRead) (table : TableRead)
       row_after (texts_of lines) [] (flat_map mark_place (part_items lines line es)) (part_tokens (texts_of lines) es)
 
   -- the row with what is written for uses
-  row-of : (line : ℕ) (es : List Token) → AreWhole (part_row line es) → AreWholeNames (part_items lines line es)
+  row-of : (line : ℕ) (es : List Token) → AreTexts (texts_of lines) (part_tokens (texts_of lines) es)
+      → AreWhole (part_row line es) → AreWholeNames (part_items lines line es)
       → AllByRecursion (IsWholeText (texts_of lines) written numbers.macros) (part_row line es)
-  row-of line es whole names =
+  row-of line es are whole names =
       row-whole source written numbers.macros macros_whole [] (flat_map mark_place (part_items lines line es))
-      (part_tokens (texts_of lines) es) refl
+      (part_tokens (texts_of lines) es)
+      (ready source written numbers.macros macros_whole (part_tokens (texts_of lines) es)
+      (on_line (part_tokens (texts_of lines) es) are))
       (uses-whole source written numbers.macros macros_whole (part_tokens (texts_of lines) es)
       (part-uses-whole lines numbers table used line es names))
       whole
@@ -100,9 +106,10 @@ module _ (source : SourceRead) (numbers : NumbersRead) (table : TableRead)
   piece-read : (section line : ℕ) (occurrence : Option ℕ) (es : List Token) (rest : List ℕ) (ts : List (List ℕ)) →
       let piece : PieceRead = part_piece section occurrence line es in
       let row : List Passage = row_of_piece (texts_of lines) piece (part_tokens (texts_of lines) es) in
-      AreWhole row → AreWholeNames piece.items → IsReadAsTexts ts rest
+      AreTexts (texts_of lines) (part_tokens (texts_of lines) es)
+      → AreWhole row → AreWholeNames piece.items → IsReadAsTexts ts rest
       → IsReadAsTexts (texts_in row ++ ts) (bytes_of piece ++ rest)
-  piece-read section line occurrence es rest ts whole names read =
+  piece-read section line occurrence es rest ts are whole names read =
       let origin = origin_at lines line in
       let opening = opening_bytes section in
       let items = items_bytes numbers table used (texts_of lines) (part_items lines line es) in
@@ -118,7 +125,7 @@ module _ (source : SourceRead) (numbers : NumbersRead) (table : TableRead)
       (with-mark (mark origin) (items ++ tail) us (marks origin)
       (piece-by-parts lines written mark numbers.macros marks tail ts
       (with-nothing rest tail ts (after-closing section rest) read)
-      (λ a whole ends. (search (rules, apart-from, keep-other, slash-border))) line es (row-of line es whole.1 names))))
+      (λ a whole one ends. (search (rules, apart-from, keep-other, slash-border))) line es (row-of line es are whole.1 names))))
 
   -- the bytes of pieces do not end in a backslash
   pub pieces-keep : (pieces : List PieceRead) → KeepsFeed (flat_map bytes_of pieces)
@@ -143,14 +150,14 @@ module _ (source : SourceRead) (numbers : NumbersRead) (table : TableRead)
         (shape_names (shape_of (texts_of lines) table (filter (is_piece_of table node) pieces)))
 
     abbrev pub IsRead : List PieceRead → List (List Token) → Type 0
-    IsRead pieces tokens = AreReady pieces tokens
+    IsRead pieces tokens = AllByRecursion (AreTexts (texts_of lines)) tokens → AreReady pieces tokens
         → IsReadAsTexts (texts_in (row_in pieces tokens) ++ us) (node_bytes pieces)
 
     pub node-read : (bs : List Block) →
         IsRead (flat_map (piece_of lines) bs)
         (flat_map (λ b. map (λ p. part_tokens (texts_of lines) b.tokens) (piece_of lines b)) bs)
-    node-read [] ready = tail_read
-    node-read (b ∷ bs) ready = by b.kind (node-read bs) ready
+    node-read [] are ready = tail_read
+    node-read (b ∷ bs) are ready = by b.kind (node-read bs) are ready
       where
         all : List PieceRead
         all = flat_map (piece_of lines) bs
@@ -164,7 +171,8 @@ module _ (source : SourceRead) (numbers : NumbersRead) (table : TableRead)
 
         chosen : (line : ℕ) (occurrence : Option ℕ) (is : Bool)
             → let piece : PieceRead = part_piece b.section occurrence line b.tokens in
-            IsRead all each
+            AreTexts (texts_of lines) es
+            → (AreReady all each → IsReadAsTexts (texts_in (row_in all each) ++ us) (node_bytes all))
             → AreWhole ((if is then row_of_piece (texts_of lines) piece es else []) ++ row_in all each)
             → AllByRecursion (IsWholeName lines numbers table used)
             (shape_names (shape_of (texts_of lines) table
@@ -174,7 +182,7 @@ module _ (source : SourceRead) (numbers : NumbersRead) (table : TableRead)
             (flat_map bytes_of
             (cond is (piece ∷ filter (is_piece_of table node) all)
             (filter (is_piece_of table node) all)) ++ tail)
-        chosen line occurrence true next whole names =
+        chosen line occurrence true are next whole names =
             let piece : PieceRead = part_piece b.section occurrence line b.tokens in
             let row = row_of_piece (texts_of lines) piece es in
             let own = names_in lines numbers table used piece.items in
@@ -185,15 +193,15 @@ module _ (source : SourceRead) (numbers : NumbersRead) (table : TableRead)
             subst (λ us. IsReadAsTexts us ((bytes_of piece ++ later) ++ tail))
             (sym (ap (λ ws. ws ++ us) (map-append (passage_text (texts_of lines) written numbers.macros mark) row (row_in all each)) ∙ append_assoc (texts_in row) ts us))
             (subst (IsReadAsTexts (texts_in row ++ (ts ++ us))) (sym (append_assoc (bytes_of piece) later tail))
-            (piece-read b.section line occurrence b.tokens (later ++ tail) (ts ++ us)
+            (piece-read b.section line occurrence b.tokens (later ++ tail) (ts ++ us) are
             (all-front (IsWholePassage source) row (row_in all each) whole) (all-front IsName own others names)
             (next (all-back (IsWholePassage source) row (row_in all each) whole, all-back IsName own others names))))
-        chosen line occurrence false next whole names = next (whole, names)
+        chosen line occurrence false are next whole names = next (whole, names)
 
         by : (kind : BlockKind) → IsRead all each →
             IsRead (kind_piece lines kind b ++ all)
             (map (λ p. part_tokens (texts_of lines) b.tokens) (kind_piece lines kind b) ++ each)
-        by (OfMacro line) next ready = next ready
-        by (OfPiece occurrence line) next ready =
-            chosen line occurrence (is_piece_of table node (part_piece b.section occurrence line b.tokens)) next ready.0
-            ready.1
+        by (OfMacro line) next are ready = next are ready
+        by (OfPiece occurrence line) next are ready =
+            chosen line occurrence (is_piece_of table node (part_piece b.section occurrence line b.tokens)) are.0
+            (next are.1) ready.0 ready.1

@@ -1,19 +1,26 @@
 -- A row is whole whatever whole texts are written for uses, if its groups of items are.
 use Rattle.std.proofs.Common.{rules}
 use Rattle.std.proofs.Common.{arith}
+use Rattle.tangle_c_tokens.proofs.GroupLemmas.{last-item}
+use Rattle.tangle_c_tokens.proofs.OneLineLemmas.{AreOnLine, more-on_line}
 use Rattle.tangle_c_tokens.proofs.TextLemmas.{IsWholeLine}
+use Rattle.c_tokens.specs.JoinedLines.{LinesAreWhole}
+use Rattle.c_tokens.proofs.JoinedLemmas.{IsOneLine, ends_back, feeds_taken, back-append, taken-append, back-more}
+use Rattle.c_tokens.proofs.JoinedLemmas.{lines-one, lines-whole}
 use Rattle.std.proofs.Common.{◌≡◌, ℕ, Bool, true, false, ◌&&◌, not, if◌then◌else◌, List, [], ◌∷◌}
-use Rattle.std.proofs.Common.{◌++◌, refl, sym, subst, None}
+use Rattle.std.proofs.Common.{◌++◌, refl, ap, sym, ◌∙◌, subst, Option, Some, None}
+use Rattle.std.specs.Prelude.{◌||◌}
 use Rattle.std.proofs.Common.{append-nil, flat_map, map, drop, get_or}
 use Rattle.std.specs.List.{AllByRecursion, last_or, list_all}
-use Rattle.std.proofs.lemmas.Bool.{and_from}
+use Rattle.std.proofs.lemmas.Bool.{and_from, false≢true}
+use Rattle.std.proofs.lemmas.List.Concat.{flat_map-append}
 use Rattle.tangle_lexer.specs.declared.tokens.Token.{Token}
 use Rattle.tangle_lexer.specs.declared.tokens.Token.TheVariants as token
 use Rattle.tangle_lines.specs.declared.origin.Origin.{Origin}
 use Rattle.tangle_lines.specs.Reading.{SourceRead}
-use Rattle.tangle_scan.specs.Rules.{texts_of, is_continued, ends_line}
+use Rattle.tangle_scan.specs.Rules.{texts_of, is_continued, is_open, ends_line}
 use Rattle.tangle_scan.specs.ReadAsMeant.{token_bytes}
-use Rattle.tangle_c_tokens.specs.Groups.{group_before}
+use Rattle.tangle_c_tokens.specs.Groups.{Group, group_before}
 use Rattle.tangle_lexer.specs.LinesOfParts.{is_use}
 use Rattle.tangle_c_tokens.specs.Pieces.{Passage, OfPart, OfMark, row_after, written_for, part_text}
 use Rattle.tangle_c_tokens.specs.Pieces.{IsWholePart}
@@ -25,9 +32,20 @@ abbrev pub token_uses : Token → List ℕ
 token_uses (token.UseOf line occurrence) = occurrence ∷ []
 token_uses _ = []
 
+abbrev pub ends_in_use : Option Token → Bool
+ends_in_use None = false
+ends_in_use (Some e) = is_use e
+
+-- A part is whole with what is written for uses, and so is each line of it. It has one line, if it is
+-- no use.
+pub record IsWholeWritten (texts : List (List ℕ)) (used : ℕ → List ℕ) (macros : List ℕ) (part : Group) : Type 0 where
+  pub all : IsWholePart texts used macros part
+  pub lines : LinesAreWhole (part_text texts used macros part.items)
+  pub one : ends_in_use (last_or None part.items) ≡ false → IsOneLine (part_text texts used macros part.items)
+
 -- a passage is whole with what is written for uses
 abbrev pub IsWholeText : List (List ℕ) → (ℕ → List ℕ) → List ℕ → Passage → Type 0
-IsWholeText texts used macros (OfPart part) = IsWholePart texts used macros part
+IsWholeText texts used macros (OfPart part) = IsWholeWritten texts used macros part
 IsWholeText texts used macros (OfMark origin) = Unit {0}
 
 module _ (source : SourceRead) (used : ℕ → List ℕ) (macros : List ℕ)
@@ -65,16 +83,26 @@ module _ (source : SourceRead) (used : ℕ → List ℕ) (macros : List ℕ)
   same-text [] are = refl
   same-text (e ∷ items) are = grind (arith, nat_tests, same-text items)
 
-  whole-group : (items rest : List Token) → AreItems items
+  same-part : (items rest : List Token) → AreItems items
       → IsWholePart texts (λ occurrence. []) [] (record { items = items; rest = rest })
       → IsWholePart texts used macros (record { items = items; rest = rest })
-  whole-group items rest are bare = grind (arith, nat_tests, same-text items are)
+  same-part items rest are bare = grind (arith, nat_tests, same-text items are)
 
-  whole-groups : (items rest : List Token) (row : List Passage) → AreItems items
+  abbrev text : List Token → List ℕ
+  text items = part_text texts used macros items
+
+  whole-group : (items rest : List Token) → AreItems items → IsOneLine (text items)
+      → IsWholePart texts (λ occurrence. []) [] (record { items = items; rest = rest })
+      → IsWholeWritten texts used macros (record { items = items; rest = rest })
+  whole-group items rest are one bare =
+      let part = same-part items rest are bare in
+      record { all = part; lines = lines-one (text items) part.whole one; one = λ none. one }
+
+  whole-groups : (items rest : List Token) (row : List Passage) → AreItems items → IsOneLine (text items)
       → AreBare (map OfPart (group_before rest items) ++ row) → (AreBare row → AreWhole row)
       → AreWhole (map OfPart (group_before rest items) ++ row)
-  whole-groups [] rest row are bare next = next bare
-  whole-groups (e ∷ items) rest row are bare next = (whole-group (e ∷ items) rest are bare.0.0, next bare.1)
+  whole-groups [] rest row are one bare next = next bare
+  whole-groups (e ∷ items) rest row are one bare next = (whole-group (e ∷ items) rest are one bare.0.0, next bare.1)
 
   whole-marks : (origins : List Origin) (row : List Passage) → (AreBare row → AreWhole row)
       → AreBare (map OfMark origins ++ row) → AreWhole (map OfMark origins ++ row)
@@ -89,18 +117,78 @@ module _ (source : SourceRead) (used : ℕ → List ℕ) (macros : List ℕ)
   more-items [] e are item = and_from (not (is_use e)) true item refl
   more-items (x ∷ items) e are item = grind (arith, nat_tests, more-items items)
 
-  pub row-whole : (items : List Token) (places : List (List Origin)) (es : List Token) → AreItems items
+  -- what is written for a use or @h by itself
+  use-whole : (e : Token) (rest : List Token) → is_use e ≡ true → IsWholeLine (text (e ∷ []))
+      → IsWholeWritten texts used macros (record { items = e ∷ []; rest = rest })
+  use-whole e rest is line = record {
+    all = record {
+      whole = lines-whole (text (e ∷ [])) line.lines;
+      kept = λ follows. line.kept;
+      ended = λ last closed. absurd (false≢true (sym (ap (λ b. not b && not (is_open texts (Some e))) is) ∙ closed));
+    };
+    lines = line.lines;
+    one = λ none. absurd (false≢true (sym none ∙ is));
+  }
+
+  -- The items of a group before these tokens have no use, and are on one line. A last item that
+  -- continues its line ends in a backslash.
+  pub record AreReady (items es : List Token) : Type 0 where
+    pub are : AreItems items
+    pub one : IsOneLine (text items)
+    pub back : is_continued texts (last_or None items) ≡ true → ends_back false (text items) ≡ true
+    pub later : AreOnLine texts (ends_back false (text items)) es
+
+  -- no items before these tokens
+  pub ready : (es : List Token) → AreOnLine texts false es → AreReady [] es
+  ready es later = record { are = refl; one = refl; back = λ back. absurd (false≢true back); later = later }
+
+  text-more : (items : List Token) (e : Token)
+      → text (items ++ e ∷ []) ≡ text items ++ token_bytes texts (written_for texts used macros) e
+  text-more items e = search (rules, flat_map-append)
+
+  -- one more item
+  item-ready : (items : List Token) (e : Token) (es : List Token) → AreReady items (e ∷ es) → not (is_use e) ≡ true
+      → (let t = token_bytes texts (written_for texts used macros) e in
+      (feeds_taken (ends_back false (text items)) t ≡ true)
+      × ((is_continued texts (Some e) ≡ true → ends_back false t ≡ true)
+      × AreOnLine texts (ends_back (ends_back false (text items)) t) es))
+      → AreReady (items ++ e ∷ []) es
+  item-ready items e es before item of_e =
+      let t = token_bytes texts (written_for texts used macros) e in
+      let ends = ap (ends_back false) (text-more items e) ∙ back-append false (text items) t in
+      record {
+        are = more-items items e before.are item;
+        one = ap (feeds_taken false) (text-more items e) ∙ taken-append false (text items) t
+            ∙ and_from _ _ before.one of_e.0;
+        back = λ back. ends ∙ back-more (ends_back false (text items)) t
+            (of_e.1.0 (ap (is_continued texts) (sym (last-item None items e)) ∙ back));
+        later = subst (λ b. AreOnLine texts b es) (sym ends) of_e.1.1;
+      }
+
+  -- a line end that the author continues
+  end-ready : (items : List Token) (line : ℕ) (es : List Token) → AreReady items (token.LineEnd line ∷ es)
+      → is_continued texts (last_or None items) ≡ true → AreReady (items ++ token.LineEnd line ∷ []) es
+  end-ready items line es before is =
+      item-ready items (token.LineEnd line) es before refl (
+        ap (λ b. (false || b) && true) (before.back is),
+        ((λ back. absurd (false≢true back)), before.later),
+      )
+
+  pub row-whole : (items : List Token) (places : List (List Origin)) (es : List Token) → AreReady items es
       → AllByRecursion IsWholeUse es → AreBare (row_after texts items places es)
       → AreWhole (row_after texts items places es)
-  row-whole items places [] are uses bare = alone items are bare
+  row-whole items places [] before uses bare = alone items before.are before.one bare
     where
-      alone : (items : List Token) → AreItems items → AreBare (map OfPart (group_before [] items))
+      alone : (items : List Token) → AreItems items → IsOneLine (text items) → AreBare (map OfPart (group_before [] items))
           → AreWhole (map OfPart (group_before [] items))
-      alone [] are bare = tt
-      alone (e ∷ items) are bare = (whole-group (e ∷ items) [] are bare.0.0, tt)
-  row-whole items places (token.White ∷ es) are uses bare =
-      by (is_continued texts (last_or None items) && ends_line es) (row-whole items places es are uses.1)
-      (row-whole [] places es refl uses.1) bare
+      alone [] are one bare = tt
+      alone (e ∷ items) are one bare = (whole-group (e ∷ items) [] are one bare.0.0, tt)
+  row-whole items places (token.White ∷ es) before uses bare =
+      by (is_continued texts (last_or None items) && ends_line es)
+      (row-whole items places es
+      (record { are = before.are; one = before.one; back = before.back; later = more-on_line texts es _ before.later })
+      uses.1)
+      (row-whole [] places es (ready es before.later) uses.1) bare
     where
       own : List Passage
       own = row_after texts items places es
@@ -112,12 +200,11 @@ module _ (source : SourceRead) (used : ℕ → List ℕ) (macros : List ℕ)
           let row : List Passage = if b then own else map OfPart (group_before (token.White ∷ es) items) ++ next in
           AreBare row → AreWhole row
       by true same later bare = same bare
-      by false same later bare = whole-groups items (token.White ∷ es) next are bare later
-  row-whole items places (token.LineEnd line ∷ es) are uses bare =
-      by (is_continued texts (last_or None items))
-      (row-whole (items ++ token.LineEnd line ∷ []) (drop 1 places) es
-      (more-items items (token.LineEnd line) are refl) uses.1)
-      (whole-marks (get_or places 0 []) _ (row-whole [] (drop 1 places) es refl uses.1)) bare
+      by false same later bare = whole-groups items (token.White ∷ es) next before.are before.one bare later
+  row-whole items places (token.LineEnd line ∷ es) before uses bare =
+      by (is_continued texts (last_or None items)) refl
+      (λ is. row-whole (items ++ token.LineEnd line ∷ []) (drop 1 places) es (end-ready items line es before is) uses.1)
+      (whole-marks (get_or places 0 []) _ (row-whole [] (drop 1 places) es (ready es before.later) uses.1)) bare
     where
       more : List Passage
       more = row_after texts (items ++ token.LineEnd line ∷ []) (drop 1 places) es
@@ -125,30 +212,33 @@ module _ (source : SourceRead) (used : ℕ → List ℕ) (macros : List ℕ)
       next : List Passage
       next = map OfMark (get_or places 0 []) ++ row_after texts [] (drop 1 places) es
 
-      by : (b : Bool) → (AreBare more → AreWhole more) → (AreBare next → AreWhole next) →
+      by : (b : Bool) → is_continued texts (last_or None items) ≡ b
+          → (is_continued texts (last_or None items) ≡ true → AreBare more → AreWhole more)
+          → (AreBare next → AreWhole next) →
           let row : List Passage = if b then more else map OfPart (group_before (token.LineEnd line ∷ es) items) ++ next in
           AreBare row → AreWhole row
-      by true same later bare = same bare
-      by false same later bare = whole-groups items (token.LineEnd line ∷ es) next are bare later
-  row-whole items places (token.UseOf line occurrence ∷ es) are uses bare =
+      by true is same later bare = same is bare
+      by false is same later bare = whole-groups items (token.LineEnd line ∷ es) next before.are before.one bare later
+  row-whole items places (token.UseOf line occurrence ∷ es) before uses bare =
       let e = token.UseOf line occurrence in
       let of_use = use-line (used occurrence) uses.0 in
       whole-groups items (e ∷ es)
       (OfPart (record { items = e ∷ []; rest = es })
-      ∷ (map OfMark (get_or places 0 []) ++ row_after texts [] (drop 1 places) es)) are bare
+      ∷ (map OfMark (get_or places 0 []) ++ row_after texts [] (drop 1 places) es)) before.are before.one bare
       (λ rest. (
-        search rules,
-        whole-marks (get_or places 0 []) _ (row-whole [] (drop 1 places) es refl uses.1) rest.1,
+        use-whole e es refl of_use,
+        whole-marks (get_or places 0 []) _ (row-whole [] (drop 1 places) es (ready es before.later) uses.1) rest.1,
       ))
-  row-whole items places (token.AllMacros line ∷ es) are uses bare =
+  row-whole items places (token.AllMacros line ∷ es) before uses bare =
       let e = token.AllMacros line in
       whole-groups items (e ∷ es)
       (OfPart (record { items = e ∷ []; rest = es })
-      ∷ (map OfMark (get_or places 0 []) ++ row_after texts [] (drop 1 places) es)) are bare
+      ∷ (map OfMark (get_or places 0 []) ++ row_after texts [] (drop 1 places) es)) before.are before.one bare
       (λ rest.
       let of_use = use-line macros (macros_whole (rest.0.1 refl)) in (
-        search rules,
-        whole-marks (get_or places 0 []) _ (row-whole [] (drop 1 places) es refl uses.1) rest.1,
+        use-whole e es refl of_use,
+        whole-marks (get_or places 0 []) _ (row-whole [] (drop 1 places) es (ready es before.later) uses.1) rest.1,
       ))
-  row-whole items places (e ∷ es) are uses bare =
-      assumption (row-whole (items ++ e ∷ []) places es (more-items items e are refl) uses.1 bare)
+  row-whole items places (e ∷ es) before uses bare =
+      row-whole (items ++ e ∷ []) places es
+      (item-ready items e es before refl (before.later.0.taken, (before.later.0.back, before.later.1))) uses.1 bare

@@ -38,7 +38,8 @@ use Rattle.tangle_c_tokens.specs.Pieces.{begins_with_macros, mark_place, Passage
 use Rattle.tangle_c_tokens.specs.Pieces.{written_for, part_text, passage_text}
 use Rattle.tangle_c_tokens.specs.Pieces.{IsWholePart}
 use Rattle.tangle_c_tokens.proofs.GroupLemmas.{last-item, group-one}
-use Rattle.tangle_c_tokens.proofs.PartLemmas.{IsWholeText}
+use Rattle.tangle_c_tokens.proofs.PartLemmas.{IsWholeText, IsWholeWritten, ends_in_use}
+use Rattle.c_tokens.proofs.JoinedLemmas.{IsOneLine, lines-one}
 use Rattle.tangle_c_tokens.proofs.TextLemmas.{Follows, follows-same, feed-between, feed-front}
 use Rattle.tangle_c_tokens.proofs.TextLemmas.{space-between, space-front, with-text, with-mark, with-nothing}
 use Rattle.std.proofs.lemmas.Bool.Decides.{nat_tests}
@@ -51,7 +52,7 @@ has_slash t = last_byte_passes (λ b. b == slash) (spliced t)
 module _ (lines : List SourceLine) (used : ℕ → List ℕ) (mark : Origin → List ℕ) (macros : List ℕ)
     (marks : (origin : Origin) → IsMarkText (mark origin))
     (tail : List ℕ) (ts : List (List ℕ)) (tail_read : IsReadAsTexts ts tail)
-    (closes : (t : List ℕ) → is_whole t ≡ true → has_slash t ≡ false
+    (closes : (t : List ℕ) → is_whole t ≡ true → IsOneLine t → has_slash t ≡ false
     → Follows t tail (t ++ tail)) where
   abbrev texts : List (List ℕ)
   texts = texts_of lines
@@ -224,6 +225,7 @@ module _ (lines : List SourceLine) (used : ℕ → List ℕ) (mark : Origin → 
   ReadsAfter white es = (at : At) (items : List Token) (e : Token)
       → is_continued_at e es ≡ false →
       is_whole (text (items ++ e ∷ [])) ≡ true →
+      IsOneLine (text (items ++ e ∷ [])) →
       (ends_line es ≡ true → keep_lines (text (items ++ e ∷ [])) (line_feed ∷ []) ≡ true) →
       (next_item es ≡ None → is_open texts (Some e) ≡ false
       → has_slash (text (items ++ e ∷ [])) ≡ false) →
@@ -239,7 +241,7 @@ module _ (lines : List SourceLine) (used : ℕ → List ℕ) (mark : Origin → 
 
   -- from after a group to what is directly after an item
   closed : (items : List Token) (e : Token) (rest : List Token) (bytes : List ℕ) (row : List Passage) →
-      (IsWholePart texts used macros (record { items = items ++ e ∷ []; rest = rest })
+      (IsWholeWritten texts used macros (record { items = items ++ e ∷ []; rest = rest })
       → AreWhole row → IsReadAsTexts (text (items ++ e ∷ []) ∷ texts_in row ++ ts) bytes) →
       ReadsAs (map OfPart (group_before rest (items ++ e ∷ [])) ++ row) bytes
   closed items e rest bytes row reads = grind (arith, nat_tests, group-one items e rest)
@@ -251,36 +253,43 @@ module _ (lines : List SourceLine) (used : ℕ → List ℕ) (mark : Origin → 
       → has_slash (text (items ++ e ∷ [])) ≡ false
   ended-part items e rest item whole last closed = grind (arith, nat_tests, last-item None items e)
 
+  -- a part whose last item is no use has one line
+  part-one : (items : List Token) (e : Token) (rest : List Token) → is_use e ≡ false →
+      IsWholeWritten texts used macros (record { items = items ++ e ∷ []; rest = rest }) →
+      IsOneLine (text (items ++ e ∷ []))
+  part-one items e rest item whole = whole.one (ap ends_in_use (last-item None items e) ∙ item)
+
   ends-alone : (e : Token) (es : List Token) → ends_line es ≡ false → is_continued_at e es ≡ true → ⊥
   ends-alone e es none is = false≢true (sym none ∙ (and_parts (is_continued texts (Some e)) (ends_line es) is).1)
 
   -- the end of a piece
 
-  end-read : (t : List ℕ) (at : At) → is_whole t ≡ true →
+  end-read : (t : List ℕ) (at : At) → is_whole t ≡ true → IsOneLine t →
       (is_open texts at.before ≡ false → has_slash t ≡ false) →
       Follows t tail (t ++ bytes_from at [])
-  end-read t at whole ended = by (is_open texts at.before) refl
+  end-read t at whole one ended = by (is_open texts at.before) refl
     where
       by : (b : Bool) → is_open texts at.before ≡ b →
           Follows t tail
           (t ++ (flat_map item_bytes
           (items_by_origin lines at.before at.turn at.counted (if b then token.White ∷ [] else [])) ++ tail))
-      by true is = space-between t tail whole
-      by false is = closes t whole (ended is)
+      by true is = space-between t tail whole one
+      by false is = closes t whole one (ended is)
 
   reads-end : Reads []
   reads-end = record {
     front = λ at ends whole.
-        with-nothing tail (bytes_from at []) ts (end-read [] at refl (λ closed. refl)) tail_read;
+        with-nothing tail (bytes_from at []) ts (end-read [] at refl refl (λ closed. refl)) tail_read;
     within = λ at items e item.
         subst (λ gs. ReadsAs (map OfPart gs) (text (items ++ e ∷ []) ++ bytes_from (following e false at) []))
         (sym (group-one items e []))
         (λ whole. with-text (text (items ++ e ∷ [])) tail (text (items ++ e ∷ []) ++ bytes_from (following e false at) []) ts
-        (end-read (text (items ++ e ∷ [])) (following e false at) whole.0.whole (ended-part items e [] item whole.0 refl))
+        (end-read (text (items ++ e ∷ [])) (following e false at) whole.0.all.whole (part-one items e [] item whole.0)
+        (ended-part items e [] item whole.0.all refl))
         tail_read);
-    after_white = λ at items e ends whole kept ended rest.
+    after_white = λ at items e ends whole one kept ended rest.
         with-text (text (items ++ e ∷ [])) tail (text (items ++ e ∷ []) ++ bytes_from (following e true at) []) ts
-        (end-read (text (items ++ e ∷ [])) (following e true at) whole (ended refl)) tail_read;
+        (end-read (text (items ++ e ∷ [])) (following e true at) whole one (ended refl)) tail_read;
     continued = λ at items e item is. absurd (ends-alone e [] refl is);
   }
 
@@ -317,9 +326,9 @@ module _ (lines : List SourceLine) (used : ℕ → List ℕ) (mark : Origin → 
           closed items e (token.White ∷ es)
           (text (items ++ e ∷ []) ++ bytes_from (following e true at) es)
           (row_from [] (following e true at) es)
-          (λ whole rest. next.after_white at items e is whole.whole
-          (λ ends. whole.kept (or_left _ _ (or_right _ _ ends)))
-          (ended-part items e (token.White ∷ es) item whole) rest)
+          (λ whole rest. next.after_white at items e is whole.all.whole (part-one items e (token.White ∷ es) item whole)
+          (λ ends. whole.all.kept (or_left _ _ (or_right _ _ ends)))
+          (ended-part items e (token.White ∷ es) item whole.all) rest)
 
   -- a line end that does not continue its line: a line feed, or a mark
 
@@ -353,14 +362,14 @@ module _ (lines : List SourceLine) (used : ℕ → List ℕ) (mark : Origin → 
 
   line_end-after : (line : ℕ) (es : List Token) → ReadsFront es → (white : Bool)
       → ReadsAfter white (token.LineEnd line ∷ es)
-  line_end-after line es next white at items e ends whole kept ended rest =
+  line_end-after line es next white at items e ends whole one kept ended rest =
       let t = text (items ++ e ∷ []) in
       let bytes = line_end-bytes line es next (following e white at)
       (sym (and-true (is_continued texts (Some e))) ∙ ends) in
       with-text t bytes.rest (t ++ bytes_from (following e white at) (token.LineEnd line ∷ es))
       (texts_in (row_from [] (following e white at) (token.LineEnd line ∷ es)) ++ ts)
       (follows-same t bytes.rest _ (t ++ line_feed ∷ bytes.rest) (ap (λ bs. t ++ bs) bytes.is)
-      (feed-between t bytes.rest whole (kept refl)))
+      (feed-between t bytes.rest (lines-one t whole one) (kept refl)))
       (bytes.read rest)
 
   -- the row from a line end on that is after these items, of which this is the last one
@@ -412,9 +421,9 @@ module _ (lines : List SourceLine) (used : ℕ → List ℕ) (mark : Origin → 
           (text (items ++ e ∷ []) ++ bytes_from (following e false at) (token.LineEnd line ∷ es))
           (row_from [] (following e false at) (token.LineEnd line ∷ es))
           (λ whole rest. line_end-after line es next.front false at items e
-          (ap (λ b. b && true) is) whole.whole
-          (λ ends. whole.kept (or_left _ _ (or_right _ _ refl)))
-          (ended-part items e (token.LineEnd line ∷ es) item whole) rest)
+          (ap (λ b. b && true) is) whole.all.whole (part-one items e (token.LineEnd line ∷ es) item whole)
+          (λ ends. whole.all.kept (or_left _ _ (or_right _ _ refl)))
+          (ended-part items e (token.LineEnd line ∷ es) item whole.all) rest)
 
   -- a blank before a token
 
@@ -445,11 +454,11 @@ module _ (lines : List SourceLine) (used : ℕ → List ℕ) (mark : Origin → 
         (subst (λ row. ReadsAs row (text ((items ++ before ∷ []) ++ e ∷ []) ++ bytes_from (after e at) es))
         (sym (row-item (items ++ before ∷ []) (following before false at)))
         (next (after e at) (items ++ before ∷ []) e no_use) whole);
-    after_white = λ at items before ends whole kept ended rest.
+    after_white = λ at items before ends whole one kept ended rest.
         with-text (text (items ++ before ∷ [])) (bytes_of e ++ bytes_from (after e at) es)
         (text (items ++ before ∷ []) ++ bytes_from (following before true at) (e ∷ es))
         (texts_in (row_from [] (following before true at) (e ∷ es)) ++ ts)
-        (after-white items before at whole)
+        (after-white items before at whole one)
         (first (following before true at) rest);
     continued = λ at items before of_item is. absurd (ends-alone before (e ∷ es) line_goes_on is);
   }
@@ -469,13 +478,14 @@ module _ (lines : List SourceLine) (used : ℕ → List ℕ) (mark : Origin → 
           (next (after e at) [] e no_use))
 
       after-white : (items : List Token) (before : Token) (at : At) → is_whole (text (items ++ before ∷ [])) ≡ true
+          → IsOneLine (text (items ++ before ∷ []))
           → Follows (text (items ++ before ∷ [])) (bytes_of e ++ bytes_from (after e at) es)
           (text (items ++ before ∷ []) ++ bytes_from (following before true at) (e ∷ es))
-      after-white items before at whole =
+      after-white items before at whole one =
           follows-same (text (items ++ before ∷ [])) (bytes_of e ++ bytes_from (after e at) es) _
           (text (items ++ before ∷ []) ++ space ∷ (bytes_of e ++ bytes_from (after e at) es))
           (ap (λ bs. text (items ++ before ∷ []) ++ bs) (bytes-item (following before true at) e es item))
-          (space-between (text (items ++ before ∷ [])) (bytes_of e ++ bytes_from (after e at) es) whole)
+          (space-between (text (items ++ before ∷ [])) (bytes_of e ++ bytes_from (after e at) es) whole one)
 
   -- a use or @h: its bytes begin with white space, and end with a line feed and a mark
 
@@ -534,9 +544,9 @@ module _ (lines : List SourceLine) (used : ℕ → List ℕ) (mark : Origin → 
         (λ whole later. with-text t (core at) bytes (texts_in (row at) ++ ts)
         (follows-same t (core at) bytes (t ++ u.first ∷ core at)
         (ap (λ bs. t ++ bs) (bytes-item (following before false at) e es item ∙ bytes-are at))
-        (between items before at whole u.white))
+        (between items before at of_item whole u.white))
         (core-read at later)));
-    after_white = λ at items before ends whole kept ended.
+    after_white = λ at items before ends whole one kept ended.
         let t = text (items ++ before ∷ []) in
         let bytes = t ++ bytes_from (following before true at) (e ∷ es) in
         subst (λ row. AreWhole row → IsReadAsTexts (t ∷ texts_in row ++ ts) bytes)
@@ -544,7 +554,7 @@ module _ (lines : List SourceLine) (used : ℕ → List ℕ) (mark : Origin → 
         with-text t (bytes_of e ++ rest at) bytes (texts_in (row at) ++ ts)
         (follows-same t (bytes_of e ++ rest at) bytes (t ++ space ∷ (bytes_of e ++ rest at))
         (ap (λ bs. t ++ bs) (bytes-item (following before true at) e es item))
-        (space-between t (bytes_of e ++ rest at) whole))
+        (space-between t (bytes_of e ++ rest at) whole one))
         (use-read at later));
     continued = λ at items before of_item is. absurd (ends-alone before (e ∷ es) line_goes_on is);
   }
@@ -576,11 +586,11 @@ module _ (lines : List SourceLine) (used : ℕ → List ℕ) (mark : Origin → 
           let later = mark u.origin ++ rest at in
           let ws = texts_in (row_from [] (after e at) es) ++ ts in
           let kept : keep_lines t (line_feed ∷ []) ≡ true =
-          whole.0.kept (grind (arith, nat_tests, u.stands_alone)) in
+          whole.0.all.kept (grind (arith, nat_tests, u.stands_alone)) in
           with-text t later (core at) (mark u.origin ∷ ws)
           (follows-same t later (core at) (t ++ line_feed ∷ later)
           (append_assoc t (line_feed ∷ mark u.origin) (rest at))
-          (feed-between t later whole.0.whole kept))
+          (feed-between t later whole.0.lines kept))
           (with-mark (mark u.origin) (rest at) ws (marks u.origin) (next (after e at) u.ends whole.1.1))
 
       without-white : (at : At) (first : ℕ) → IsFirst e first → Follows [] (core at) (first ∷ core at)
@@ -593,18 +603,18 @@ module _ (lines : List SourceLine) (used : ℕ → List ℕ) (mark : Origin → 
           (follows-same [] (core at) (bytes_of e ++ rest at) (u.first ∷ core at) (bytes-are at)
           (without-white at u.first u.white)) (core-read at whole)
 
-      between : (items : List Token) (before : Token) (at : At) →
-          IsWholePart texts used macros (record { items = items ++ before ∷ []; rest = e ∷ es })
+      between : (items : List Token) (before : Token) (at : At) → is_use before ≡ false →
+          IsWholeWritten texts used macros (record { items = items ++ before ∷ []; rest = e ∷ es })
           → IsFirst e u.first →
           Follows (text (items ++ before ∷ [])) (core at) (text (items ++ before ∷ []) ++ u.first ∷ core at)
-      between items before at whole (inl same) =
+      between items before at of_item whole (inl same) =
           subst (λ b. Follows (text (items ++ before ∷ [])) (core at)
           (text (items ++ before ∷ []) ++ b ∷ core at)) (sym same)
-          (space-between (text (items ++ before ∷ [])) (core at) whole.whole)
-      between items before at whole (inr feed) =
+          (space-between (text (items ++ before ∷ [])) (core at) whole.all.whole (part-one items before (e ∷ es) of_item whole))
+      between items before at of_item whole (inr feed) =
           subst (λ b. Follows (text (items ++ before ∷ [])) (core at)
           (text (items ++ before ∷ []) ++ b ∷ core at)) (sym feed.0)
-          (search (rules, feed-between, or_right))
+          (feed-between (text (items ++ before ∷ [])) (core at) whole.lines (whole.all.kept (or_right _ _ (feed.1 es))))
 
   reads : (es : List Token) → Reads es
   reads [] = reads-end

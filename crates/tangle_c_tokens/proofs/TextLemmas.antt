@@ -2,24 +2,27 @@
 use Rattle.std.proofs.Common.{rules}
 use Rattle.std.proofs.Common.{arith}
 use Rattle.std.proofs.Common.{◌⊎◌}
-use Rattle.std.proofs.Common.{◌≡◌, ℕ, Bool, true, false, List, [], ◌∷◌, ◌++◌, refl, sym, subst}
+use Rattle.std.proofs.Common.{◌≡◌, ℕ, Bool, true, false, List, [], ◌∷◌, ◌++◌, refl, ap, sym, subst}
 use Rattle.std.proofs.Common.{inl, inr, ◌∙◌, append-nil, append_assoc}
-use Rattle.std.specs.Prelude.{◌&&◌, ◌==◌, if◌then◌else◌}
+use Rattle.std.specs.Prelude.{◌&&◌, ◌==◌, not, filter, if◌then◌else◌}
 use Rattle.std.specs.List.{list_any}
 use Rattle.std.proofs.lemmas.Bool.{or_right, not_from_false}
 use Rattle.std.proofs.lemmas.Bool.{false≢true, not-true}
 use Rattle.std.proofs.lemmas.List.Elements.{filter-append}
-use Rattle.c_tokens.specs.Bytes.{line_feed, space, slash, backslash, is_white}
+use Rattle.c_tokens.specs.Bytes.{line_feed, space, slash, backslash}
 use Rattle.c_tokens.specs.Grammar.{is_token, is_element, is_punctuator, is_number}
-use Rattle.c_tokens.specs.Reading.{spliced, tokens}
+use Rattle.c_tokens.specs.Reading.{spliced, tokens, elements_from}
 use Rattle.c_tokens.specs.Touching.{TextKind, kinds_may_touch, is_separator, is_operator}
 use Rattle.c_tokens.specs.Touching.TextKind.{Separator, Operator, Plain, Other}
-use Rattle.c_tokens.specs.Borders.{number_goes_on, is_whole, last_byte}
+use Rattle.c_tokens.specs.Borders.{number_goes_on, is_whole, is_unfinished, last_byte}
 use Rattle.c_tokens.specs.Borders.{is_at_operator}
 use Rattle.c_tokens.specs.Borders.{is_border, have_border, keep_lines}
 use Rattle.c_tokens.specs.Borders.{is_plain_byte}
 use Rattle.c_tokens.proofs.BorderLemmas.{border-elements}
 use Rattle.c_tokens.proofs.TouchingLemmas.{spliced-both}
+use Rattle.c_tokens.specs.JoinedLines.{LinesAreWhole}
+use Rattle.c_tokens.proofs.LineLemmas.{keep-feed}
+use Rattle.c_tokens.proofs.JoinedLemmas.{IsOneLine, lines-apart, lines-feed, lines-whole, taken-append, spliced-other, white-next, white-before}
 use Rattle.tangle_c_tokens.specs.Reading.{IsReadAsTexts}
 use Rattle.tangle_c_tokens.specs.Edges.{first_byte_passes, last_byte_passes, begins_as, ends_as, last_number_goes_on}
 use Rattle.std.proofs.lemmas.Bool.Decides.{nat_tests}
@@ -27,25 +30,29 @@ use Rattle.std.proofs.lemmas.Bool.Decides.{nat_tests}
 -- the bytes are read as a text and the rest
 pub record Follows (text rest bytes : List ℕ) : Type 0 where
   pub read : tokens bytes ≡ tokens text ++ tokens rest
-  pub whole : is_whole bytes ≡ is_whole rest
+  pub lines : LinesAreWhole rest → LinesAreWhole bytes
 
 pub follows-more : (a b c bytes : List ℕ) → Follows a b bytes → Follows [] c b → Follows a c bytes
-follows-more a b c bytes first more = grind (arith, nat_tests)
+follows-more a b c bytes first more = record {
+  read = first.read ∙ ap (λ ts. tokens a ++ ts) more.read;
+  lines = λ lines. first.lines (more.lines lines);
+}
 
 pub follows-same : (text rest bytes other : List ℕ) → bytes ≡ other → Follows text rest other
     → Follows text rest bytes
 follows-same text rest bytes other same follows = subst (Follows text rest) (sym same) follows
 
-none-append : (test : List ℕ → Bool) (xs ys : List (List ℕ)) → list_any test xs ≡ false
-    → list_any test (xs ++ ys) ≡ list_any test ys
-none-append test [] ys none = refl
-none-append test (x ∷ xs) ys none =
-    grind (arith, nat_tests, none-append test xs ys)
+tokens-apart : (a b : List ℕ) → is_whole a ≡ true → keep_lines a b ≡ true
+    → have_border (spliced a) (spliced b) ≡ true → tokens (a ++ b) ≡ tokens a ++ tokens b
+tokens-apart a b whole kept border = search (rules, not-true, spliced-both, border-elements, filter-append)
 
-pub apart-from : (a b : List ℕ) → is_whole a ≡ true → keep_lines a b ≡ true
+pub apart-from : (a b : List ℕ) → is_whole a ≡ true → IsOneLine a → keep_lines a b ≡ true
     → have_border (spliced a) (spliced b) ≡ true →
     Follows a b (a ++ b)
-apart-from a b whole kept border = search (rules, not-true, spliced-both, border-elements, filter-append, none-append)
+apart-from a b whole one kept border = record {
+  read = tokens-apart a b whole kept border;
+  lines = lines-apart a b whole one kept border;
+}
 
 -- borders
 
@@ -53,17 +60,10 @@ operator-border : (element : List ℕ) (d c : ℕ) → (is_number element && num
     → is_at_operator d c ≡ true → is_border element d c ≡ true
 operator-border element d c none at = search (rules, or_right, not_from_false)
 
-pub white-next : (a : List ℕ) (w : ℕ) (b : List ℕ) → is_white w ≡ true
-    → have_border a (w ∷ b) ≡ true
-white-next a w b white = search rules
-
 -- a slash after another byte than a slash
 pub slash-border : (a b : List ℕ) → last_byte_passes (λ d. d == slash) a ≡ false
     → have_border a (slash ∷ b) ≡ true
 slash-border a b ends = search rules
-
-white-before : (w : ℕ) (b : List ℕ) → is_white w ≡ true → have_border (w ∷ []) b ≡ true
-white-before w b white = search rules
 
 -- A border is where two texts may touch by their kinds, unless a number is before an operator or
 -- ends in one.
@@ -83,10 +83,6 @@ operator-next : (a b : List ℕ) → last_number_goes_on a b ≡ false → last_
 operator-next a b none ends begins = search (rules, or_right)
 
 -- the bytes at the edges of a text without its taken-out line ends
-
-pub spliced-other : (b : ℕ) (bs : List ℕ) → (b == backslash) ≡ false
-    → spliced (b ∷ bs) ≡ b ∷ spliced bs
-spliced-other b bs other = search rules
 
 begins-front : (test : ℕ → Bool) → test backslash ≡ false → (t more : List ℕ)
     → first_byte_passes test t ≡ true →
@@ -173,20 +169,21 @@ pub space-front : (rest : List ℕ) → Follows [] rest (space ∷ rest)
 unfolding is_element is_token is_punctuator
 space-front rest =
     let apart =
-    apart-from (space ∷ []) rest refl (keep-first space rest refl)
+    apart-from (space ∷ []) rest refl refl (keep-first space rest refl)
     (white-before space (spliced rest) refl) in
-    record { read = apart.read; whole = apart.whole }
+    record { read = apart.read; lines = apart.lines }
 
 pub feed-front : (rest : List ℕ) → Follows [] rest (line_feed ∷ rest)
 unfolding is_element is_token is_punctuator
 feed-front rest =
-    let apart =
-    apart-from (line_feed ∷ []) rest refl (keep-first line_feed rest refl)
-    (white-before line_feed (spliced rest) refl) in
-    record { read = apart.read; whole = apart.whole }
+    record {
+      read = tokens-apart (line_feed ∷ []) rest refl (keep-first line_feed rest refl)
+          (white-before line_feed (spliced rest) refl);
+      lines = λ lines. (refl, lines);
+    }
 
-pub space-between : (a rest : List ℕ) → is_whole a ≡ true → Follows a rest (a ++ space ∷ rest)
-space-between a rest whole =
+pub space-between : (a rest : List ℕ) → is_whole a ≡ true → IsOneLine a → Follows a rest (a ++ space ∷ rest)
+space-between a rest whole one =
     follows-more a (space ∷ rest) rest (a ++ space ∷ rest)
     (search (rules, apart-from, keep-other, spliced-other, white-next))
     (space-front rest)
@@ -195,15 +192,17 @@ space-between a rest whole =
 abbrev pub keeps_line_feed : List ℕ → Bool
 keeps_line_feed text = keep_lines text (line_feed ∷ [])
 
-keep-feed : (a rest : List ℕ) → keeps_line_feed a ≡ true → keep_lines a (line_feed ∷ rest) ≡ true
-keep-feed a rest kept = search rules
+feed-tokens : (a rest : List ℕ) → is_whole a ≡ true → keeps_line_feed a ≡ true
+    → tokens (a ++ line_feed ∷ rest) ≡ tokens a ++ tokens (line_feed ∷ rest)
+feed-tokens a rest whole kept = search (rules, tokens-apart, keep-feed, spliced-other, white-next)
 
-pub feed-between : (a rest : List ℕ) → is_whole a ≡ true → keeps_line_feed a ≡ true
+-- a line feed after a text that may have more than one line
+pub feed-between : (a rest : List ℕ) → LinesAreWhole a → keeps_line_feed a ≡ true
     → Follows a rest (a ++ line_feed ∷ rest)
-feed-between a rest whole kept =
-    follows-more a (line_feed ∷ rest) rest (a ++ line_feed ∷ rest)
-    (search (rules, apart-from, keep-feed, spliced-other, white-next))
-    (feed-front rest)
+feed-between a rest lines kept = record {
+  read = feed-tokens a rest (lines-whole a lines) kept ∙ ap (λ ts. tokens a ++ ts) (feed-front rest).read;
+  lines = lines-feed a rest kept lines;
+}
 
 -- a line end that is taken out
 
@@ -217,19 +216,29 @@ keep-taken [] (c ∷ rest) = refl
 keep-taken (x ∷ a) [] = refl
 keep-taken (x ∷ a) (c ∷ rest) = rw (last-taken x a) refl
 
-pub taken-between : (a rest : List ℕ) → is_whole a ≡ true
+one-taken : (a : List ℕ) → IsOneLine a → IsOneLine (a ++ backslash ∷ line_feed ∷ [])
+one-taken a one = grind (arith, nat_tests, taken-append false a (backslash ∷ line_feed ∷ []))
+
+pub taken-between : (a rest : List ℕ) → is_whole a ≡ true → IsOneLine a
     → have_border (spliced a) (spliced rest) ≡ true →
     Follows a rest (a ++ backslash ∷ line_feed ∷ rest)
-taken-between a rest whole border =
+taken-between a rest whole one border =
     let all = a ++ backslash ∷ line_feed ∷ [] in
     let same : spliced all ≡ spliced a = (search (rules, spliced-both, keep-other)) ∙ append-nil (spliced a) in
-    grind (arith, nat_tests, apart-from all rest, keep-taken a rest, append_assoc a)
+    let apart : Follows all rest (all ++ rest) =
+    apart-from all rest (ap (λ t. not (list_any is_unfinished (elements_from 0 t))) same ∙ whole) (one-taken a one)
+    (keep-taken a rest) (ap (λ t. have_border t (spliced rest)) same ∙ border) in
+    follows-same a rest (a ++ backslash ∷ line_feed ∷ rest) (all ++ rest)
+    (sym (append_assoc a (backslash ∷ line_feed ∷ []) rest)) (record {
+      read = apart.read ∙ ap (λ t. filter is_token (elements_from 0 t) ++ tokens rest) same;
+      lines = apart.lines;
+    })
 
 -- Texts that a line feed may follow: whole ones, of which it takes out no backslash at their end. A
 -- line mark is such a text with its line feed, or empty.
 
 pub record IsWholeLine (text : List ℕ) : Type 0 where
-  pub whole : is_whole text ≡ true
+  pub lines : LinesAreWhole text
   pub kept : keep_lines text (line_feed ∷ []) ≡ true
 
 abbrev pub IsMarkText : List ℕ → Type 0
@@ -237,24 +246,38 @@ IsMarkText text =
     (text ≡ []) ⊎ ((line : List ℕ) × (text ≡ line ++ line_feed ∷ []) × IsWholeLine line)
 
 pub mark-between : (m rest : List ℕ) → IsMarkText m → Follows m rest (m ++ rest)
-mark-between m rest (inl none) = rw none (record { read = refl; whole = refl })
+mark-between m rest (inl none) = rw none (record { read = refl; lines = λ lines. lines })
 mark-between m rest (inr some) =
     let line = some.0 in
-    grind (arith, nat_tests, append_assoc line, feed-between line, append-nil)
+    let first = feed-between line rest some.2.lines some.2.kept in
+    let alone = feed-between line [] some.2.lines some.2.kept in
+    let same : m ++ rest ≡ line ++ line_feed ∷ rest =
+    ap (λ t. t ++ rest) some.1 ∙ append_assoc line (line_feed ∷ []) rest in
+    record {
+      read = ap tokens same ∙ first.read
+          ∙ ap (λ ts. ts ++ tokens rest) (sym (ap tokens some.1 ∙ alone.read ∙ append-nil (tokens line)));
+      lines = λ lines. subst LinesAreWhole (sym same) (first.lines lines);
+    }
 
 -- texts, one after another
 
 pub with-text : (t rest bytes : List ℕ) (ts : List (List ℕ)) → Follows t rest bytes
     → IsReadAsTexts ts rest → IsReadAsTexts (t ∷ ts) bytes
-with-text t rest bytes ts follows read = grind (arith, nat_tests)
+with-text t rest bytes ts follows read = record {
+  read = follows.read ∙ ap (λ us. tokens t ++ us) read.read;
+  lines = follows.lines read.lines;
+}
 
 pub with-nothing : (rest bytes : List ℕ) (ts : List (List ℕ)) → Follows [] rest bytes
     → IsReadAsTexts ts rest → IsReadAsTexts ts bytes
-with-nothing rest bytes ts follows read = grind (arith, nat_tests)
+with-nothing rest bytes ts follows read = record {
+  read = follows.read ∙ read.read;
+  lines = follows.lines read.lines;
+}
 
 pub with-mark : (m rest : List ℕ) (ts : List (List ℕ)) → IsMarkText m → IsReadAsTexts ts rest
     → IsReadAsTexts (m ∷ ts) (m ++ rest)
 with-mark m rest ts is read = with-text m rest (m ++ rest) ts (mark-between m rest is) read
 
 pub no-text : IsReadAsTexts [] []
-no-text = record { read = refl; whole = refl }
+no-text = record { read = refl; lines = (refl, tt) }

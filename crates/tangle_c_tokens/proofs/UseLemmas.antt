@@ -1,7 +1,7 @@
 -- The uses of a piece are those of its node's shape.
 use Rattle.std.proofs.Common.{arith, rules}
-use Rattle.std.proofs.Common.{◌≡◌, ◌∙◌, ℕ, suc, Bool, true, false, List, [], ◌∷◌, ◌++◌, map, flat_map, if◌then◌else◌, Option, Some, None, refl, subst}
-use Rattle.std.specs.List.{AllByRecursion, Contains}
+use Rattle.std.proofs.Common.{◌≡◌, ◌∙◌, ℕ, Bool, true, false, List, [], ◌∷◌, ◌++◌, map, flat_map, if◌then◌else◌, Option, Some, None, refl, subst}
+use Rattle.std.specs.List.{AllByRecursion}
 use Rattle.std.proofs.lemmas.List.Concat.{flat_map-append}
 use Rattle.tangle_lines.specs.declared.origin.Origin.{Origin}
 use Rattle.tangle_lines.specs.Reading.{SourceLine}
@@ -78,8 +78,8 @@ module _ (lines : List SourceLine) where
     use-whole : (rest : List (List ℕ)) (r : Resolved) → AllByRecursion IsWholeName (item_names (use_of table r) ++ rest)
         → IsWholeLine (resolved_bytes numbers table used r) × AllByRecursion IsWholeName rest
     use-whole rest (resolved.Name id) names = names
-    use-whole rest resolved.NoFullName names = (record { whole = refl; kept = refl }, names)
-    use-whole rest resolved.Ambiguous names = (record { whole = refl; kept = refl }, names)
+    use-whole rest resolved.NoFullName names = (record { lines = (refl, tt); kept = refl }, names)
+    use-whole rest resolved.Ambiguous names = (record { lines = (refl, tt); kept = refl }, names)
 
     names-whole : (items : List Item) → AllByRecursion IsWholeName (names_in items)
         → AllByRecursion IsWholeUse (flat_map item_uses items)

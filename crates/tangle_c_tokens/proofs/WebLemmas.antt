@@ -15,10 +15,12 @@ use Rattle.tangle_scan.specs.Web.{web_of, Block, BlockKind, blocks, macro_of, ki
 use Rattle.tangle_scan.specs.Web.BlockKind.{OfMacro, OfPiece}
 use Rattle.tangle_c_tokens.specs.Macros.{IsReadByGroups, MacrosAreReadByGroups}
 use Rattle.tangle_c_tokens.specs.Kinds.{AreTexts}
+use Rattle.tangle_c_tokens.specs.LineFeeds.{SourceLinesHaveNoLineFeed}
+use Rattle.tangle_c_tokens.proofs.OneLineLemmas.{macro-on_line}
 use Rattle.tangle_c_tokens.proofs.kind_lemmas.WebTexts.{macros-texts}
 use Rattle.tangle_c_tokens.proofs.MacroLemmas.{one-macro}
 
-module _ (lines : List SourceLine) where
+module _ (lines : List SourceLine) (none : SourceLinesHaveNoLineFeed lines) where
   abbrev IsReadInParts : List Item → List Token → Type 0
   IsReadInParts items es = IsReadByGroups (texts_of lines) es (macro_bytes (texts_of lines) items)
 
@@ -45,7 +47,7 @@ module _ (lines : List SourceLine) where
           → AreRead ((if is_kept then macro_items (texts_of lines) b.tokens ∷ [] else []) ++ all)
           (map (λ items. macro_tokens_of b)
           (if is_kept then macro_items (texts_of lines) b.tokens ∷ [] else []) ++ each)
-      kept true rest are = search (rules, one-macro)
+      kept true rest are = search (rules, one-macro, macro-on_line)
       kept false rest are = search rules
 
       by : (kind : BlockKind) → AreRead all each → AreRead (kind_macro lines kind b ++ all)
@@ -56,5 +58,5 @@ module _ (lines : List SourceLine) where
 
 pub macros-by-groups : (source : SourceRead) → MacrosAreReadByGroups source (web_of source)
 macros-by-groups source no_feeds =
-    blocks-by-groups source.lines (blocks 0 (all_tokens source.lines))
+    blocks-by-groups source.lines no_feeds (blocks 0 (all_tokens source.lines))
     (macros-texts source.lines no_feeds)

@@ -12,7 +12,7 @@ use Rattle.tangle_bodies.specs.Shapes.{Named, Program, Title, Uses, shape_names}
 use Rattle.tangle_c_tokens.specs.Files.{IsWholePassage, MacrosAreReadAlone, ReachesWholePieces, row_of_node, shapes_in}
 use Rattle.std.proofs.lemmas.Bool.Decides.{nat_tests}
 
-abbrev lines_from : ℕ → List (List ℕ) → List SourceLine
+abbrev pub lines_from : ℕ → List (List ℕ) → List SourceLine
 lines_from n [] = []
 lines_from n (bytes ∷ texts) =
     record { bytes = bytes; origin = record { file = 0; line = n }; changed = false } ∷ lines_from

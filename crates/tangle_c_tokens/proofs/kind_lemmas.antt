@@ -5,6 +5,7 @@ pub mod LineFeeds
 pub mod Texts
 pub mod QuotedTexts
 pub mod QuoteBytes
+pub mod QuotedLines
 pub mod Quotes
 pub mod Spans
 pub mod LexemeTexts

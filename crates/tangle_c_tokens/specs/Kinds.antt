@@ -14,10 +14,11 @@ use Rattle.tangle_scan.specs.ReadAsMeant.{token_bytes}
 use Rattle.c_tokens.specs.Bytes.{line_feed, double_quote, apostrophe}
 use Rattle.c_tokens.specs.Grammar.{is_number, ends_quoted}
 use Rattle.c_tokens.specs.Reading.{spliced}
-use Rattle.c_tokens.specs.Touching.{TextKind, is_separator, is_operator, IsOfKind}
+use Rattle.c_tokens.specs.Touching.{TextKind, is_separator, is_operator, is_one, IsOfKind}
 use Rattle.c_tokens.specs.Touching.TextKind.{Separator, Operator, Plain, Other}
 use Rattle.c_tokens.specs.Borders.{has_bytes}
 use Rattle.tangle_c_tokens.specs.Edges.{begins_as, ends_as}
+use Rattle.tangle_c_tokens.specs.LineFeeds.{TextHasNoLineFeed}
 
 -- the kind of a sign with this byte
 abbrev pub text_kind_of_sign : ℕ → TextKind
@@ -38,14 +39,16 @@ module _ (texts : List (List ℕ)) where
   item_kind (token.Span span_kind.Quoted s) = Plain
   item_kind _ = Other
 
-  -- A word or a sign is of its kind, and a word that begins with a digit is one number. Nothing is
-  -- said of verbatim texts, which the author answers for, nor of tokens without bytes of the source.
+  -- A word or a sign is of its kind, a word that begins with a digit is one number, and a sign is one
+  -- byte. Nothing is said of verbatim texts, which the author answers for, nor of tokens without
+  -- bytes of the source.
   abbrev pub HasItsKind : Token → Type 0
   HasItsKind (token.Span span_kind.Word s) =
       IsTextOfKind (item_kind (token.Span span_kind.Word s)) (span_text texts s)
       × (is_digit (first_byte texts s) ≡ true → is_number (span_text texts s) ≡ true)
   HasItsKind (token.Span span_kind.Sign s) =
       IsTextOfKind (item_kind (token.Span span_kind.Sign s)) (span_text texts s)
+      × (is_one (λ b. b == first_byte texts s) (span_text texts s) ≡ true)
   HasItsKind _ = Unit {0}
 
 -- Quoted texts are cut into ranges, after the first @ of each @@, and at a line end after a
@@ -94,11 +97,13 @@ module _ (texts : List (List ℕ)) where
   abbrev pub range_bytes : List Token → List ℕ
   range_bytes ranges = flat_map (token_bytes texts (λ t. [])) ranges
 
-  -- all ranges and breaks of a quoted text, each of which has a byte
+  -- all ranges and breaks of a quoted text, each of which has a byte, and each line feed of which is
+  -- directly after a backslash
   pub record IsQuotedText (part : List Token) : Type 0 where
     pub ranges : list_all is_range part ≡ true
     pub bytes : list_all (λ t. has_bytes (token_bytes texts (λ t. []) t)) part ≡ true
     pub quoted : IsQuoted (range_bytes part)
+    pub one_line : TextHasNoLineFeed (spliced (range_bytes part))
 
   -- one token, which is no part of a quoted text
   abbrev pub IsAlone : List Token → Type 0

@@ -20,9 +20,10 @@ ghost use Rattle.tangle_c_tokens.specs.LineFeeds.{FileLinesHaveNoLineFeed, Files
 
 /// The table of what may touch is that of the kinds of texts of C's grammar (`table`). Each word
 /// and each sign of a web is a text of its kind. So is each quoted text, with all its ranges,
-/// except for `''`, for a header name, and for a text that does not end, which is a fault. This is
-/// true of the tokens of the source, and so of the tokens of each piece and of each macro. The
-/// premise is that no line has a line feed in it (`lines_have_no_line_feeds`).
+/// except for `''`, for a header name, and for a text that does not end, which is a fault. A sign is
+/// one byte, and the line feeds of a quoted text are directly after backslashes. This is true of the
+/// tokens of the source, and so of the tokens of each piece and of each macro. The premise is that
+/// no line has a line feed in it (`lines_have_no_line_feeds`).
 pub fn items_are_of_their_kinds()
     ensures table { (texts : List (List ℕ)) (e f : Token)
         → may_touch texts e f ≡ kinds_may_touch (item_kind texts e) (item_kind texts f) }

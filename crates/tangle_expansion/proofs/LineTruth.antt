@@ -25,7 +25,6 @@ use Rattle.tangle_bodies.specs.Flat.{Symbol, Byte, Opening, MarkOf, items_flat, 
 use Rattle.tangle_bodies.specs.WebShapes.{is_piece_of, use_of, resolved_at, shape_item, shape_of, shapes}
 use Rattle.tangle_bodies.proofs.InsideLemmas.{table_inside}
 use Rattle.tangle_expansion.specs.Limits.{flat_of}
-use Rattle.tangle_expansion.specs.Outputs.{IsTrueToLines}
 use Rattle.tangle_expansion.proofs.NumberLemmas.{node_numbers_of}
 use Rattle.tangle_expansion.specs.Numbers.{NumbersRead, no_origin, no_numbers, numbers_of}
 use Rattle.tangle_expansion.specs.Numbers.{expansion_bytes}
@@ -215,9 +214,3 @@ node_is_located source web (suc fuel) node read q own =
     (λ name now r. node_is_located source web fuel (Named name) now r own)
     node 0 web.pieces (piece_locations source.lines)
     (node_numbers_of web (table_of web) Full (table_inside web) node) own read q
-
--- the expansion of each node, written with marks in full, is true to lines
-pub true_to_lines : (source : SourceRead) (web : WebRead) (node : Title) → PiecesAreAtTheirLines source web
-    → IsTrueToLines source web node
-    (expansion_bytes (numbers_of web (table_of web) Full) (flat_of (shapes web (table_of web)) node))
-true_to_lines source web node own = search (rules, node_is_located)

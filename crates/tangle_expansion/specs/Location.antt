@@ -21,8 +21,6 @@ use Rattle.tangle_bodies.specs.Shapes.{Title, Named}
 use Rattle.tangle_bodies.specs.Flat.{Symbol, Byte, MarkOf, AllMacros}
 use Rattle.tangle_bodies.specs.WebShapes.{is_piece_of, resolved_at}
 use Rattle.tangle_expansion.specs.Numbers.{NumbersRead, origin_of_mark, no_origin}
-use Rattle.tangle_files.specs.declared.marks.MarkMode.{MarkMode}
-use Rattle.tangle_files.specs.declared.marks.MarkMode.TheVariants.{Full, Bare}
 
 -- the class of a symbol, by which the counted origin is found and compared
 pub data ByteClass : Type 0 where
@@ -82,12 +80,7 @@ classes (suc fuel) source web node =
     web.texts source.lines [] p.1 p.0.items)
     (filter (λ p. is_piece_of (table_of web) node p.0) (zip web.pieces (piece_locations source.lines)))
 
--- The counted origin.
-
--- a mark that is written in full sets the origin, if it is read
-abbrev pub origin_set : MarkMode → Bool → Option Origin → Origin → Option Origin
-origin_set Full read origin own = origin_after_mark read own origin
-origin_set Bare read origin own = origin
+-- The counted origin, where marks are written in full.
 
 -- A byte of a source item that is read, outside of stretches, is at this origin.
 abbrev pub IsOwnOrigin : Bool → Option Origin → ByteClass → Type 0
@@ -101,12 +94,12 @@ border_of (LineFeed border) = border
 border_of (Other border) = border
 
 module _ (numbers : NumbersRead) where
-  -- the counted origin after a symbol of this class: a mark that is written in full sets it, and
-  -- after the macros it is unknown until the next mark
+  -- the counted origin after a symbol of this class: a mark that is read sets it, and after the
+  -- macros it is unknown until the next mark
   abbrev pub origin_after : Bool → Option Origin → Symbol → ByteClass → Option Origin
   origin_after read origin (Byte b) (LineFeed border) = with_line_end origin
   origin_after read origin (MarkOf node piece mark) class =
-      origin_set numbers.marks read origin (origin_of_mark numbers node piece mark)
+      origin_after_mark read (origin_of_mark numbers node piece mark) origin
   origin_after read origin AllMacros class = None
   origin_after read origin symbol class = origin
 

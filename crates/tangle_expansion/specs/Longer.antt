@@ -3,7 +3,8 @@ use Rattle.std.specs.Prelude.{ℕ, ◌+◌, ◌≤◌, length, List, [], Option,
 use Rattle.std.proofs.Common.{arith}
 use Rattle.tangle_bodies.specs.Flat.{Symbol}
 use Rattle.tangle_bodies.specs.Meaning.{title_of}
-use Rattle.tangle_expansion.specs.Expanded.{expansion_symbols, tags_are_longer}
+use Rattle.tangle_expansion.specs.Expanded.{expansion_symbols}
+use Rattle.tangle_bodies.proofs.LongerLemmas.{tags_are_longer}
 use Rattle.tangle_expansion.specs.declared.expansion.Expansion.TheInside.{Inside}
 use Rattle.tangle_expansion.specs.declared.expansion.Expansion.TheDeep.{deep-Expansion}
 use Rattle.tangle_expansion.specs.declared.expansion.Expansion.TheShapes.{weighed-SharedExpansion-used-at-1}

@@ -1,20 +1,13 @@
--- The bytes of an output file, each of which is at its line of the source.
+-- The bytes of an output file.
 use Rattle.std.specs.Prelude.{◌≡◌, ◌≤◌, length, true, unwrap_or, IsSome, ℕ, Bool, List, [], ◌∷◌}
-use Rattle.std.specs.Prelude.{◌++◌, if◌then◌else◌, None}
+use Rattle.std.specs.Prelude.{◌++◌, if◌then◌else◌}
 use Rattle.tangle_files.specs.Bytes.{line_feed}
-use Rattle.tangle_lines.specs.Reading.{SourceRead}
-use Rattle.tangle_scan.specs.Web.{WebRead}
-use Rattle.tangle_names.specs.NameTable.{table_of}
-use Rattle.tangle_bodies.specs.Shapes.{Title}
 use Rattle.tangle_bodies.specs.Flat.{Symbol}
-use Rattle.tangle_bodies.specs.WebShapes.{shapes}
-use Rattle.tangle_expansion.specs.Limits.{levels, heaviest, flat_of}
-use Rattle.tangle_expansion.specs.Numbers.{NumbersRead, numbers_of, expansion_bytes}
+use Rattle.tangle_expansion.specs.Limits.{heaviest}
+use Rattle.tangle_expansion.specs.Numbers.{NumbersRead, expansion_bytes}
 use Rattle.tangle_expansion.specs.Kept.{kept_at}
-use Rattle.tangle_files.specs.declared.marks.MarkMode.TheVariants.{Full}
 use Rattle.digraph.specs.Nodes.{Node}
 use Rattle.tangle_expansion.specs.declared.kept.Kept.{Kept}
-use Rattle.tangle_expansion.specs.Location.{AreAtTheirOrigins, classes}
 
 abbrev pub front_bytes : NumbersRead → Bool → List ℕ
 front_bytes numbers has_macros = if has_macros then numbers.macros else []
@@ -46,15 +39,3 @@ pub record IsReady (output : OutputRead) (kept : Kept) : Type 0 where
 abbrev pub kept_output_bytes : NumbersRead → Kept → OutputRead → List ℕ
 kept_output_bytes numbers kept output =
     output_file_bytes numbers output.has_macros output.has_piece (node_symbols kept output.node)
-
--- The bytes are those of the node's expansion and, where marks are written in full, the counted
--- origin at each byte of a source item that is read, outside of stretches, is that of the byte's
--- source line, whichever groups a compiler leaves out. Before the first mark of a file, which is in
--- no group, the origin is unknown.
-pub record IsTrueToLines (source : SourceRead) (web : WebRead)
-    (node : Title) (bytes : List ℕ) : Type 0 where
-  pub written : bytes
-      ≡ expansion_bytes (numbers_of web (table_of web) Full)
-      (flat_of (shapes web (table_of web)) node)
-  pub origins : AreAtTheirOrigins (numbers_of web (table_of web) Full)
-      true None (flat_of (shapes web (table_of web)) node) (classes levels source web node)

@@ -21,34 +21,20 @@ ghost use Rattle.tangle_expansion.specs.Numbers.{NumbersRead, numbers_of, symbol
 ghost use Rattle.tangle_expansion.specs.Numbers.{expansion_bytes};
 ghost use Rattle.std.specs.List.{AllByRecursion};
 ghost use Rattle.tangle_expansion.specs.Limits.{flat_of, heaviest, IsExpandableNode};
-ghost use Rattle.tangle_expansion.specs.Outputs.{IsTrueToLines};
 ghost use Rattle.tangle_expansion.specs.PieceBytes.{piece_bytes, AreWrittenAsMeant};
 ghost use Rattle.tangle_expansion.specs.Location.{AreAtTheirOrigins, classes};
 
-/// If the source items of each piece are at their lines, then in a whole output the counted origin
-/// at each byte of a source item that is read, outside of stretches, is that of the byte's source
-/// line, whichever groups of lines a compiler leaves out.
+/// If the source items of each piece are at their lines, which `tangle_scan::scan` promises, then in
+/// a whole output, written with marks in full, the counted origin at each byte of a word, a sign, a
+/// quoted or verbatim text or an ASCII constant that is read, outside of stretches, is that of the
+/// byte's source line, whichever groups of lines a compiler leaves out. Of all other bytes nothing
+/// is said: those of macros, blanks, line ends, marks and the comments around a piece.
 pub fn bytes_are_at_their_origins()
     ensures { (source : SourceRead) (web : WebRead) (fuel : ℕ) (node : Title)
         (read : Bool) (origin : Option Origin)
         → PiecesAreAtTheirLines source web
         → AreAtTheirOrigins (numbers_of web (table_of web) Full) read origin
         (flat fuel (shapes web (table_of web)) node) (classes fuel source web node) }
-{}
-
-/// The expansion of each node, written with marks in full, is true to lines if each piece is, which
-/// `tangle_scan::scan` promises. Whichever groups of lines a compiler leaves out, in those that it
-/// reads the counted origin at each byte of a word, a sign, a quoted or verbatim text or an ASCII
-/// constant is that of the byte's source line, except in stretches. Of all other bytes nothing is
-/// said: those of macros, blanks, line ends, marks and the comments
-/// around a piece.
-#[tactic(auto, using(crate::proofs::LineTruth::true_to_lines))]
-pub fn outputs_are_true_to_lines()
-    ensures { (source : SourceRead) (web : WebRead) (node : Title)
-        → PiecesAreAtTheirLines source web
-        → IsTrueToLines source web node
-        (expansion_bytes (numbers_of web (table_of web) Full)
-        (flat_of (shapes web (table_of web)) node)) }
 {}
 
 /// A node that is expandable after an edit, and not affected by it, was expandable before, with the

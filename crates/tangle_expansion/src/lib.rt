@@ -25,7 +25,7 @@ pub use kept::Kept;
 pub use laws::{
     bodies_give_expansions, bytes_are_at_their_origins, expandable_nodes_reach_no_cycle,
     items_are_written_as_meant, nodes_are_written_by_pieces, nodes_expand_by_uses,
-    outputs_are_short, outputs_are_true_to_lines, unaffected_nodes_stay, used_names_are_expandable,
+    outputs_are_short, unaffected_nodes_stay, used_names_are_expandable,
 };
 pub use numbers::Numbers;
 pub use outputs::{Output, file_size, write_file};

@@ -24,3 +24,6 @@ mod WorkedForms
 mod WorkedOutputs
 mod NamedFileLemmas
 pub mod StoredPieces
+mod FlagLemmas
+mod AffectedLemmas
+mod KeepLemmas

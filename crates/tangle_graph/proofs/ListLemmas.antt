@@ -1,24 +1,30 @@
 -- Lists that grow at the end.
-use Rattle.std.proofs.Common.{◌≡◌, ◌∙◌, ◌<◌, ◌+◌, ℕ, zero, suc, Bool, true, false, List, [], ◌∷◌, ◌++◌, length}
-use Rattle.std.proofs.Common.{filter, take, get_or, refl, ap, sym, arith, append-nil, append_assoc, add-zero, zero-add, map, flat_map}
+use Rattle.std.proofs.Common.{◌≡◌, ◌∙◌, ◌<◌, ◌+◌, ℕ, Bool, true, false, List, [], ◌∷◌, ◌++◌, length}
+use Rattle.std.proofs.Common.{◌||◌, filter, take, get_or, refl, ap, sym, zero-add, map, flat_map}
 use Rattle.std.specs.Prelude.{All, if◌then◌else◌}
-use Rattle.std.specs.List.{range_with_len}
-use Rattle.std.proofs.lemmas.List.{map-append}
+use Rattle.std.specs.List.{list_any, range_with_len}
+use Rattle.std.proofs.Math.Bool.{or-false}
+use Rattle.std.proofs.lemmas.List.FromFn.{map-range_with_len_more}
+use Rattle.std.proofs.lemmas.List.Folds.{list_any-append}
+use Rattle.std.proofs.lemmas.List.{flat_map_more, map-append, map-id}
 use Rattle.std.proofs.lemmas.List.Elements.{All-append, All-cons, All-nil, filter_more}
 
 -- one more number of a range
-module _ {X : Type 0} (g : ℕ → List X) where
-  range_after : (a n : ℕ) → flat_map g (range_with_len a (n + 1)) ≡ flat_map g (range_with_len a n) ++ g (a + n)
-  range_after a zero = append-nil (g a) ∙ ap g (sym (add-zero a))
-  range_after a (suc n) =
-      let position : a + 1 + n ≡ a + suc n = omega arith in
-      let one_more : suc n + 1 ≡ suc (n + 1) = omega arith in
-      ap (λ k. flat_map g (range_with_len a k)) one_more
-      ∙ ap (λ l. g a ++ l) (range_after (a + 1) n ∙ ap (λ k. flat_map g (range_with_len (a + 1) n) ++ g k) position)
-      ∙ sym (append_assoc (g a) (flat_map g (range_with_len (a + 1) n)) (g (a + suc n)))
 
-  pub range_more : (n : ℕ) → flat_map g (range_with_len 0 (n + 1)) ≡ flat_map g (range_with_len 0 n) ++ g n
-  range_more n = range_after 0 n ∙ ap (λ k. flat_map g (range_with_len 0 n) ++ g k) (zero-add n)
+pub range_push : (n : ℕ) → range_with_len 0 (n + 1) ≡ range_with_len 0 n ++ n ∷ []
+range_push n =
+    sym (map-id (range_with_len 0 (n + 1))) ∙ map-range_with_len_more (λ k. k) 0 n n (zero-add n)
+    ∙ ap (λ l. l ++ n ∷ []) (map-id (range_with_len 0 n))
+
+pub range_more : {X : Type 0} (g : ℕ → List X) (n : ℕ)
+    → flat_map g (range_with_len 0 (n + 1)) ≡ flat_map g (range_with_len 0 n) ++ g n
+range_more g n = ap (flat_map g) (range_push n) ∙ sym (flat_map_more g [] (range_with_len 0 n) n)
+
+pub any_more : (p : ℕ → Bool) (n : ℕ)
+    → list_any p (range_with_len 0 (n + 1)) ≡ (list_any p (range_with_len 0 n) || p n)
+any_more p n =
+    ap (list_any p) (range_push n) ∙ list_any-append p (range_with_len 0 n) (n ∷ [])
+    ∙ ap (λ b. list_any p (range_with_len 0 n) || b) (or-false (p n))
 
 -- numbers that are pushed where a flag says so are in range if they are then
 pub all_where : (count n : ℕ) (b : Bool) → n < count → All (λ m. m < count) (if b then n ∷ [] else [])

@@ -1,6 +1,6 @@
 -- What holds of each output file of a web.
 use Rattle.std.proofs.Common.{rules}
-use Rattle.std.proofs.Common.{◌≡◌, ◌<◌, ◌||◌, ℕ, Bool, true, false, List, [], ◌∷◌, length, map, filter}
+use Rattle.std.proofs.Common.{◌≡◌, ◌<◌, ◌≤◌, ◌||◌, ℕ, Bool, true, false, List, [], ◌∷◌, length, map, filter}
 use Rattle.std.proofs.Common.{sym, subst, inl, inr, arith}
 use Rattle.std.specs.Prelude.{not, if◌then◌else◌, Contains, All}
 use Rattle.std.specs.List.{range_with_len}
@@ -10,16 +10,19 @@ use Rattle.std.proofs.lemmas.List.Elements.{Contains-append_cases}
 use Rattle.tangle_scan.specs.Web.{WebRead}
 use Rattle.tangle_names.specs.NameTable.{TableRead}
 use Rattle.tangle_names.proofs.ContainsLemmas.{out_of_filter, out_of_map}
-use Rattle.tangle_expansion.specs.Limits.{IsExpandableNode}
-use Rattle.tangle_expansion.specs.Outputs.{OutputRead}
+use Rattle.tangle_expansion.specs.Limits.{IsExpandableNode, flat_of, heaviest}
+use Rattle.tangle_expansion.specs.Outputs.{OutputRead, IsReady}
+use Rattle.tangle_expansion.specs.declared.kept.Kept.{Kept}
 use Rattle.tangle_bodies.specs.WebShapes.{name_at, shapes, ResolvesInside}
-use Rattle.tangle_bodies.specs.Shapes.{Named, Shapes}
+use Rattle.tangle_bodies.specs.Shapes.{Title, Named, Shapes}
 use Rattle.tangle_bodies.specs.Shapes as title
 use Rattle.tangle_bodies.specs.Nodes.{title_at}
+use Rattle.tangle_graph.specs.Keeping.{KeepsJust}
 use Rattle.tangle_graph.specs.Nodes.{IsNodeOf}
 use Rattle.tangle_graph.specs.Outputs.{shape_has_piece, is_expandable, file_names, first_file_name}
 use Rattle.tangle_graph.specs.Outputs.{main_output, named_file, main_file, is_written, outputs}
 use Rattle.tangle_graph.specs.Outputs.{is_earlier_file, is_main_file}
+use Rattle.tangle_graph.specs.Stores.{StoreRead, IsStoreOf}
 use Rattle.tangle_graph.proofs.ListLemmas.{all_flat}
 use Rattle.tangle_graph.proofs.NodeLemmas.{title_inside}
 use Rattle.tangle_graph.proofs.NodeMeasureLemmas.{expandable_is, no_pieces}
@@ -81,3 +84,9 @@ module _ (web : WebRead) (table : TableRead) (resolves : ResolvesInside table) w
               let passes = out_of_filter (is_written web table out) (file_names web table) found.0 found.1 in
               subst (IsFit (shapes web table) table.names) found.2 (named_fits found.0 (All-contains (λ id. id < length table.names) (file_names web table) found.0 names_below passes.0) passes.1))
         ]
+
+-- an output file is ready to be written where what its node expands to is kept
+pub ready : (shapes : Shapes) (store : StoreRead) (kept : Kept) → IsStoreOf shapes store → KeepsJust shapes store kept
+    → (output : OutputRead) → IsFit shapes store.names output
+    → ((p : Shapes) (t : Title) → IsExpandableNode p t → length (flat_of p t) ≤ heaviest) → IsReady output kept
+ready shapes store kept is keeps output fit law = search rules

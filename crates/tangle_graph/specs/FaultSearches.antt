@@ -1,47 +1,28 @@
 -- From what the faults of the graph are found. Only private contracts cite these definitions.
-use Rattle.std.specs.Prelude.{◌≡◌, ◌<◌, ◌≤◌, ◌↔◌, ℕ, true, List, flat_map, length}
+use Rattle.std.specs.Prelude.{◌≡◌, ◌<◌, ℕ, List, flat_map, length}
 use Rattle.std.specs.Prelude.{slice_index_or, Option}
-use Rattle.digraph.specs.Nodes.{Node}
-use Rattle.digraph.specs.Reach.{ContainsItself, ReachesCycle}
 use Rattle.tangle_faults.specs.Faults.{FaultRead}
 use Rattle.tangle_faults.specs.declared.faults.FaultKind.{FaultKind}
 use Rattle.tangle_names.specs.declared.first_numbers.Counted.TheVariants as counted
 use Rattle.tangle_names.specs.Numbers.{first_by_number}
 use Rattle.tangle_names.specs.Resolving.{resolve}
 use Rattle.tangle_bodies.specs.WebShapes.{shapes}
-use Rattle.tangle_graph.specs.Faults.{has_piece_of_node, fault_of, fault_occurrence}
-use Rattle.tangle_graph.specs.Faults.{faults_of_names}
-use Rattle.tangle_bodies.specs.Nodes.{title_at}
-use Rattle.tangle_bodies.specs.Shapes.{Uses}
-use Rattle.tangle_graph.specs.Outputs.{is_earlier_file, is_expandable, is_main_file}
-use Rattle.tangle_graph.specs.Stores.{contains_itself_at, flag_at, has_piece_at}
-use Rattle.tangle_graph.specs.Stores.{is_expandable_at}
+use Rattle.tangle_graph.specs.Faults.{fault_of, fault_occurrence, faults_of_names}
+use Rattle.tangle_graph.specs.Measures.{AreMeasures}
+use Rattle.tangle_graph.specs.NamedFiles.{AreFlagged}
+use Rattle.tangle_graph.specs.Stores.{contains_itself_at, flag_at}
+use Rattle.tangle_graph.specs.WebStores.{IsStoreOfWeb}
 use Rattle.tangle_graph.specs.declared.faults.FaultSearch.{FaultSearch}
 
 module _ (search : FaultSearch) where
-  -- The store says which nodes have a piece, contain themselves, reach a name that does, and are
-  -- expandable. Flags say which names are the main file's or an earlier file's. The first uses of
-  -- the names are those of the web.
+  -- The store is that of the web, and its measures are those of the nodes. Flags say which names are
+  -- the main file's or an earlier file's. The first uses of the names are those of the web.
   pub record IsFaultSearch : Type 0 where
-    pub has_piece : (n : Node) → n ≤ length search.table.now.names
-        → has_piece_at search.store.now n ≡ has_piece_of_node search.web.now search.table.now n
-    pub containing : (n : Node) → n ≤ length search.table.now.names
-        → (contains_itself_at search.store.now n ≡ true)
-        ↔ ContainsItself (Uses (shapes search.web.now search.table.now))
-        (title_at search.table.now.names n)
-    pub reaching : (n : Node) → n ≤ length search.table.now.names
-        → (flag_at search.store.now.reaching_cycles n ≡ true)
-        ↔ ReachesCycle (Uses (shapes search.web.now search.table.now)) (title_at search.table.now.names n)
-    pub expandable : (n : Node) → n ≤ length search.table.now.names
-        → is_expandable_at search.store.now n
-        ≡ is_expandable (shapes search.web.now search.table.now) (title_at search.table.now.names n)
-    pub main_files : (id : ℕ) → id < length search.table.now.names
-        → flag_at search.named_files.main.items id
-        ≡ is_main_file (shapes search.web.now search.table.now) search.table.now search.out.now id
-    pub earlier_files : (id : ℕ) → id < length search.table.now.names
-        → flag_at search.named_files.earlier.items id
-        ≡ is_earlier_file (shapes search.web.now search.table.now) search.table.now
-        search.out.now id
+    pub store : IsStoreOfWeb search.web.now search.table.now search.out.now search.store.now
+    pub measured : AreMeasures (shapes search.web.now search.table.now) search.table.now.names
+        search.store.now.measures
+    pub named : AreFlagged (shapes search.web.now search.table.now) search.table.now
+        search.out.now search.named_files
     pub uses_size : length search.first_uses.items ≡ length search.table.now.names
     pub first_uses : (id : ℕ) → id < length search.table.now.names
         → slice_index_or search.first_uses.items id 0

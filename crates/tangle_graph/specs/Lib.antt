@@ -13,3 +13,6 @@ pub mod Faults
 pub mod FaultSearches
 pub mod NameGraphs
 pub mod WebStores
+pub mod Affected
+pub mod AffectedFlags
+pub mod Keeping

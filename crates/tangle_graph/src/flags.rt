@@ -15,7 +15,7 @@ impl Store {
     /// # Errors
     ///
     /// `NoMemory` where an allocation failed.
-    pub fn no_flags(&self, alloc: Global) -> Result<Vec<bool>, NoMemory>
+    pub(crate) fn no_flags(&self, alloc: Global) -> Result<Vec<bool>, NoMemory>
         ensures size { IfOk result (λ flags. length flags.items ≡ length self.now.names + 1) }
         ensures none { IfOk result (λ flags. (node : Node) → flag_at flags.items node ≡ false) }
     {
@@ -33,7 +33,7 @@ pub fn is_flagged(flags: &[bool], node: Node) -> bool
 }
 
 /// Sets the flag of the node to this value. For a node without a flag nothing changes.
-pub fn set_flag(flags: &mut Vec<bool>, node: Node, flag: bool)
+pub(crate) fn set_flag(flags: &mut Vec<bool>, node: Node, flag: bool)
     ensures { flags.new.items ≡ set flags.old.items node flag }
 {
     let n = node.number();

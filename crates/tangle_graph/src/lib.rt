@@ -1,10 +1,13 @@
 //! The graph of names: which nodes use which, how heavy and deep each is, which are expandable, and
-//! the output files and faults.
+//! the output files and faults. Also the nodes that an edit affects, and the expansions of a web:
+//! those that are shared after an edit, and those that are made again.
 #![tactic(auto)]
 
 mod bodies;
+mod edits;
 mod faults;
 mod flags;
+mod keeping;
 mod laws;
 mod measures;
 mod name_graph;
@@ -17,8 +20,10 @@ mod shapes;
 mod store;
 
 pub use digraph::Node;
-pub use flags::{is_flagged, set_flag};
-pub use laws::graph_faults_are_one_list;
+pub use edits::affected;
+pub use flags::is_flagged;
+pub use keeping::{expand_again, expand_all};
+pub use laws::{alike_shapes_affect_nothing, graph_faults_are_one_list};
 pub use nodes::node_before;
 pub use shapes::same_shape;
 pub use store::{Built, Store};

@@ -1,40 +1,25 @@
 //! Which names of files are those of the main file or of an earlier file.
-ghost use Rattle.std.specs.Prelude.{◌≡◌, ◌<◌, ◌+◌, ◌&&◌, ◌||◌, ℕ, List, IfOk, OnOk, length, not};
-ghost use Rattle.std.specs.Str.{bytes_eq};
-ghost use Rattle.tangle_names.specs.NameTable.{TableRead};
+ghost use Rattle.std.specs.Prelude.{◌≡◌, ◌<◌, ◌+◌, ◌||◌, List, ℕ, IfOk, length};
 ghost use Rattle.tangle_bodies.specs.Shapes.{Shapes};
 ghost use Rattle.tangle_graph.specs.Measures.{AreMeasures};
-ghost use Rattle.tangle_graph.specs.NamedFiles.{AreFlagged, has_form, with_flag};
-ghost use Rattle.tangle_graph.specs.Outputs.{is_file};
+ghost use Rattle.tangle_graph.specs.NamedFiles.{AreFlagged, HaveForms};
+ghost use Rattle.tangle_graph.specs.Outputs.{is_earlier_file, is_file, is_main_file};
+ghost use Rattle.tangle_graph.specs.PlainForms.{plain_form};
 ghost use Rattle.tangle_graph.specs.Stores.{flag_at};
 
 use crate::measures::{Measure, measure_of_name};
 use crate::plain_forms::plain_form;
 use indexmap::IndexSet;
-use std::alloc::{AllocError, Global};
+use std::alloc::Global;
 use tangle_lines::NoMemory;
 use tangle_names::NameTable;
 
-/// Flags of the names of files that are the main file's, and of those that are an earlier file's.
-/// A name without a flag counts as one whose flag is not set. Names are compared by their plain
-/// forms: that of the main file and those of all other files are kept.
+/// For each name two flags: whether it is that of the main file, and whether it is that of an
+/// earlier file.
 #[derive(Drop)]
 pub(crate) struct NamedFiles {
-    main_form: Vec<u8>,
-    forms: IndexSet<Vec<u8>>,
     main: Vec<bool>,
     earlier: Vec<bool>,
-}
-
-/// Sets the flag with this number, where `is_set` says so; there were none from it on.
-fn set_next(flags: &mut Vec<bool>, id: usize, is_set: bool) -> Result<(), AllocError>
-    ensures { OnOk result (flags.new.items ≡ with_flag flags.old.items id is_set) }
-{
-    if is_set {
-        flags.resize(id, false)?;
-        flags.push(true)?;
-    }
-    Ok(())
 }
 
 /// Whether the flag with this number is set.
@@ -56,62 +41,37 @@ fn is_file(table: &NameTable, measures: &[Measure], id: usize) -> bool
     table.is_file(id) && measure_of_name(measures, id).depth > 0
 }
 
+/// Whether the name is that of the main file, and whether it is that of an earlier file. Names are
+/// compared by their plain forms: those of the files of the names before it, but for the main file,
+/// are in `forms`, and that of its own file is added.
+fn other_files(
+    alloc: Global,
+    table: &NameTable,
+    measures: &[Measure],
+    main_form: &Vec<u8>,
+    id: usize,
+    forms: &mut IndexSet<Vec<u8>>,
+) -> Result<(bool, bool), NoMemory>
+    requires { id < length table.now.names }
+    ensures { IfOk result (λ flags. (shapes : Shapes) (out : List ℕ)
+        → AreMeasures shapes table.now.names measures.now → main_form.now.items ≡ plain_form out
+        → HaveForms shapes table.now out id forms.old.keys
+        → HaveForms shapes table.now out (id + 1) forms.new.keys
+        × (flags.0 ≡ is_main_file shapes table.now out id)
+        × (flags.1 ≡ is_earlier_file shapes table.now out id)) }
+{
+    if !is_file(table, measures, id) {
+        return Ok((false, false));
+    }
+    let form = plain_form(alloc, table.text(id))?;
+    if form == *main_form {
+        return Ok((true, false));
+    }
+    let is_first = forms.insert(form)?;
+    Ok((false, !is_first))
+}
+
 impl NamedFiles {
-    /// No flags yet, for a main file of this name.
-    fn new(alloc: Global, out: &[u8]) -> Result<NamedFiles, AllocError>
-        ensures { IfOk result (λ files. (shapes : Shapes) (table : TableRead)
-            → AreFlagged shapes table out.now 0 files) }
-    {
-        Ok(NamedFiles {
-            main_form: plain_form(alloc, out)?,
-            forms: IndexSet::new(alloc),
-            main: Vec::new(alloc),
-            earlier: Vec::new(alloc),
-        })
-    }
-
-    /// Adds the file of the name with this number, which has this plain form.
-    fn add_file(&mut self, id: usize, form: Vec<u8>) -> Result<(), NoMemory>
-        ensures main_form { OnOk result (self.new.main_form.items ≡ self.old.main_form.items) }
-        ensures main { OnOk result (self.new.main.items ≡ with_flag self.old.main.items id
-            (bytes_eq form.items self.old.main_form.items)) }
-        ensures earlier { OnOk result (self.new.earlier.items ≡ with_flag self.old.earlier.items id
-            (not (bytes_eq form.items self.old.main_form.items)
-            && has_form self.old.forms.keys form.items)) }
-        ensures forms { OnOk result ((other : List ℕ) → has_form self.new.forms.keys other
-            ≡ (has_form self.old.forms.keys other
-            || (not (bytes_eq form.items self.old.main_form.items)
-            && bytes_eq other form.items))) }
-    {
-        if form == self.main_form {
-            return Ok(set_next(&mut self.main, id, true)?);
-        }
-        let is_first = self.forms.insert(form)?;
-        Ok(set_next(&mut self.earlier, id, !is_first)?)
-    }
-
-    /// Adds the next name, which has this number.
-    fn add_name(
-        &mut self,
-        alloc: Global,
-        table: &NameTable,
-        measures: &[Measure],
-        id: usize,
-    ) -> Result<(), NoMemory>
-        requires { id < length table.now.names }
-        ensures { OnOk result ((shapes : Shapes) (out : List ℕ)
-            → AreMeasures shapes table.now.names measures.now
-            → AreFlagged shapes table.now out id self.old
-            → AreFlagged shapes table.now out (id + 1) self.new) }
-    {
-        if !is_file(table, measures, id) {
-            return Ok(());
-        }
-        let form = plain_form(alloc, table.text(id))?;
-        self.add_file(id, form)?;
-        Ok(())
-    }
-
     /// The flags for all names of this table, of which these measures say which have a piece, and
     /// for a main file of this name.
     pub(crate) fn find(
@@ -122,13 +82,18 @@ impl NamedFiles {
     ) -> Result<NamedFiles, NoMemory>
         ensures { IfOk result (λ files. (shapes : Shapes)
             → AreMeasures shapes table.now.names measures.now
-            → AreFlagged shapes table.now out.now (length table.now.names) files) }
+            → AreFlagged shapes table.now out.now files) }
     {
-        let mut files = NamedFiles::new(alloc, out)?;
+        let main_form = plain_form(alloc, out)?;
+        let mut forms = IndexSet::new(alloc);
+        let mut main = Vec::with_capacity(alloc, table.count())?;
+        let mut earlier = Vec::with_capacity(alloc, table.count())?;
         for id in 0..table.count() {
-            files.add_name(alloc, table, measures, id)?;
+            let flags = other_files(alloc, table, measures, &main_form, id, &mut forms)?;
+            main.push(flags.0)?;
+            earlier.push(flags.1)?;
         }
-        Ok(files)
+        Ok(NamedFiles { main, earlier })
     }
 
     /// Whether the name with this number is that of the main file.

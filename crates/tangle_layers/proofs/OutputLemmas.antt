@@ -11,9 +11,8 @@ use Rattle.tangle_bodies.specs.Shapes.{Title, Shapes}
 use Rattle.tangle_expansion.specs.declared.kept.Kept.{Kept}
 use Rattle.tangle_graph.specs.Stores.{StoreRead}
 use Rattle.tangle_graph.specs.WebStores.{IsStoreOfWeb}
-use Rattle.tangle_graph.proofs.OutputLemmas.{IsFit, outputs_fit}
-use Rattle.tangle_affected.specs.Keeping.{KeepsJust}
-use Rattle.tangle_affected.proofs.OutputLemmas.{ready}
+use Rattle.tangle_graph.proofs.OutputLemmas.{IsFit, outputs_fit, ready}
+use Rattle.tangle_graph.specs.Keeping.{KeepsJust}
 
 module _ (web : WebRead) (table : TableRead) (out : List ℕ)
     (store : StoreRead) (kept : Kept) (is : IsStoreOfWeb web table out store)

@@ -2,8 +2,7 @@
 use crate::graph::add_node;
 use crate::listing::Listing;
 use std::alloc::Global;
-use tangle_affected::affected;
-use tangle_graph::{Built, Node, Store, is_flagged, node_before};
+use tangle_graph::{Built, Node, Store, affected, is_flagged, node_before};
 use tangle_lines::{NoMemory, Sink};
 use tangle_names::Names;
 

@@ -20,7 +20,7 @@ use Rattle.tangle_expansion.specs.Outputs.{OutputRead, output_file_bytes, kept_o
 use Rattle.tangle_expansion.specs.declared.kept.Kept.{Kept}
 use Rattle.tangle_graph.specs.Stores.{StoreRead, IsStoreOf}
 use Rattle.tangle_graph.proofs.OutputLemmas.{IsFit}
-use Rattle.tangle_affected.specs.Keeping.{KeepsJust}
+use Rattle.tangle_graph.specs.Keeping.{KeepsJust}
 use Rattle.tangle_session.specs.Headline.{output_bytes, table_at, web_at}
 use Rattle.tangle_session.specs.Sessions.{shapes_of}
 

@@ -20,21 +20,23 @@ use Rattle.tangle_scan.specs.Web.{WebRead}
 use Rattle.tangle_names.specs.NameTable.{table_of}
 use Rattle.tangle_expansion.specs.Affected.{IsAffected}
 use Rattle.tangle_expansion.specs.Limits.{levels, heaviest, flat_of, IsExpandableNode}
-use Rattle.tangle_expansion.specs.Numbers.{numbers_of, expansion_bytes}
-use Rattle.tangle_expansion.specs.Outputs.{OutputRead, IsReady, kept_output_bytes, output_file_bytes}
+use Rattle.tangle_expansion.specs.Numbers.{numbers_of}
+use Rattle.tangle_expansion.specs.Outputs.{OutputRead, IsReady, kept_output_bytes}
 use Rattle.digraph.specs.Nodes.{Node}
 use Rattle.tangle_bodies.specs.Nodes.{title_at}
+use Rattle.tangle_graph.specs.Affected as affected
+use Rattle.tangle_graph.specs.Keeping as keeping
 use Rattle.tangle_graph.specs.Nodes.{IsNodeOf}
 use Rattle.tangle_graph.specs.Outputs.{outputs}
 use Rattle.tangle_graph.specs.Stores.{StoreRead, IsStoreOf}
-use Rattle.tangle_expansion.proofs.LineTruth.{true_to_lines}
+use Rattle.tangle_scan.proofs.laws.WebLaws.{web-line-truth}
+use Rattle.tangle_expansion.specs.Location.{AreAtTheirOrigins, classes}
+use Rattle.tangle_bodies.specs.Shapes.{Title}
+use Rattle.tangle_expansion.proofs.LineTruth.{node_is_located}
 use Rattle.tangle_bodies.proofs.InsideLemmas.{table_inside}
 use Rattle.tangle_graph.proofs.ExpandLemmas.{expandable_at}
-use Rattle.tangle_graph.proofs.OutputLemmas.{IsFit, outputs_fit}
-use Rattle.tangle_affected.proofs.OutputLemmas.{ready}
+use Rattle.tangle_graph.proofs.OutputLemmas.{IsFit, outputs_fit, ready}
 use Rattle.tangle_session.specs.Headline.{output_at, output_bytes, source_at, web_at}
-use Rattle.tangle_affected.specs.Affected as affected
-use Rattle.tangle_affected.specs.Keeping as keeping
 use Rattle.tangle_session.specs.Sessions.{ListsAffectedOfWebs, ListsExpandableOfWeb, SessionRead}
 use Rattle.tangle_session.specs.Sessions.{shapes_of, start_refusal}
 use Rattle.tangle_session.specs.States.{AgreesWithFiles}
@@ -68,10 +70,7 @@ lists_titles old new store nodes is names_are lists = record {
       ↔ (IsNodeOf names node × IsAffected levels heaviest (shapes_of old) (shapes_of new)
       (title_at names node)))
       names_are
-      (λ node. (
-        lists.only node,
-        search rules,
-      ));
+      lists.just;
 }
 
 -- the web does not depend on the setting for line marks
@@ -105,6 +104,14 @@ some_copied o = search rules
 -- what a session with this state and these roles shows
 abbrev view_of : SessionState → RolesRead → SessionRead
 view_of state roles = record { files = state.files; roles = roles; work = state.work }
+
+-- each byte of an item is at its own origin, whatever the files are
+located : (files : FileTable) (roles : RolesRead) (node : Title) →
+    AreAtTheirOrigins (numbers_of (web_at files roles) (table_of (web_at files roles)) Full) true None
+    (flat_of (shapes_of (web_at files roles)) node) (classes levels (source_at files roles) (web_at files roles) node)
+unfolding web_at
+located files roles node =
+    node_is_located (source_at files roles) (web_at files roles) levels node true None (web-line-truth (source_at files roles))
 
 -- Finding an output by its name in a session.
 module _ (state : SessionState) (roles : RolesRead) (session : SessionRead) (view : view_of state roles ≡ session)
@@ -176,18 +183,9 @@ module _ (state : SessionState) (roles : RolesRead) (session : SessionRead) (vie
     writes_it old new r puts = subst (λ x. WritesOutput x old new r) (sym is_its) puts
 
     pub truth_at : session.roles.marks ≡ Full → IsTrueFile session.files session.roles name
-    truth_at = subst (λ (s : SessionRead). s.roles.marks ≡ Full → IsTrueFile s.files s.roles name)
-        view (λ full. record {
-          output = output;
-          named = found_there;
-          bytes = bytes_of output;
-          are_its = ap (λ (s : SessionRead). output_at s.files s.roles name) view ∙ some_at;
-          true_to_lines = record {
-            of_node = expansion_bytes (numbers_of web (table_of web) Full)
-                (flat_of (shapes_of web) (title_at (table_of web).names output.node));
-            made = ap (λ m. output_file_bytes (numbers_of web (table_of web) m) output.has_macros output.has_piece
-                (flat_of (shapes_of web) (title_at (table_of web).names output.node))) full;
-            true_to_lines = true_to_lines (source_at state.files roles) web
-                (title_at (table_of web).names output.node) hold.analysis.line_truth;
-          };
-        })
+    truth_at full = subst (λ (s : SessionRead). IsTrueFile s.files s.roles name) view (record {
+      output = output;
+      named = found_there;
+      are_its = ap (λ (s : SessionRead). output_at s.files s.roles name) view ∙ some_at;
+      origins = located state.files roles (title_at (table_of web).names output.node);
+    })

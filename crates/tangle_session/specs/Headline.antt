@@ -10,6 +10,7 @@
 -- that promise it, in the words of this page:
 -- - `Session::start` starts a session (`IsStarted`), and `apply` and `apply_all` make edits
 --   (`IsAnswered`). So whatever calls are made, they and their answers are a `History`.
+--   `start_and_edit` makes one in one call, which ends in `HasMade`.
 -- - `Session::faults` has the faults of `IsPlainTangling`, for the session's files and roles.
 --   `output_names`, `output_size` and `write_output` have the names, the sizes and the bytes of the
 --   same output files. Each byte is at its line, where line marks are written in full
@@ -22,6 +23,7 @@
 -- affects no node: `moved_text_expands_nothing`, over `Moves.antt`.
 use Rattle.std.specs.Prelude.{◌≡◌, ◌⊎◌, ◌++◌, ◌∷◌, [], ℕ, List, map, Contains}
 use Rattle.std.specs.Prelude.{Option, None, Some, Result, Ok, Err, unwrap_or}
+use Rattle.std.specs.List.{zip}
 use Rattle.std.specs.Map.{lookup}
 use Rattle.std.specs.Str.{bytes_eq}
 use Rattle.tangle_files.specs.Edited.{edited_all, joined, roles_after}
@@ -153,6 +155,10 @@ accepted (Apply edit (Ok done) ∷ calls) = (edit ∷ []) ∷ accepted calls
 accepted (ApplyAll edits (Ok done) ∷ calls) = edits ∷ accepted calls
 accepted (Apply edit (Err refusal) ∷ calls) = accepted calls
 accepted (ApplyAll edits (Err refused) ∷ calls) = accepted calls
+
+-- the calls that pass these lists of edits, each with its answer
+abbrev pub list_calls : List (List Edit) → List (Result (Unit {0}) ListRefusal) → List Call
+list_calls lists answers = map (λ call. ApplyAll call.0 call.1) (zip lists answers)
 
 -- the files and the roles with these edits made, one after another
 abbrev pub files_after : FileTable → List (List Edit) → FileTable

@@ -2,13 +2,12 @@
 use Rattle.std.specs.Prelude.{◌≡◌, true}
 use Rattle.tangle_files.specs.Lines.{FileTable}
 use Rattle.tangle_files.specs.Roles.{RolesRead, fits}
-use Rattle.tangle_scan.specs.LineTruth.{PiecesAreAtTheirLines}
 use Rattle.tangle_expansion.specs.Numbers.{numbers_of}
 use Rattle.tangle_graph.specs.Outputs.{outputs}
 use Rattle.tangle_graph.specs.Stores.{IsStoreOf}
-use Rattle.tangle_affected.specs.Keeping.{KeepsJust}
+use Rattle.tangle_graph.specs.Keeping.{KeepsJust}
 use Rattle.tangle_session.specs.Headline.{IsPlainTangling, output_files}
-use Rattle.tangle_session.specs.Headline.{source_at, table_at, web_at}
+use Rattle.tangle_session.specs.Headline.{table_at, web_at}
 use Rattle.tangle_session.specs.Sessions.{shapes_of}
 use Rattle.tangle_session.specs.declared.analysis.Analysis.{Analysis}
 use Rattle.tangle_session.specs.declared.tangling.SessionState.{SessionState}
@@ -26,7 +25,6 @@ pub record IsAnalysisAt (files : FileTable) (roles : RolesRead)
   pub numbers : analysis.numbers
       ≡ numbers_of (web_at files roles) (table_at files roles) roles.marks
   pub plain : IsPlainTangling files roles (output_files files roles) analysis.faults.items
-  pub line_truth : PiecesAreAtTheirLines (source_at files roles) (web_at files roles)
 
 -- the analysis is made from some files and roles
 pub record IsAnalysis (analysis : Analysis) : Type 0 where

@@ -15,17 +15,26 @@ ghost use Rattle.tangle_graph.specs.PlainForms.{plain_form};
 ghost use Rattle.tangle_session.specs.Edits.{list_refusal, of_first, session_refusal};
 ghost use Rattle.tangle_session.specs.Headline.{Call, EachCycleIsReported, HasMade, History};
 ghost use Rattle.tangle_session.specs.Headline.{IsPlainTangling, NoOutputReachesACycle, accepted};
-ghost use Rattle.tangle_session.specs.Headline.{output_at, output_files, web_at};
+ghost use Rattle.tangle_session.specs.Headline.{files_after, output_at, output_files, roles_with};
+ghost use Rattle.tangle_session.specs.Headline.{web_at};
 ghost use Rattle.tangle_session.specs.Moves.{HaveSameShapes, IsMoved};
 ghost use Rattle.tangle_session.specs.Sessions.{ListsAffectedOfWebs, SessionRead};
 
 /// At the end of any history, the files and the roles of the session are those of the start with
-/// the accepted edits made, and its work is that of the last accepted call. Whatever they are, no
-/// output file reaches a name that contains itself, and each such name has its fault.
+/// the accepted edits made, and its work is that of the last accepted call (`ends`). So the output
+/// files and the faults that the session shows are those of plain tangling of these (`shown`).
+/// Whatever they are, no output file reaches a name that contains itself, and each such name has its
+/// fault.
 pub fn histories_end_in_plain_tangling()
     ensures ends { (files : FileTable) (roles : RolesRead) (calls : List Call)
         (session : SessionRead) → History files roles calls session
         → HasMade files roles (accepted calls) session }
+    ensures shown { (files : FileTable) (roles : RolesRead) (calls : List Call)
+        (session : SessionRead) (made_files : List (List ℕ × List ℕ)) (faults : List FaultRead)
+        → History files roles calls session
+        → IsPlainTangling session.files session.roles made_files faults
+        → IsPlainTangling (files_after files (accepted calls))
+        (roles_with roles (accepted calls)) made_files faults }
     ensures no_cycle { (files : FileTable) (roles : RolesRead) → NoOutputReachesACycle files roles }
     ensures cycles { (files : FileTable) (roles : RolesRead) (made_files : List (List ℕ × List ℕ))
         (faults : List FaultRead) → IsPlainTangling files roles made_files faults

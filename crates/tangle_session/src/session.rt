@@ -15,8 +15,8 @@ use crate::refusing::{ListRefusal, refusal_to_apply};
 use crate::tangling::{SessionState, marks_after, tangle_again};
 use std::alloc::Global;
 use std::marker::Model;
-use tangle_affected::expand_all;
 use tangle_expansion::{Work, file_size, write_file};
+use tangle_graph::expand_all;
 use tangle_lines::{Edit, Fault, Files, Refusal, Roles, Sink, WriteFault};
 
 /// A tangled project: its files and roles, its output files and its faults. It stores no bytes of

@@ -12,8 +12,8 @@ ghost use Rattle.tangle_session.specs.States.{AgreesWithFiles};
 use crate::analysis::Analysis;
 use crate::refusing::{ListRefusal, refusal_to_apply};
 use std::alloc::Global;
-use tangle_affected::expand_again;
 use tangle_expansion::{Kept, Output, Work};
+use tangle_graph::expand_again;
 use tangle_lines::{Edit, Files, MarkMode, NoMemory, Roles};
 
 /// Files with what tangling makes of them: the analysis, the expansions, and the list of the nodes

@@ -2,8 +2,7 @@
 use crate::support::files_with;
 use std::alloc::{AllocError, Global};
 use std::test::Fail;
-use tangle_affected::expand_all;
-use tangle_graph::{Expansion, Kept, Node, Numbers, Store, Work, same_shape};
+use tangle_graph::{Expansion, Kept, Node, Numbers, Store, Work, expand_all, same_shape};
 use tangle_lines::{Files, MarkMode, NoMemory, Refusal, Roles, Source, WriteFault, read_source};
 use tangle_memory_folder::MemorySink;
 use tangle_names::NameTable;

@@ -6,11 +6,21 @@ use std::process::Abort;
 use std::test::Fail;
 use tangle_lines::{Edit, Files, Refusal, Roles};
 use tangle_memory_folder::MemorySink;
-use tangle_session::Session;
+use tangle_session::{ListRefusal, Session, start_and_edit};
 
 // This is a function of its own, so that the clauses of a start are used once.
 fn refused_start(alloc: Global, files: Files, roles: Roles) -> Option<(Files, Roles, Refusal)> {
     Session::start(alloc, files, roles).err()
+}
+
+// The same of histories.
+fn started(
+    alloc: Global,
+    files: Files,
+    roles: Roles,
+    lists: &[Vec<Edit>],
+) -> Option<(Session, Vec<Result<(), ListRefusal>>)> {
+    start_and_edit(alloc, files, roles, lists).ok()
 }
 
 // The web and the change file of starts that are refused over `b.w` and `a.ch`.
@@ -144,4 +154,25 @@ fn check_history(rt: &impl Abort, alloc: Global, session: &mut Session) -> Resul
 fn a_history(rt: HostRuntime) -> Result<(), Fail> {
     let mut session = start(rt.alloc(), CYCLE)?;
     check_history(&rt, rt.alloc(), &mut session)
+}
+
+// Two lists: one that is refused for its third edit, and the one that breaks the cycle.
+fn refused_and_breaking(alloc: Global) -> Result<Vec<Vec<Edit>>, AllocError> {
+    let mut refused = breaking(alloc)?;
+    refused.push(insertion(alloc, b"a.w", 99, b"x")?)?;
+    let mut lists = Vec::new(alloc);
+    lists.push(refused)?;
+    lists.push(breaking(alloc)?)?;
+    Ok(lists)
+}
+
+#[test]
+fn a_history_in_one_call(rt: HostRuntime) -> Result<(), Fail> {
+    let lists = refused_and_breaking(rt.alloc())?;
+    let files = files_with(rt.alloc(), &[(b"a.w", CYCLE)])?;
+    let roles = Roles::new(rt.alloc(), b"a.w", None, b"a.c")?;
+    let (session, answers) = started(rt.alloc(), files, roles, &lists).ok_or("started")?;
+    let refusal = Refusal::NoSuchLine;
+    assert!(rt; answers.as_slice() == [Err(ListRefusal { at: 2, refusal }), Ok(())].as_slice());
+    check_broken(&rt, rt.alloc(), &session)
 }

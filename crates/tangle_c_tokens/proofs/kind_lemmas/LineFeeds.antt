@@ -1,8 +1,8 @@
 -- No line that is read has a line feed in it.
 use Rattle.std.proofs.Common.{rules}
 use Rattle.std.proofs.Common.{arith}
-use Rattle.std.proofs.Common.{ℕ, zero, suc, ◌+◌, Bool, List, [], ◌∷◌, ◌++◌, refl, Option, None, Some}
-use Rattle.std.proofs.Common.{drop, map}
+use Rattle.std.proofs.Common.{ℕ, zero, suc, ◌+◌, Bool, List, [], ◌∷◌, refl, Option, None, Some}
+use Rattle.std.proofs.Common.{map}
 use Rattle.std.specs.Prelude.{◌&&◌, not}
 use Rattle.std.specs.List.{AllByRecursion}
 use Rattle.std.proofs.lemmas.Bool.{cond_both}

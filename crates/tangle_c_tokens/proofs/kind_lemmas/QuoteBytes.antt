@@ -37,7 +37,7 @@ gives-nothing test h zero = h
 gives-nothing test h (suc n) = h
 
 -- a byte before bytes that do not begin with a line feed is kept
-kept-first : (b : ℕ) (q : List ℕ) → holds line_feed (slice_get q 0) ≡ false → spliced (b ∷ q) ≡ b ∷ spliced q
+pub kept-first : (b : ℕ) (q : List ℕ) → holds line_feed (slice_get q 0) ≡ false → spliced (b ∷ q) ≡ b ∷ spliced q
 kept-first b q h = search rules
 
 -- texts in quotes
@@ -110,7 +110,7 @@ module _ (close : ℕ) (no_sign : (at_sign == close) ≡ false) (no_back : (back
         grind (arith, nat_tests, gives-byte ends at_sign (spliced q) refl no_sign refl h)
 
     -- a unit of two bytes that are not @ begins with a backslash
-    backslash-first : (b : ℕ) (n : Option ℕ) → unit_of r (Some b) n ≡ unit.Two
+    pub backslash-first : (b : ℕ) (n : Option ℕ) → unit_of r (Some b) n ≡ unit.Two
         → are_bytes at_sign at_sign (Some b) n ≡ false → b ≡ backslash
     backslash-first b n e pair = grind (arith, nat_tests)
 
@@ -129,6 +129,10 @@ module _ (close : ℕ) (no_sign : (at_sign == close) ≡ false) (no_back : (back
 
 abbrev GivesHeader : Bool → List ℕ → Type 0
 GivesHeader ends q = Gives ends ends_header_name q
+
+pub header-pairs : (b : ℕ) (n : Option ℕ) → unit_of region.HeaderName (Some b) n ≡ unit.Two
+    → are_bytes at_sign at_sign (Some b) n ≡ false → b ≡ backslash
+header-pairs b n e pair = grind (arith, nat_tests)
 
 header-true : (b : ℕ) (q : List ℕ) → (b == greater_sign) ≡ false → (b == line_feed) ≡ false
     → ends_header_name q ≡ true → ends_header_name (b ∷ q) ≡ true

@@ -24,6 +24,8 @@ use Rattle.tangle_c_tokens.proofs.kind_lemmas.QuotedTexts.{text-whole}
 use Rattle.tangle_c_tokens.proofs.kind_lemmas.QuoteBytes.{Gives, gives-nothing, quote-stops, quote-one, quote-signs}
 use Rattle.tangle_c_tokens.proofs.kind_lemmas.QuoteBytes.{quote-others, quote-broken, header-stops, header-one}
 use Rattle.tangle_c_tokens.proofs.kind_lemmas.QuoteBytes.{header-signs, header-others, header-broken}
+use Rattle.tangle_c_tokens.proofs.kind_lemmas.QuoteBytes.{backslash-first, header-pairs}
+use Rattle.tangle_c_tokens.proofs.kind_lemmas.QuotedLines.{text-lines}
 use Rattle.std.proofs.lemmas.Bool.Decides.{nat_tests}
 
 string-quoted : (ends : Bool) (q bytes : List ℕ) → Gives ends (ends_quoted double_quote) (spliced q)
@@ -74,6 +76,9 @@ module _ (texts : List (List ℕ)) (s : LexerState) (c : Cell) (cs : List Cell) 
         ranges = whole.ranges;
         bytes = whole.full;
         quoted = string-quoted whole.ends whole.ahead (bytes_in r double_quote) whole.closes whole.last whole.bytes;
+        one_line = text-lines texts r double_quote s.last_line double_quote-cut refl
+            (quote-stops double_quote refl refl r (λ b n. refl)) refl
+            (backslash-first double_quote refl refl r (λ b n. refl)) c cs double_quote x is refl refl;
       }
 
   pub character-text : c.byte ≡ Some apostrophe → IsText region.Apostrophe apostrophe
@@ -89,6 +94,9 @@ module _ (texts : List (List ℕ)) (s : LexerState) (c : Cell) (cs : List Cell) 
         ranges = whole.ranges;
         bytes = whole.full;
         quoted = character-quoted whole.ends whole.ahead (bytes_in r apostrophe) whole.closes whole.last whole.bytes;
+        one_line = text-lines texts r apostrophe s.last_line apostrophe-cut refl
+            (quote-stops apostrophe refl refl r (λ b n. refl)) refl
+            (backslash-first apostrophe refl refl r (λ b n. refl)) c cs apostrophe x is refl refl;
       }
 
   pub header-text : c.byte ≡ Some less_sign → IsText region.HeaderName greater_sign
@@ -96,4 +104,10 @@ module _ (texts : List (List ℕ)) (s : LexerState) (c : Cell) (cs : List Cell) 
       let whole = text-whole texts region.HeaderName greater_sign s.last_line header_name-cut refl header-stops
       (λ ends q. Gives ends ends_header_name q) refl (gives-nothing ends_header_name refl) header-one header-signs
       header-others header-broken c cs less_sign x is in
-      grind (arith, nat_tests, header-quoted)
+      record {
+        ranges = whole.ranges;
+        bytes = whole.full;
+        quoted = header-quoted whole.ends whole.ahead (bytes_in region.HeaderName greater_sign) whole.closes whole.bytes;
+        one_line = text-lines texts region.HeaderName greater_sign s.last_line header_name-cut refl header-stops refl
+            header-pairs c cs less_sign x is refl refl;
+      }

@@ -120,7 +120,10 @@ module _ (texts : List (List ℕ)) where
 
   pub sign-span : (c : Cell) (cs : List Cell) (b : ℕ) → c.byte ≡ Some b → IsInLine texts c cs
       → HasItsKind texts (token.Span span_kind.Sign (span_at 1 (c ∷ cs)))
-  sign-span c cs b e is = grind (arith, nat_tests, first-is 1 c cs b e is, at-byte 1 c cs b e is)
+  sign-span c cs b e is = (
+    grind (arith, nat_tests, first-is 1 c cs b e is, at-byte 1 c cs b e is),
+    grind (arith, nat_tests, first-is 1 c cs b e is, at-byte 1 c cs b e is),
+  )
 
   pub word-span : (c : Cell) (cs : List Cell) (b : ℕ) → c.byte ≡ Some b → is_word_byte b ≡ true → IsInLine texts c cs
       → HasItsKind texts (token.Span span_kind.Word (span_at (1 + word_more (c ∷ cs)) (c ∷ cs)))

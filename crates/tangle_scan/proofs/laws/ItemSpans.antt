@@ -29,7 +29,7 @@ kept-spans (token.Span kind s ∷ es) = ap (λ ss. s ∷ ss) (kept-spans es)
 kept-spans (_ ∷ es) = kept-spans es
 
 -- tokens of which the same are kept have the same spans
-alike-spans : (es fs : List Token) → kept es ≡ kept fs → token_spans es ≡ token_spans fs
+pub alike-spans : (es fs : List Token) → kept es ≡ kept fs → token_spans es ≡ token_spans fs
 alike-spans es fs h = sym (kept-spans es) ∙ (ap token_spans h ∙ kept-spans fs)
 
 items_by_origin-spans : (lines : List SourceLine) (before : Option Token) (at : Turn) (counted : Origin) (es : List Token)

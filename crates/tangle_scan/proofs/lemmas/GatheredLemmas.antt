@@ -1,7 +1,7 @@
 -- What is stored of a web is what was gathered of it, block by block.
 use Rattle.std.proofs.Common.{rules}
 use Rattle.std.proofs.Common.{◌≡◌, ◌∙◌, ◌<◌, ℕ, zero, suc, ◌+◌, ◌||◌, Bool, true, false, List, [], ◌∷◌, ◌++◌, if◌then◌else◌, map, length}
-use Rattle.std.proofs.Common.{None, Option, ap, append-nil, arith, get_or, refl, subst, sym}
+use Rattle.std.proofs.Common.{None, Option, ap, append-nil, get_or, refl, subst, sym}
 use Rattle.std.specs.List.{All, AllZip, list_any}
 use Rattle.std.specs.Prelude.{flat_map}
 use Rattle.std.proofs.lemmas.List.{map-append}

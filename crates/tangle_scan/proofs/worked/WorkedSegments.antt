@@ -1,7 +1,10 @@
--- Which cells are a control text, a section name, an ASCII constant or a comment, and which are not.
+-- Which cells are a control text, a section name, an ASCII constant or a comment, and which are not; and which spans
+-- are in order.
 use Rattle.std.proofs.lemmas.Bool.Decides.{nat_tests}
 use Rattle.std.proofs.Common.{◌≡◌, ℕ, ◌+◌, List, [], ◌∷◌, ◌++◌, Some, None, inl, inr, refl, codes, true, false, arith}
 use Rattle.tangle_text.specs.Text.{Cell}
+use Rattle.tangle_text.specs.declared.spans.Span.{Span}
+use Rattle.tangle_scan.specs.KeptBytes.{EndsBefore}
 use Rattle.tangle_lexer.specs.Segments.{ShowsKind}
 use Rattle.tangle_lexer.specs.Segments.SegmentKind.{Comment, ControlText, SectionName, AsciiConstant}
 
@@ -57,3 +60,17 @@ no_constant_past_its_end h = let same = h.2 3 (omega arith) (omega arith) refl i
 
 pub no_comment_over_a_section_start : ShowsKind Comment (cells (codes "/*a@*b*/")) → ⊥
 no_comment_over_a_section_start h = grind (arith, nat_tests)
+
+-- the order of spans
+
+abbrev on_line : ℕ → ℕ → ℕ → Span
+on_line line start end = record { line = line; start = start; end = end }
+
+pub spans_that_touch : EndsBefore (on_line 0 1 2) (on_line 0 2 3)
+spans_that_touch = grind arith
+
+pub no_order_on_a_line : EndsBefore (on_line 0 1 2) (on_line 0 0 1) → ⊥
+no_order_on_a_line h = grind arith
+
+pub no_order_of_lines : EndsBefore (on_line 1 0 1) (on_line 0 2 3) → ⊥
+no_order_of_lines h = grind arith

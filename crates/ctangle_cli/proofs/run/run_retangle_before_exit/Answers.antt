@@ -2,7 +2,7 @@ use Rattle.std.proofs.Common.{[], refl}
 use Rattle.ctangle_cli.specs.Run.EndsUnstarted.{IsUnnamed}
 use Rattle.ctangle_cli.specs.Run.RetangleEnds.{IsConversation, IsUnanswered}
 use Rattle.ctangle_cli.proofs.HistoryLemmas.{from_start}
-use Rattle.ctangle_cli.proofs.ReadLemmas.{started-clear, stay-read}
+use Rattle.ctangle_cli.proofs.ReadLemmas.{started-sound, stay-read}
 use Rattle.ctangle_cli.proofs.RunLemmas.{tries_from}
 use Rattle.ctangle_cli.proofs.run.run_retangle_before_exit.Goals as goal
 
@@ -22,4 +22,4 @@ returns g c =
     let starts = c.in-Some.ensures.started in
     let ends = c.run_retangle-status.ensures in
     let goes = ends.history _ _ [] (from_start _ _ _ starts.started) in
-    IsConversation _ _ goes.0 _ c.in-Ok.ensures.ok starts ends.ends.1 goes.1 (stay-read _ _ (started-clear _ _ _ _ starts))
+    IsConversation _ _ goes.0 _ c.in-Ok.ensures.ok starts ends.ends.1 goes.1 (stay-read _ _ (started-sound _ _ _ _ starts))

@@ -17,7 +17,7 @@ returns c =
     record {
       contains_itself = contains_itself_at search.store.now;
       reaches_cycle = flag_at search.store.now.reaching_cycles;
-      self_containing = c.requires.containing;
-      reaching_cycles = c.requires.reaching;
+      self_containing = rw c.requires.store.names at c.requires.store.store.contains_itself;
+      reaching_cycles = c.requires.store.reaching_cycles;
       list = grind (arith, nat_tests, one_after_another);
     }

@@ -1,4 +1,4 @@
-use Rattle.std.proofs.Common.{◌<◌, length, get_or, ap, subst, sym, ◌∙◌}
+use Rattle.std.proofs.Common.{◌<◌, length, get_or, ap, subst, ◌∙◌}
 use Rattle.std.specs.List.{All}
 use Rattle.tangle_scan.specs.Texts.{IsTextOf, text_at, text_of}
 use Rattle.tangle_scan.specs.Web.{WebRead, no_piece, web_of}

@@ -1,7 +1,6 @@
 use Rattle.std.proofs.Common.{◌≡◌, ◌∙◌, ◌++◌, ℕ, List, ap, refl, subst, sym}
 use Rattle.tangle_files.specs.Roles.{RolesRead}
 use Rattle.tangle_lines.specs.Reading.{SourceRead}
-use Rattle.tangle_scan.specs.LineTruth.{PiecesAreAtTheirLines}
 use Rattle.tangle_scan.specs.Web.{WebRead, web_of}
 use Rattle.tangle_names.specs.Faults.{name_faults}
 use Rattle.tangle_names.specs.NameTable.{TableRead, table_of}
@@ -56,6 +55,4 @@ returns-clause-made c =
             ++ (parts.ensures.faults i ++ (c.in_ok-of_names.ensures i ++ of_graph)))
             ∙ (λ i. (source_is i).faults ++ ((web_is i).faults ++ (name_faults (web_is i) ++ of_graph)));
       };
-      line_truth = subst (λ (x : SourceRead × WebRead). PiecesAreAtTheirLines x.0 x.1) (λ i. (source_is i, web_is i))
-          c.in_ok-web.ensures.line_truth;
     }

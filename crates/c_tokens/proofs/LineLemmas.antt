@@ -1,0 +1,200 @@
+-- A line feed after a whole text ends its line: the line and what is after it are read each by itself.
+use Rattle.std.proofs.Common.{rules}
+use Rattle.std.proofs.Common.{◌≡◌, ℕ, zero, suc, ◌+◌, ◌≤◌, Bool, true, List, [], ◌∷◌, ◌++◌, take, drop, length, ◌-◌}
+use Rattle.std.proofs.Common.{refl, ap, sym, ◌∙◌, append_assoc, append-nil, arith, length-append, length-drop}
+use Rattle.std.specs.Prelude.{◌&&◌, not, ◌==◌, filter, Some, None}
+use Rattle.std.specs.List.{list_any, list_all, concat, join_with_byte, AllByRecursion}
+use Rattle.std.specs.Str.{bytes_eq}
+use Rattle.std.proofs.lemmas.Bool.{and_from, not-true, false≢true}
+use Rattle.std.proofs.lemmas.List.{drop-append-le}
+use Rattle.std.proofs.lemmas.List.Elements.{All-drop, All-from_recursion, recursion_from_All}
+use Rattle.std.proofs.lemmas.List.Folds.{list_all-append}
+use Rattle.std.proofs.lemmas.Slice.Eq.{bytes_eq-Decides}
+use Rattle.std.proofs.lemmas.Bool.Decides.{nat_tests}
+use Rattle.c_tokens.specs.Bytes.{line_feed, backslash}
+use Rattle.c_tokens.specs.Grammar.{is_token, is_element, is_punctuator}
+use Rattle.c_tokens.specs.Reading.{spliced, longest, elements_from, elements}
+use Rattle.c_tokens.specs.Borders.{is_unfinished, is_whole, last_byte, keep_lines, has_bytes}
+use Rattle.c_tokens.specs.Counting.{Place, PlacedElement, next_place, place_after, places}
+use Rattle.c_tokens.specs.Counting.{with_places, elements_at, tokens_at, lines, lines_from}
+use Rattle.c_tokens.specs.JoinedLines.{joined_lines, LinesAreWhole, lines_of_each}
+use Rattle.c_tokens.proofs.TouchingLemmas.{spliced-both}
+use Rattle.c_tokens.proofs.JoinedLemmas.{IsOneLine, taken-spliced, one-more, joined-is, spliced-other, white-next, white-before}
+use Rattle.c_tokens.proofs.BorderLemmas.{border-elements}
+use Rattle.c_tokens.proofs.LongestLemmas.{longest-one, elements-all}
+
+-- places
+
+places-bytes : (p : Place) (x : ℕ) (a : List ℕ) (c : ℕ) (r : List ℕ) → not (last_byte x a == backslash && c == line_feed) ≡ true →
+    places p (x ∷ a ++ c ∷ r) ≡ places p (x ∷ a) ++ places (place_after p (x ∷ a)) (c ∷ r)
+places-bytes p x [] c r kept = rw (not-true (x == backslash && c == line_feed) kept) refl
+places-bytes p x (d ∷ []) c r kept = grind (arith, nat_tests)
+places-bytes p x (d ∷ e ∷ a) c r kept =
+    grind (arith, nat_tests, places-bytes (next_place (next_place p x) d) e a c r kept, places-bytes (next_place p x) d (e ∷ a) c r kept)
+
+places-both : (p : Place) (a b : List ℕ) → keep_lines a b ≡ true → places p (a ++ b) ≡ places p a ++ places (place_after p a) b
+places-both p a b kept = search (rules, places-bytes)
+
+places-length : (p : Place) (a : List ℕ) → length (places p a) ≡ length (spliced a)
+places-length p [] = refl
+places-length p (b ∷ []) = refl
+places-length p (b ∷ c ∷ bs) =
+    grind (arith, nat_tests, places-length (next_place (next_place p b) c) bs, places-length (next_place p b) (c ∷ bs))
+
+-- elements, and the places of their bytes
+
+take-some : (k x : ℕ) (a : List ℕ) → 1 ≤ k → has_bytes (take k (x ∷ a)) ≡ true
+take-some zero x a h = absurd (omega arith)
+take-some (suc k) x a h = refl
+
+pub elements-some : (n : ℕ) (a : List ℕ) → list_all has_bytes (elements_from n a) ≡ true
+elements-some zero [] = refl
+elements-some (suc n) [] = refl
+elements-some (suc n) (x ∷ a) = elements-some n a
+elements-some zero (x ∷ a) =
+    and_from (has_bytes (take (longest is_element (x ∷ a)) (x ∷ a))) (list_all has_bytes (elements_from (longest is_element (x ∷ a) - 1) a))
+    (take-some (longest is_element (x ∷ a)) x a (longest-one x a)) (elements-some (longest is_element (x ∷ a) - 1) a)
+
+elements-fill : (p : Place) (a : List ℕ) → length (concat (elements a)) ≡ length (places p a)
+elements-fill p a = ap length (elements-all 0 (spliced a)) ∙ sym (places-length p a)
+
+with_places-both : (ps qs : List Place) (es fs : List (List ℕ)) → list_all has_bytes es ≡ true → length (concat es) ≡ length ps →
+    with_places (ps ++ qs) (es ++ fs) ≡ with_places ps es ++ with_places qs fs
+with_places-both [] qs [] fs some same = refl
+with_places-both (p ∷ ps) qs [] fs some same = absurd (omega arith)
+with_places-both ps qs ([] ∷ es) fs some same = absurd (false≢true some)
+with_places-both [] qs ((b ∷ e) ∷ es) fs some same = absurd (omega arith)
+with_places-both (p ∷ ps) qs ((b ∷ e) ∷ es) fs some same =
+    let within : length e + length (concat es) ≡ length ps = omega (arith, same, length-append e (concat es)) in
+    ap (λ more. record { text = b ∷ e; place = p } ∷ with_places more (es ++ fs)) (drop-append-le (length e) ps qs (omega arith))
+    ∙ ap (λ more. record { text = b ∷ e; place = p } ∷ more)
+    (with_places-both (drop (length e) ps) qs es fs some (omega (arith, within, length-drop (length e) ps)))
+
+-- a line feed after a whole text
+
+pub keep-feed : (a rest : List ℕ) → keep_lines a (line_feed ∷ []) ≡ true → keep_lines a (line_feed ∷ rest) ≡ true
+keep-feed a rest kept = search rules
+
+feed-first : (rest : List ℕ) → elements (line_feed ∷ rest) ≡ (line_feed ∷ []) ∷ elements rest
+unfolding is_element is_token is_punctuator
+feed-first rest =
+    ap (elements_from 0) (spliced-other line_feed rest refl)
+    ∙ border-elements (line_feed ∷ []) (spliced rest) refl (white-before line_feed (spliced rest) refl)
+
+pub feed-elements : (l rest : List ℕ) → is_whole l ≡ true → keep_lines l (line_feed ∷ []) ≡ true →
+    elements (l ++ line_feed ∷ rest) ≡ elements l ++ (line_feed ∷ []) ∷ elements rest
+feed-elements l rest whole kept =
+    ap (elements_from 0) (spliced-both l (line_feed ∷ rest) (keep-feed l rest kept) ∙ ap (λ t. spliced l ++ t) (spliced-other line_feed rest refl))
+    ∙ border-elements (spliced l) (line_feed ∷ spliced rest) (not-true (list_any is_unfinished (elements l)) whole) (white-next (spliced l) line_feed (spliced rest) refl)
+    ∙ ap (λ es. elements l ++ elements_from 0 es) (sym (spliced-other line_feed rest refl))
+    ∙ ap (λ es. elements l ++ es) (feed-first rest)
+
+feed-places : (p : Place) (rest : List ℕ) → places p (line_feed ∷ rest) ≡ p ∷ places (next_place p line_feed) rest
+feed-places p [] = refl
+feed-places p (c ∷ rest) = refl
+
+-- lines
+
+abbrev is_feed : PlacedElement → Bool
+is_feed e = bytes_eq e.text (line_feed ∷ [])
+
+abbrev is_kept : PlacedElement → Bool
+is_kept e = is_token e.text
+
+lines-over : (front es rest : List PlacedElement) → list_all (λ e. not (is_feed e)) es ≡ true →
+    lines front (es ++ rest) ≡ lines (front ++ filter is_kept es) rest
+lines-over front [] rest none = ap (λ t. lines t rest) (sym (append-nil front))
+lines-over front (e ∷ es) rest none =
+    grind (arith, nat_tests, lines-over (front ++ e ∷ []) es rest, lines-over front es rest, append_assoc front (e ∷ []) (filter is_kept es))
+
+none-feed : (ps : List Place) (es : List (List ℕ)) → list_all (λ b. not (b == line_feed)) (concat es) ≡ true →
+    list_all (λ e. not (is_feed e)) (with_places ps es) ≡ true
+none-feed ps [] none = refl
+none-feed ps (e ∷ es) none =
+    grind (arith, nat_tests, list_all-append (λ b. not (b == line_feed)) e (concat es), none-feed (drop (length e) ps) es, bytes_eq-Decides e (line_feed ∷ []))
+
+none-feed-at : (p : Place) (l : List ℕ) → IsOneLine l → list_all (λ e. not (is_feed e)) (elements_at p l) ≡ true
+none-feed-at p l joined =
+    none-feed (places p l) (elements l) (ap (list_all (λ b. not (b == line_feed))) (elements-all 0 (spliced l)) ∙ taken-spliced l joined)
+
+-- the first line of a text, if a line feed after a whole line ends it
+pub line-first : (p : Place) (l rest : List ℕ) → is_whole l ≡ true → IsOneLine l → keep_lines l (line_feed ∷ []) ≡ true →
+    lines_from p (l ++ line_feed ∷ rest)
+    ≡ record { tokens = tokens_at p l; end = Some (place_after p l) } ∷ lines_from (next_place (place_after p l) line_feed) rest
+line-first p l rest whole joined kept =
+    let q = place_after p l in
+    ap (λ es. lines [] (with_places (places p (l ++ line_feed ∷ rest)) es)) (feed-elements l rest whole kept)
+    ∙ ap (λ ps. lines [] (with_places ps (elements l ++ (line_feed ∷ []) ∷ elements rest)))
+    (places-both p l (line_feed ∷ rest) (keep-feed l rest kept) ∙ ap (λ ps. places p l ++ ps) (feed-places q rest))
+    ∙ ap (lines []) (with_places-both (places p l) (q ∷ places (next_place q line_feed) rest) (elements l) ((line_feed ∷ []) ∷ elements rest)
+    (elements-some 0 (spliced l)) (elements-fill p l))
+    ∙ lines-over [] (elements_at p l) (record { text = line_feed ∷ []; place = q } ∷ elements_at (next_place q line_feed) rest) (none-feed-at p l joined)
+
+-- the last line
+pub line-last : (p : Place) (l : List ℕ) → IsOneLine l → lines_from p l ≡ record { tokens = tokens_at p l; end = None } ∷ []
+line-last p l joined =
+    ap (lines []) (sym (append-nil (elements_at p l))) ∙ lines-over [] (elements_at p l) [] (none-feed-at p l joined)
+
+-- where tokens are
+
+tokens-placed-by : (Q : Place → Type 0) (ps : List Place) (es : List (List ℕ)) → list_all has_bytes es ≡ true →
+    length (concat es) ≤ length ps → AllByRecursion Q ps → AllByRecursion (λ e. Q e.place) (filter is_kept (with_places ps es))
+tokens-placed-by Q ps [] some within all = tt
+tokens-placed-by Q ps ([] ∷ es) some within all = absurd (false≢true some)
+tokens-placed-by Q [] ((b ∷ e) ∷ es) some within all = absurd (omega arith)
+tokens-placed-by Q (p ∷ ps) ((b ∷ e) ∷ es) some within all =
+    let rest = tokens-placed-by Q (drop (length e) ps) es some
+    (omega (arith, within, length-append e (concat es), length-drop (length e) ps))
+    (recursion_from_All Q _ (All-drop Q (length e) ps (All-from_recursion Q ps all.1))) in
+    search rules
+
+-- what holds of the place of each byte of a text holds of that of each token
+pub tokens-placed : (Q : Place → Type 0) (p : Place) (l : List ℕ) → AllByRecursion Q (places p l) →
+    AllByRecursion (λ e. Q e.place) (tokens_at p l)
+tokens-placed Q p l all =
+    tokens-placed-by Q (places p l) (elements l) (elements-some 0 (spliced l)) (omega (arith, elements-fill p l)) all
+
+-- a text and one byte more
+
+pub places-more : (Q : Place → Type 0) (p : Place) (l : List ℕ) (b : ℕ) → AllByRecursion Q (places p l) → Q (place_after p l) →
+    AllByRecursion Q (places p (l ++ b ∷ []))
+places-more Q p [] b all next = (next, tt)
+places-more Q p (x ∷ []) b all next =
+    search rules
+places-more Q p (x ∷ y ∷ l) b all next =
+    search (rules, places-more Q (next_place (next_place p x) y) l b, places-more Q (next_place p x) (y ∷ l) b)
+
+-- all lines of a text
+
+lines_of_each-more : (p : Place) (line bs : List ℕ) → lines_of_each p (line ∷ joined_lines [] bs)
+    ≡ record { tokens = tokens_at p line; end = Some (place_after p line) } ∷ lines_of_each (next_place (place_after p line) line_feed) (joined_lines [] bs)
+lines_of_each-more p line bs = rw (joined-is [] bs) refl
+
+abbrev AreWhole : List (List ℕ) → Type 0
+AreWhole ls = AllByRecursion (λ l. is_whole l ≡ true) ls
+
+abbrev IsReadEach : List ℕ → List ℕ → Type 0
+IsReadEach line text = (p : Place) → IsOneLine line → AreWhole (joined_lines line text) →
+    lines_from p (line ++ text) ≡ lines_of_each p (joined_lines line text)
+
+each-line-from : (line text : List ℕ) → IsReadEach line text
+each-line-from line [] p one whole = ap (lines_from p) (append-nil line) ∙ line-last p line one
+each-line-from line (b ∷ bs) p one whole =
+    grind (arith, nat_tests, each-line-from [] bs (next_place (place_after p line) line_feed) refl, each-line-from (line ++ b ∷ []) bs p, one-more line b one, line-first p line bs, lines_of_each-more p line bs, append_assoc line (b ∷ []) bs)
+
+-- the lines of a text that has whole lines are these, each read by itself
+pub each-line : (p : Place) (text : List ℕ) → LinesAreWhole text → lines_from p text ≡ lines_of_each p (joined_lines [] text)
+each-line p text whole = each-line-from [] text p refl whole
+
+-- the lines are the whole text
+
+join-more : (line bs : List ℕ) → join_with_byte line_feed (line ∷ joined_lines [] bs) ≡ line ++ line_feed ∷ join_with_byte line_feed (joined_lines [] bs)
+join-more line bs = rw (joined-is [] bs) refl
+
+lines-joined-by : (line bs : List ℕ) → join_with_byte line_feed (joined_lines line bs) ≡ line ++ bs
+lines-joined-by line [] = sym (append-nil line)
+lines-joined-by line (b ∷ bs) =
+    grind (arith, nat_tests, lines-joined-by [] bs, lines-joined-by (line ++ b ∷ []) bs, append_assoc line (b ∷ []) bs, join-more line bs)
+
+pub lines-joined : (text : List ℕ) → join_with_byte line_feed (joined_lines [] text) ≡ text
+lines-joined text = lines-joined-by [] text

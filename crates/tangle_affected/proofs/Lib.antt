@@ -1,4 +1,0 @@
-mod FlagLemmas
-mod ListLemmas
-mod KeepLemmas
-pub mod OutputLemmas

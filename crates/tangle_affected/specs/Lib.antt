@@ -1,3 +1,0 @@
-pub mod Affected
-pub mod Flags
-pub mod Keeping

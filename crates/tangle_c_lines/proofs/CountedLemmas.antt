@@ -1,0 +1,110 @@
+-- The tokens of a file are counted as they are written.
+use Rattle.std.proofs.Common.{◌≡◌, ℕ, Bool, true, false, List, [], ◌∷◌, ◌++◌}
+use Rattle.std.proofs.Common.{None, refl, sym, subst, append-nil, zero-le}
+use Rattle.std.specs.Prelude.{if◌then◌else◌}
+use Rattle.c_tokens.specs.Bytes.{line_feed}
+use Rattle.c_tokens.specs.Counting.{start_of_text}
+use Rattle.tangle_files.specs.declared.marks.MarkMode.TheVariants.{Full}
+use Rattle.tangle_lines.specs.Reading.{SourceRead}
+use Rattle.tangle_scan.proofs.laws.WebLaws.{web-line-truth}
+use Rattle.tangle_scan.specs.Directives.{SameRegion}
+use Rattle.tangle_scan.specs.Rules.{texts_of}
+use Rattle.tangle_scan.specs.Web.{WebRead, web_of}
+use Rattle.tangle_names.specs.NameTable.{table_of}
+use Rattle.tangle_bodies.specs.Shapes.{Title}
+use Rattle.tangle_bodies.specs.Flat.{Symbol}
+use Rattle.tangle_expansion.specs.Limits.{levels, flat_of, IsExpandableNode}
+use Rattle.tangle_expansion.specs.Location.{ByteClass, AreAtTheirOrigins, classes}
+use Rattle.tangle_expansion.specs.Numbers.{NumbersRead, expansion_bytes}
+use Rattle.tangle_expansion.specs.Outputs.{front_bytes}
+use Rattle.tangle_expansion.proofs.LineTruth.{node_is_located}
+use Rattle.tangle_c_tokens.specs.Files.{SourceHasNoLineFeed, numbers_in, shapes_in, ReachesWholePieces}
+use Rattle.tangle_c_lines.specs.CountedLines.{no_class, classes_of_bytes, classes_of_file, bytes_of_file, FilesAreCountedAsWritten, SourceLinesAreLow}
+use Rattle.tangle_c_tokens.proofs.AllMacroLemmas.{macros-keep}
+use Rattle.tangle_c_tokens.proofs.FeedLemmas.{KeepsFeed}
+use Rattle.tangle_c_tokens.proofs.FileLemmas.{AreWrittenByPieces, file-is_read}
+use Rattle.tangle_c_lines.proofs.LineEndLemmas.{last-read}
+use Rattle.tangle_c_lines.proofs.RunLemmas.{IsReadOn, keeps_after, loose-read}
+use Rattle.tangle_c_lines.proofs.SymbolLemmas.{AreKept, symbols-read, keeps_after-from}
+use Rattle.tangle_c_lines.proofs.FitLemmas.{node-fits}
+use Rattle.tangle_c_lines.proofs.LowLemmas.{mark-low}
+use Rattle.tangle_c_lines.proofs.KeptLemmas.{node-kept}
+
+module _ (pieces : AreWrittenByPieces) (source : SourceRead) (clear : SourceHasNoLineFeed source) (low : SourceLinesAreLow source.lines) where
+  abbrev web : WebRead
+  web = web_of source
+
+  abbrev numbers : NumbersRead
+  numbers = numbers_in source Full
+
+  abbrev symbols_of : Title → List Symbol
+  symbols_of node = flat_of (shapes_in source) node
+
+  abbrev classes_in : Title → List ByteClass
+  classes_in node = classes levels source web node
+
+  abbrev IsReady : Title → Type 0
+  IsReady node = IsExpandableNode (shapes_in source) node × ReachesWholePieces source node
+
+  macros_keep : KeepsFeed numbers.macros
+  macros_keep = macros-keep (texts_of source.lines) web.macros
+
+  module _ (all : List ByteClass) (text : List ℕ) where
+    -- after the macros
+    abbrev Property : Bool → Title → Bool → Type 0
+    Property true node now = AreAtTheirOrigins numbers now None (symbols_of node) (classes_in node)
+    Property false node now = Unit {0}
+
+    after-macros : (has_piece : Bool) (node : Title) → (has_piece ≡ true → IsReady node)
+        → IsReadOn web.file_names all text true None
+        (if has_piece then expansion_bytes numbers (symbols_of node) ++ line_feed ∷ [] else [])
+        (if has_piece then classes_of_bytes numbers (symbols_of node) (classes_in node) ++ no_class ∷ [] else [])
+        (Property has_piece node)
+    after-macros false node ready = λ start line read count choices border kept s pending.
+        last-read web.file_names all text start line read count choices border None [] s
+    after-macros true node ready =
+        symbols-read web (table_of web) clear.names (mark-low source low) macros_keep all text
+        (symbols_of node) (classes_in node) true None
+        (node-fits source levels node (web-line-truth source) clear.lines)
+        (subst (AreKept true) (append-nil (symbols_of node)) (node-kept source levels node (ready refl).1 [] tt))
+
+    property : (has_piece : Bool) (node : Title) → Property has_piece node true
+    property false node = tt
+    property true node = node_is_located source web levels node true None (web-line-truth source)
+
+    front-keeps : (has_macros : Bool) → keeps_after true (front_bytes numbers has_macros) ≡ true
+    front-keeps false = refl
+    front-keeps true = keeps_after-from true numbers.macros refl macros_keep
+
+  pub file-counted : FilesAreCountedAsWritten source
+  file-counted name has_macros has_piece node whole ready seen choices =
+      loose-read web.file_names all text true (front_bytes numbers has_macros) rest more (Property all text has_piece node)
+      (subst (λ (kept : Bool). IsReadOn web.file_names all text kept None rest more (Property all text has_piece node)) (sym (front-keeps all text has_macros))
+      (after-macros all text has_piece node ready))
+      start_of_text [] true (record { row = 0; origin = record { file = name; line = 1 } }) choices SameRegion refl
+      (record {
+        own = λ now. tt;
+        plain = tt;
+        counts = tt;
+        row = zero-le;
+        joined = refl;
+        whole = (file-is_read pieces source Full clear has_macros has_piece node whole ready).lines;
+        borders = tt;
+        seen = seen;
+        classes_are = refl;
+        bytes_are = refl;
+        line_is = refl;
+      })
+      (property all text has_piece node)
+    where
+      all : List ByteClass
+      all = classes_of_file source has_macros has_piece node
+
+      text : List ℕ
+      text = bytes_of_file source has_macros has_piece node
+
+      rest : List ℕ
+      rest = if has_piece then expansion_bytes numbers (symbols_of node) ++ line_feed ∷ [] else []
+
+      more : List ByteClass
+      more = if has_piece then classes_of_bytes numbers (symbols_of node) (classes_in node) ++ no_class ∷ [] else []

@@ -1,0 +1,124 @@
+-- The classes of an expansion fit its symbols: an item has no line feed, and each other byte is a
+-- line feed with its class, or a space.
+use Rattle.std.proofs.Common.{rules}
+use Rattle.std.proofs.Common.{arith}
+use Rattle.std.proofs.Common.{◌≡◌, ℕ, ◌+◌, ◌-◌, zero, suc, Bool, true, false, List, [], ◌∷◌, ◌++◌, map, drop, get_or}
+use Rattle.std.proofs.Common.{refl, sym, subst}
+use Rattle.std.specs.Prelude.{◌==◌, if◌then◌else◌, filter, flat_map}
+use Rattle.std.specs.List.{AllZip, zip, list_all}
+use Rattle.std.proofs.lemmas.Bool.Decides.{nat_tests}
+use Rattle.c_tokens.specs.Bytes.{line_feed, is_digit}
+use Rattle.tangle_lines.specs.Reading.{SourceLine, SourceRead}
+use Rattle.tangle_text.specs.Text.{span_text}
+use Rattle.tangle_text.specs.declared.spans.Span.{Span}
+use Rattle.tangle_scan.specs.ItemBytes.{bytes_in}
+use Rattle.tangle_scan.specs.declared.items.Item.{Item}
+use Rattle.tangle_scan.specs.declared.items.Item.TheVariants as item
+use Rattle.tangle_scan.specs.Rules.{texts_of}
+use Rattle.tangle_scan.specs.Directives.{Border, SameRegion, border_after, after_line_end}
+use Rattle.tangle_scan.specs.LineTruth.{Location, piece_locations, PiecesAreAtTheirLines}
+use Rattle.tangle_scan.specs.Web.{WebRead, PieceRead, web_of}
+use Rattle.tangle_names.specs.declared.Resolved.{Resolved}
+use Rattle.tangle_names.specs.declared.Resolved.TheVariants.{Name}
+use Rattle.tangle_names.specs.NameTable.{table_of}
+use Rattle.tangle_bodies.specs.Shapes.{Title, Named, ShapeItem}
+use Rattle.tangle_bodies.specs.Flat.{Symbol, Byte, items_flat, pieces_flat, flat}
+use Rattle.tangle_bodies.specs.WebShapes.{is_piece_of, use_of, resolved_at, shape_item, shape_of, shapes}
+use Rattle.tangle_expansion.specs.Location.{ByteClass, Other, class_at, resolved_classes, items_classes, classes}
+use Rattle.tangle_c_tokens.specs.LineFeeds.{TextHasNoLineFeed, SourceLinesHaveNoLineFeed}
+use Rattle.tangle_c_tokens.proofs.DecimalLemmas.{decimal-digits}
+use Rattle.tangle_c_tokens.proofs.OneLineLemmas.{no-feed-take, no-feed-drop, line-at}
+use Rattle.tangle_c_lines.proofs.SymbolLemmas.{FitsClass}
+
+zip-both : {X Y : Type 0} (R : X → Y → Type 0) (xs zs : List X) (ys ws : List Y) → AllZip R xs ys → AllZip R zs ws → AllZip R (xs ++ zs) (ys ++ ws)
+zip-both R [] zs [] ws h k = k
+zip-both R [] zs (y ∷ ys) ws h k = absurd h
+zip-both R (x ∷ xs) zs [] ws h k = absurd h
+zip-both R (x ∷ xs) zs (y ∷ ys) ws h k = (h.0, zip-both R xs zs ys ws h.1 k)
+
+-- texts without line feeds
+
+span-none : (lines : List SourceLine) (s : Span) → SourceLinesHaveNoLineFeed lines → TextHasNoLineFeed (span_text (texts_of lines) s)
+span-none lines s clear =
+    no-feed-take (s.end - s.start) (drop s.start (get_or (texts_of lines) s.line [])) (no-feed-drop s.start (get_or (texts_of lines) s.line []) (line-at lines clear s.line))
+
+digits-none : (t : List ℕ) → list_all is_digit t ≡ true → TextHasNoLineFeed t
+digits-none [] all = refl
+digits-none (b ∷ t) all = grind (arith, nat_tests, digits-none t)
+
+module _ (web : WebRead) (lines : List SourceLine) (same : web.texts ≡ texts_of lines) (clear : SourceLinesHaveNoLineFeed lines)
+    (used : List ℕ → List Symbol) (used_classes : List ℕ → List ByteClass)
+    (all : (name : List ℕ) → AllZip FitsClass (used name) (used_classes name)) where
+  fits-class : (b : ℕ) (ss : List Location) → (b == line_feed) ≡ false → FitsClass (Byte b) (class_at lines ss)
+  fits-class b ss other = search rules
+
+  bytes-fit : (bytes : List ℕ) (ss : List Location) (ys : List Symbol) (ds : List ByteClass) → TextHasNoLineFeed bytes
+      → AllZip FitsClass ys ds → AllZip FitsClass (map Byte bytes ++ ys) (map (λ b. class_at lines ss) bytes ++ ds)
+  bytes-fit [] ss ys ds none h = h
+  bytes-fit (b ∷ bytes) ss ys ds none h =
+      (fits-class b ss (grind (arith, nat_tests)), bytes-fit bytes ss ys ds (grind (arith, nat_tests)) h)
+
+  span-fits : (s : Span) → TextHasNoLineFeed (span_text web.texts s)
+  span-fits s = subst (λ (texts : List (List ℕ)). TextHasNoLineFeed (span_text texts s)) (sym same) (span-none lines s clear)
+
+  resolved-fit : (node : Title) (piece marks : ℕ) (items : List ShapeItem) (ds : List ByteClass) (border : Border) (r : Resolved)
+      → AllZip FitsClass (items_flat used node piece marks items) ds
+      → AllZip FitsClass (items_flat used node piece marks (use_of (table_of web) r ∷ items))
+      (Other border ∷ resolved_classes (table_of web) used_classes r ++ ds)
+  resolved-fit node piece marks items ds border (Name id) h = (refl, zip-both FitsClass _ _ _ _ (all _) h)
+  resolved-fit node piece marks items ds border _ h = (refl, h)
+
+  items-fit : (node : Title) (piece marks : ℕ) (line items : List Item) (ss : List Location)
+      → AllZip FitsClass (items_flat used node piece marks (map (shape_item web.texts (table_of web)) items))
+      (items_classes (table_of web) used_classes web.texts lines line ss items)
+  items-fit node piece marks line [] ss = (tt, tt)
+  items-fit node piece marks line (item.QuoteBreak ∷ items) ss =
+      (refl, items-fit node piece marks (line ++ item.QuoteBreak ∷ []) items ss)
+  items-fit node piece marks line (item.LineEnd ∷ items) ss =
+      (refl, items-fit node piece marks (after_line_end (texts_of lines) line) items ss)
+  items-fit node piece marks line (item.Blank ∷ items) ss =
+      (refl, items-fit node piece marks (line ++ item.Blank ∷ []) items ss)
+  items-fit node piece marks line (item.LineMark origin ∷ items) ss = (tt, items-fit node piece (marks + 1) [] items ss)
+  items-fit node piece marks line (item.UseOf occurrence ∷ items) ss =
+      resolved-fit node piece marks (map (shape_item web.texts (table_of web)) items) _ (border_after (texts_of lines) line) (resolved_at (table_of web) occurrence)
+      (items-fit node piece marks [] items ss)
+  items-fit node piece marks line (item.AllMacros ∷ items) ss = (tt, items-fit node piece marks [] items ss)
+  items-fit node piece marks line (x ∷ items) ss =
+      bytes-fit (bytes_in web.texts x) ss _ _ (search (rules, span-fits, digits-none, decimal-digits))
+      (items-fit node piece marks (line ++ x ∷ []) items (drop 1 ss))
+
+  abbrev of_node : Title → List PieceRead → List PieceRead
+  of_node node pieces = filter (is_piece_of (table_of web) node) pieces
+
+  abbrev classes_in : Title → List (PieceRead × List Location) → List ByteClass
+  classes_in node pieces =
+      flat_map (λ p. Other SameRegion ∷ Other SameRegion ∷ items_classes (table_of web) used_classes web.texts lines [] p.1 p.0.items) pieces
+
+  -- the pieces of a node, from the one with this number on
+  pieces-fit : (R : PieceRead → List Location → Type 0) (node : Title) (piece : ℕ) (pieces : List PieceRead) (locations : List (List Location))
+      → AllZip R pieces locations
+      → AllZip FitsClass (pieces_flat used node piece (shape_of web.texts (table_of web) (of_node node pieces)))
+      (classes_in node (filter (λ p. is_piece_of (table_of web) node p.0) (zip pieces locations)))
+  pieces-fit R node piece [] locations long = tt
+  pieces-fit R node piece (p ∷ pieces) [] long = absurd long
+  pieces-fit R node piece (p ∷ pieces) (e ∷ locations) long =
+      by (is_piece_of (table_of web) node p) (λ n. pieces-fit R node n pieces locations long.1)
+    where
+      others : List (PieceRead × List Location)
+      others = filter (λ p. is_piece_of (table_of web) node p.0) (zip pieces locations)
+
+      by : (t : Bool)
+          → ((n : ℕ) → AllZip FitsClass (pieces_flat used node n (shape_of web.texts (table_of web) (of_node node pieces))) (classes_in node others))
+          → AllZip FitsClass (pieces_flat used node piece (shape_of web.texts (table_of web) (if t then p ∷ of_node node pieces else of_node node pieces)))
+          (classes_in node (if t then (p, e) ∷ others else others))
+      by true more = (tt, (tt, zip-both FitsClass _ _ _ _ (items-fit node piece 0 [] p.items e) (more (piece + 1))))
+      by false more = more piece
+
+pub node-fits : (source : SourceRead) (fuel : ℕ) (node : Title) → PiecesAreAtTheirLines source (web_of source) → SourceLinesHaveNoLineFeed source.lines
+    → AllZip FitsClass (flat fuel (shapes (web_of source) (table_of (web_of source))) node) (classes fuel source (web_of source) node)
+node-fits source zero node own clear = tt
+node-fits source (suc fuel) node own clear =
+    pieces-fit (web_of source) source.lines refl clear
+    (λ name. flat fuel (shapes (web_of source) (table_of (web_of source))) (Named name)) (λ name. classes fuel source (web_of source) (Named name))
+    (λ name. node-fits source fuel (Named name) own clear)
+    _ node 0 (web_of source).pieces (piece_locations source.lines) own

@@ -1,0 +1,12 @@
+pub mod KeptMarks
+pub mod ByteLemmas
+pub mod SignLemmas
+pub mod LineEndLemmas
+pub mod RunLemmas
+pub mod SymbolLemmas
+pub mod FitLemmas
+pub mod LowLemmas
+pub mod KeptLemmas
+pub mod CountedLemmas
+pub mod LowSources
+pub mod WorkedCountedLines

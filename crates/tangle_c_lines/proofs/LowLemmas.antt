@@ -1,0 +1,102 @@
+-- The line marks of a web have origins of source lines, whose numbers are as low as those of the
+-- source lines are.
+use Rattle.std.proofs.Common.{rules}
+use Rattle.std.proofs.Common.{arith}
+use Rattle.std.proofs.Common.{ℕ, Bool, false, List, [], ◌∷◌, ◌++◌, map}
+use Rattle.std.proofs.Common.{Option, None, Some}
+use Rattle.std.specs.Prelude.{filter, flat_map}
+use Rattle.std.specs.List.{AllByRecursion}
+use Rattle.tangle_files.specs.declared.marks.MarkMode.TheVariants.{Full}
+use Rattle.tangle_lines.specs.declared.origin.Origin.{Origin}
+use Rattle.tangle_lines.specs.Reading.{SourceLine, SourceRead, origin_at}
+use Rattle.tangle_lexer.specs.Steps.{all_tokens}
+use Rattle.tangle_lexer.specs.declared.tokens.Token.{Token}
+use Rattle.tangle_scan.specs.declared.items.Item.{Item}
+use Rattle.tangle_scan.specs.declared.items.Item.TheVariants as item
+use Rattle.tangle_scan.specs.Rules.{texts_of, token_items, marks_after, with_all_marks, with_needed_marks, part_items, blanks, part_tokens, next_line}
+use Rattle.tangle_scan.specs.Texts.{item_origins}
+use Rattle.tangle_scan.specs.Web.{WebRead, PieceRead, web_of, Block, blocks, piece_of}
+use Rattle.tangle_names.specs.NameTable.{TableRead, table_of}
+use Rattle.tangle_bodies.specs.Shapes.{Title, Program, Named}
+use Rattle.tangle_bodies.specs.WebShapes.{pieces_of, is_piece_of}
+use Rattle.tangle_expansion.specs.Numbers.{NumbersRead, PieceNumbersRead, numbers_of, numbers_of_piece, numbers_at, node_numbers, row_number, origin_of_mark, no_origin, no_numbers}
+use Rattle.tangle_expansion.specs.SymbolLimits.{IsLow}
+use Rattle.tangle_c_tokens.proofs.ListLemmas.{all-get}
+use Rattle.tangle_c_lines.specs.CountedLines.{SourceLinesAreLow}
+
+module _ (lines : List SourceLine) (low : SourceLinesAreLow lines) where
+  origin-low : (n : ℕ) → IsLow (origin_at lines n)
+  origin-low n = all-get (λ (l : SourceLine). IsLow l.origin) lines n _ (omega arith) low
+
+  abbrev AreLow : List Item → Type 0
+  AreLow items = AllByRecursion IsLow (flat_map item_origins items)
+
+  token-low : (e : Token) (more : List Item) → AreLow more → AreLow (token_items e ++ more)
+  token-low e more h = search rules
+
+  marks-low : (before : Option Token) (e : Token) (more : List Item) → AreLow more → AreLow (marks_after lines before e ++ more)
+  marks-low before e more h = search (rules, origin-low)
+
+  all-marks-low : (before : Option Token) (es : List Token) → AreLow (with_all_marks lines before es)
+  all-marks-low before [] = tt
+  all-marks-low before (e ∷ es) = token-low e _ (marks-low before e _ (all-marks-low (Some e) es))
+
+  needed-low : (line : List Item) (counted : Origin) (items : List Item) → AreLow items → AreLow (with_needed_marks (texts_of lines) line counted items)
+  needed-low line counted [] h = tt
+  needed-low line counted (item.LineEnd ∷ item.LineMark p ∷ items) h =
+      search (rules, needed-low [] p items)
+  needed-low line counted (item.LineEnd ∷ []) h = tt
+  needed-low line counted (item.LineEnd ∷ x ∷ items) h = needed-low (line ++ item.LineEnd ∷ []) (next_line counted) (x ∷ items) h
+  needed-low line counted (item.QuoteBreak ∷ items) h = needed-low (line ++ item.QuoteBreak ∷ []) (next_line counted) items h
+  needed-low line counted (item.LineMark p ∷ items) h = (h.0, needed-low [] p items h.1)
+  needed-low line counted (x ∷ items) h = needed-low (line ++ x ∷ []) counted items h
+
+  part-low : (line : ℕ) (es : List Token) → AreLow (part_items lines line es)
+  part-low line es = needed-low [] (origin_at lines line)
+      (with_all_marks lines None (blanks (texts_of lines) None false (part_tokens (texts_of lines) es)))
+      (all-marks-low None (blanks (texts_of lines) None false (part_tokens (texts_of lines) es)))
+
+-- the origins of the marks of a piece
+abbrev pub IsLowPiece : PieceRead → Type 0
+IsLowPiece p = IsLow p.origin × AllByRecursion IsLow (flat_map item_origins p.items)
+
+pieces-low : (lines : List SourceLine) → SourceLinesAreLow lines → (bs : List Block) → AllByRecursion IsLowPiece (flat_map (piece_of lines) bs)
+pieces-low lines low [] = tt
+pieces-low lines low (b ∷ bs) =
+    search (rules, pieces-low lines low bs, origin-low, part-low)
+
+abbrev AreLowNumbers : List PieceNumbersRead → Type 0
+AreLowNumbers ns = AllByRecursion (λ n. AllByRecursion IsLow n.origins) ns
+
+numbers-low : (test : PieceRead → Bool) (pieces : List PieceRead) → AllByRecursion IsLowPiece pieces → AreLowNumbers (map numbers_of_piece (filter test pieces))
+numbers-low test [] low = tt
+numbers-low test (p ∷ pieces) low =
+    search (rules, numbers-low test pieces)
+
+-- the origin of each mark is low
+pub mark-low : (source : SourceRead) → SourceLinesAreLow source.lines → (node : Title) (piece mark : ℕ)
+    → IsLow (origin_of_mark (numbers_of (web_of source) (table_of (web_of source)) Full) node piece mark)
+mark-low source low node piece mark =
+    all-get IsLow (numbers_at numbers node piece).origins mark no_origin (omega arith)
+    (all-get (λ (n : PieceNumbersRead). AllByRecursion IsLow n.origins) (node_numbers numbers node) piece no_numbers tt
+    (all-get AreLowNumbers numbers.rows (row_number numbers.names node) [] tt (of_program, names-low numbers.names)))
+  where
+    web : WebRead
+    web = web_of source
+
+    table : TableRead
+    table = table_of web
+
+    numbers : NumbersRead
+    numbers = numbers_of web table Full
+
+    each : AllByRecursion IsLowPiece web.pieces
+    each = pieces-low source.lines low (blocks 0 (all_tokens source.lines))
+
+    of_program : AreLowNumbers (map numbers_of_piece (pieces_of web table Program))
+    of_program = numbers-low (is_piece_of table Program) web.pieces each
+
+    names-low : (names : List (List ℕ))
+        → AllByRecursion AreLowNumbers (map (map numbers_of_piece) (map (λ name. pieces_of web table (Named name)) names))
+    names-low [] = tt
+    names-low (name ∷ names) = (numbers-low (is_piece_of table (Named name)) web.pieces each, names-low names)

@@ -1,0 +1,100 @@
+-- The nodes that are listed along the order are the affected ones.
+use Rattle.std.proofs.Common.{rules}
+use Rattle.std.proofs.lemmas.Bool.Decides.{nat_tests}
+use Rattle.std.proofs.Common.{◌≡◌, ◌≢◌, ◌<◌, ◌≤◌, ℕ, zero, Bool, List, [], ◌∷◌, length, take, get_or, refl}
+use Rattle.std.proofs.Common.{arith, Contains}
+use Rattle.std.specs.List.{filter}
+use Rattle.std.proofs.Math.Decide.{dec_lt, ℕ_discrete}
+use Rattle.std.proofs.lemmas.Bool.{and_parts, and_from}
+use Rattle.std.proofs.lemmas.List.{get_or-take, get_or_default}
+use Rattle.std.proofs.lemmas.List.Elements.{Contains-get_or}
+use Rattle.std.proofs.lemmas.List.Kept.{AllPairs-filter}
+use Rattle.tangle_bodies.specs.Shapes.{Title, Shapes, Uses}
+use Rattle.digraph.specs.Nodes.{Node, program}
+use Rattle.tangle_graph.specs.Ordering.{IsOrderIn}
+use Rattle.tangle_graph.specs.Stores.{StoreRead, IsStoreOf, flag_at, is_expandable_at, title_in_store}
+use Rattle.tangle_graph.specs.Stores.{uses_at}
+use Rattle.tangle_graph.specs.Affected.{ListsAffected}
+use Rattle.tangle_graph.specs.Keeping.{ListsExpandable}
+use Rattle.tangle_graph.specs.AffectedFlags.{AreFlagged, is_expandable_and_flagged}
+use Rattle.tangle_names.proofs.ContainsLemmas.{into_filter, out_of_filter}
+use Rattle.tangle_graph.proofs.FlagLemmas.{in_front}
+use Rattle.tangle_graph.proofs.ExpandLemmas.{expandable_at}
+
+pub lists_expandable : (store : StoreRead) (order : List Node)
+    → IsOrderIn store order → ListsExpandable store (filter (is_expandable_at store) order)
+lists_expandable store order ordered = record {
+  once = AllPairs-filter (λ a b. a ≢ b) (is_expandable_at store) order ordered.once;
+  just = λ a. (
+    λ c. (let there = out_of_filter (is_expandable_at store) order a c in (ordered.inside a there.0, there.1)),
+    λ both. into_filter (is_expandable_at store) order a (ordered.expandable a both.0 both.1) both.1,
+  );
+}
+
+module _ (shapes : Shapes) (store : StoreRead) (order : List Node)
+    (is : IsStoreOf shapes store) (ordered : IsOrderIn store order) where
+  -- a node uses none that is not before it in the order
+  before_only : (i j : ℕ) (d : Node) → i ≤ j → j < length order
+      → Contains (uses_at store (get_or order i d)) (get_or order j d) → ⊥
+  before_only i j d le h u =
+      let b = get_or order j d in
+      grind (arith, nat_tests, in_front order i b, get_or_default order i d, get_or_default order j d b h)
+
+  -- so a node of a filter of the order comes after those of the filter that it uses
+  filtered_after : (p : Node → Bool) (k : ℕ) (used : Node)
+      → k < length (filter p order) → Contains (filter p order) used
+      → Uses shapes (title_in_store store (get_or (filter p order) k program)) (title_in_store store used)
+      → Contains (take k (filter p order)) used
+  filtered_after p k used h c u =
+      let listed = filter p order in
+      let node = get_or listed k program in
+      let there = (out_of_filter p order node (Contains-get_or listed k program h)).0 in
+      let uses : Contains (uses_at store node) used = (is.uses node used (ordered.inside node there)).1
+      (ordered.inside used (out_of_filter p order used c).0, u) in
+      elim (dec_lt c.0 k) [
+        | yes low ↦ search (rules, get_or-take)
+        | no high ↦ elim (ℕ_discrete k c.0) [
+          | yes same ↦ grind (arith, nat_tests, get_or_default listed c.0 used program c.1, before_only there.0 there.0 node)
+          | no other ↦ absurd (AllPairs-filter (λ a b. Contains (uses_at store a) b → ⊥) p order
+              (λ i j d less. before_only i j d (omega arith)) k c.0 used (omega arith) c.1
+              (rw (c.2, get_or_default listed k used program h) uses))
+        ]
+      ]
+
+  module _ (old : Shapes) (flags : List Bool) (are : AreFlagged old shapes store flags order) where
+    pub lists_affected : ListsAffected old shapes store (filter (is_expandable_and_flagged store flags) order)
+    lists_affected = record {
+      once = AllPairs-filter (λ a b. a ≢ b) p order ordered.once;
+      just = λ a. (
+        λ c. (let there = out_of_filter p order a c in
+            let both = and_parts (is_expandable_at store a) (flag_at flags a) there.1 in
+            let inside = ordered.inside a there.0 in
+            let r = (are a there.0).0 both.1 in (
+              inside,
+              record {
+                expandable = (expandable_at shapes store is a inside).0 both.0;
+                cause = r.0;
+                reaches = r.1;
+                changed = r.2;
+              },
+            )),
+        λ is_so. (let affected = is_so.1 in
+            let flag = (expandable_at shapes store is a is_so.0).1 affected.expandable in
+            let c = ordered.expandable a is_so.0 flag in
+            let flagged = (are a c).1 (affected.cause, affected.reaches, affected.changed) in
+            into_filter p order a c (and_from (is_expandable_at store a) (flag_at flags a) flag flagged)),
+      );
+      after = filtered_after p;
+    }
+      where
+        p : Node → Bool
+        p = is_expandable_and_flagged store flags
+
+no_element : (nodes : List Node) → ((a : Node) → Contains nodes a → ⊥) → nodes ≡ []
+no_element [] none = refl
+no_element (a ∷ nodes) none = absurd (none a (zero, omega arith, refl))
+
+pub nothing_listed : (old new : Shapes) (store : StoreRead) (nodes : List Node)
+    → ((node : Title) → new node ≡ old node) → ListsAffected old new store nodes → nodes ≡ []
+nothing_listed old new store nodes alike lists =
+    no_element nodes (λ a c. (let affected = ((lists.just a).0 c).1 in affected.changed (alike affected.cause)))

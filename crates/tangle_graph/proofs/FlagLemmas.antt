@@ -1,0 +1,96 @@
+-- One more node of the order is flagged or not.
+use Rattle.std.proofs.Common.{rules}
+use Rattle.std.proofs.lemmas.Bool.Decides.{nat_tests}
+use Rattle.std.proofs.Common.{◌≡◌, ◌≢◌, ◌∙◌, ◌+◌, ◌<◌, ◌↔◌, ℕ, ◌||◌, Bool, true, false, List, [], ◌∷◌, ◌++◌, length, take}
+use Rattle.std.proofs.Common.{◌⊎◌, get_or, set, ap, sym, subst, inl, inr, arith, Contains}
+use Rattle.std.proofs.Common.{get_or-set_same, get_or-set_other, length-take}
+use Rattle.std.proofs.lemmas.List.{get_or-take, get_or_default, take_more}
+use Rattle.std.specs.Bool.{Decides}
+use Rattle.std.proofs.lemmas.Bool.Decides.{Decides-at, Decides-like, Decides-or}
+use Rattle.std.proofs.lemmas.List.Folds.{Any-from_list_any, list_any-from_Any}
+use Rattle.std.proofs.lemmas.List.Elements.{Contains-push_cases}
+use Rattle.tangle_bodies.specs.Shapes.{Title, Named, Shapes, Uses}
+use Rattle.tangle_bodies.specs.Shapes as title
+use Rattle.digraph.specs.Nodes.{Node}
+use Rattle.digraph.specs.Reach.{here, on}
+use Rattle.tangle_graph.specs.Ordering.{IsOrderIn}
+use Rattle.tangle_graph.specs.Stores.{StoreRead, IsStoreOf, IsNodeIn, flag_at, uses_at, title_in_store}
+use Rattle.tangle_graph.proofs.NameLemmas.{used_node}
+use Rattle.tangle_graph.specs.AffectedFlags.{ReachesNewShape, AreFlagged, uses_flagged}
+
+-- an item among the first `i` of a list is at a position before `i`
+pub in_front : {X : Type 0} (xs : List X) (i : ℕ) (x : X)
+    → Contains (take i xs) x → (k : ℕ) × (k < i) × (k < length xs) × (get_or xs k x ≡ x)
+in_front xs i x c = search (rules, length-take, get_or-take)
+
+-- a node that reaches a new shape has one, or uses a name that reaches one
+first_step : (old new : Shapes) (t : Title) → ReachesNewShape old new t
+    → (new t ≢ old t) ⊎ ((used : Title) × Uses new t used × ReachesNewShape old new used)
+first_step old new t r = grind (arith, nat_tests)
+
+module _ (store : StoreRead) (order : List Node) (ordered : IsOrderIn store order)
+    (i : ℕ) (inside : i < length order) (node : Node) (at : node ≡ get_or order i node) where
+  -- the node at a position of the order, and one before it
+  pub at_position : IsNodeIn store node
+  at_position = ordered.inside node (i, inside, sym at)
+
+  pub apart : (a : Node) → Contains (take i order) a → a ≢ node
+  apart a c same = grind (arith, nat_tests, in_front order i a c)
+
+  pub after_used : (m : Node) → Contains (uses_at store node) m → Contains (take i order) m
+  after_used m used = search (rules, get_or_default)
+
+  -- what is true of the nodes before a position, and of the node there, is true of all up to it
+  pub value_more : (P Q : Node → Type 0) → ((a : Node) → a ≢ node → P a → Q a) → Q node
+      → ((a : Node) → Contains (take i order) a → P a) → (a : Node) → Contains (take (i + 1) order) a → Q a
+  value_more P Q stays own before a c =
+      elim (Contains-push_cases (take i order) node a (subst (λ l. Contains l a)
+      (take_more order i node inside ∙ ap (λ n. take i order ++ n ∷ []) (sym at)) c)) [
+        | inl old ↦ stays a (apart a old) (before a old)
+        | inr same ↦ subst Q same own
+      ]
+
+  module _ (old new : Shapes) (is : IsStoreOf new store) (flags : List Bool)
+      (are : AreFlagged old new store flags (take i order)) where
+    -- a name that the node uses reaches a new shape exactly if the node uses a flagged node
+    uses_decide : Decides (uses_flagged store flags node)
+        ((used : Title) × Uses new (title_in_store store node) used × ReachesNewShape old new used)
+    uses_decide = (
+      λ some. (let found = Any-from_list_any (flag_at flags) (uses_at store node) some in
+          let used : Contains (uses_at store node) found.1 = (found.0, found.2, found.3) in (
+            title_in_store store found.1,
+            ((is.uses node found.1 at_position).0 used).1,
+            (are found.1 (after_used found.1 used)).0 found.4,
+          )),
+      λ some. by some.0 some.1 some.2,
+    )
+      where
+        by : (used : Title) → Uses new (title_in_store store node) used → ReachesNewShape old new used
+            → uses_flagged store flags node ≡ true
+        by title.Program u r = absurd u
+        by (Named name) u r =
+            let m = used_node new store node name is at_position u in
+            let used = (is.uses node m.0 at_position).1
+            (m.1, subst (Uses new (title_in_store store node)) (sym m.2) u) in
+            list_any-from_Any (flag_at flags) (uses_at store node) (
+              used.0,
+              m.0,
+              used.1,
+              used.2,
+              (are m.0 (after_used m.0 used)).1 (subst (ReachesNewShape old new) (sym m.2) r),
+            )
+
+    pub flagged_next : (own : Bool) → length flags ≡ length store.names + 1
+        → ((own ≡ true) ↔ (new (title_in_store store node) ≢ old (title_in_store store node)))
+        → AreFlagged old new store (set flags node (own || uses_flagged store flags node)) (take (i + 1) order)
+    flagged_next own size is_new =
+        let b = own || uses_flagged store flags node in
+        value_more (λ a. (flag_at flags a ≡ true) ↔ ReachesNewShape old new (title_in_store store a))
+        (λ a. (flag_at (set flags node b) a ≡ true) ↔ ReachesNewShape old new (title_in_store store a))
+        (λ a other. Decides-at _ _ (get_or-set_other flags node a b false other))
+        (Decides-at _ b (get_or-set_same flags node b false (omega (arith, at_position)))
+        (Decides-like b (λ some. elim some [
+          | inl differs ↦ (title_in_store store node, here, differs)
+          | inr used ↦ (used.2.0, on {b = used.0} used.1 used.2.1, used.2.2)
+        ]) (first_step old new (title_in_store store node))
+        (Decides-or own (uses_flagged store flags node) is_new uses_decide))) are

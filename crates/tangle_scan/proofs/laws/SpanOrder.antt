@@ -1,0 +1,174 @@
+-- The spans of the pieces and those of the macros are in the order of the source. `texts` are the bytes of the source
+-- lines.
+use Rattle.std.proofs.lemmas.Bool.Decides.{nat_tests}
+use Rattle.std.proofs.Common.{◌≡◌, ℕ, Bool, true, false, List, [], ◌∷◌, ◌++◌, flat_map, refl, sym, ◌∙◌}
+use Rattle.std.proofs.Common.{arith, subst, append-nil, Some, None, if◌then◌else◌}
+use Rattle.std.proofs.Common.{◌+◌}
+use Rattle.std.proofs.lemmas.Grind.{flat_map-append}
+use Rattle.std.specs.List.{All}
+use Rattle.std.proofs.lemmas.List.Elements.{All-nil, All-cons}
+use Rattle.std.proofs.lemmas.List.Kept.{AllPairs-cons}
+use Rattle.tangle_lines.specs.Reading.{SourceLine}
+use Rattle.tangle_text.specs.declared.spans.Span.{Span}
+use Rattle.tangle_text.specs.Text.{IsSpan, text_from, texts_of}
+use Rattle.tangle_lexer.specs.declared.tokens.Token.{Token}
+use Rattle.tangle_lexer.specs.declared.tokens.Token.TheVariants as token
+use Rattle.tangle_lexer.specs.LinesOfParts.{body}
+use Rattle.tangle_lexer.specs.Steps.{tokens_from, all_tokens}
+use Rattle.tangle_lexer.proofs.laws.Points.{Point, point_at, text-is}
+use Rattle.tangle_lexer.proofs.laws.TokenOrder.{line_after, AreFromLine}
+use Rattle.tangle_scan.specs.declared.items.Item.{Item}
+use Rattle.tangle_scan.specs.Rules.{is_line_backslash, without_backslashes, macro_tokens, macro_blanks, unmarked_items}
+use Rattle.tangle_scan.specs.Rules.{macro_items, is_macro}
+use Rattle.tangle_scan.specs.Web.{Block, BlockKind, blocks, piece_of, kind_piece, macro_of, kind_macro}
+use Rattle.tangle_scan.specs.Web.BlockKind.{OfMacro, OfPiece}
+use Rattle.tangle_scan.specs.ItemSpans.{item_spans}
+use Rattle.tangle_scan.specs.KeptBytes.{EndsBefore, AreInOrder}
+use Rattle.tangle_scan.proofs.lemmas.KeptTokens.{macro_blanks-kept, macro-kept}
+use Rattle.tangle_scan.proofs.laws.ItemSpans.{token_spans, alike-spans, part-spans}
+use Rattle.tangle_scan.proofs.laws.TokenSpans.{Precedes, Lead, lexemes-lead, text-reaches}
+use Rattle.tangle_scan.proofs.laws.WebLaws.{all-in_order}
+
+module _ (texts : List (List ℕ)) where
+  -- spans are ranges of source lines, in order from a point on
+  abbrev pub AreFrom : Point → List Span → Type 0
+  AreFrom p [] = Unit {0}
+  AreFrom p (s ∷ ss) = (Precedes p (point_at s.line s.start) × IsSpan texts s) × AreFrom (point_at s.line s.end) ss
+
+  spans-from : (line : ℕ) (p : Point) (ts : List Token)
+      → AreFromLine texts line ts → Lead (λ q. Unit {0}) p ts → AreFrom p (token_spans ts)
+  spans-from line p [] o h = tt
+  spans-from line p (token.Span kind s ∷ ts) o h =
+      ((h.0, o.0.1), spans-from line (point_at s.line s.end) ts o.1 h.1)
+  spans-from line p (t ∷ ts) o h = spans-from (line_after line t) p ts o.1 h
+
+  earlier : (p q : Point) (ss : List Span) → Precedes p q → AreFrom q ss → AreFrom p ss
+  earlier p q [] le h = tt
+  earlier p q (s ∷ ss) le h = grind arith
+
+  later : (s : Span) (p : Point) (ss : List Span) → Precedes (point_at s.line s.end) p → AreFrom p ss → All (EndsBefore s) ss
+  later s p [] le h = All-nil (EndsBefore s)
+  later s p (t ∷ ss) le h =
+      All-cons (EndsBefore s) t ss (grind arith) (later s (point_at t.line t.end) ss (grind arith) h.1)
+
+  pub in-order : (p : Point) (ss : List Span) → AreFrom p ss → AreInOrder texts ss
+  in-order p [] h = record { ranges = All-nil (IsSpan texts); order = λ i j d k l. absurd (omega arith) }
+  in-order p (s ∷ ss) h =
+      let end = point_at s.line s.end in
+      let rest = in-order end ss h.1 in
+      record {
+        ranges = All-cons (IsSpan texts) s ss h.0.1 rest.ranges;
+        order = AllPairs-cons EndsBefore s ss (later s end ss (omega arith, λ e. omega arith) h.1) rest.order;
+      }
+
+  -- the first spans are some of the second: in place of these they are in order too, whatever follows
+  abbrev AreSome : List Span → List Span → Type 0
+  AreSome ss ts = (p : Point) (rest : List Span) → AreFrom p (ts ++ rest) → AreFrom p (ss ++ rest)
+
+  some-none : (ts : List Span) → AreSome [] ts
+  some-none [] p rest h = h
+  some-none (t ∷ ts) p rest h =
+      some-none ts p rest (earlier p (point_at t.line t.end) (ts ++ rest) (grind arith) h.1)
+
+  backslashes-some : (es : List Token) → AreSome (token_spans (without_backslashes texts es)) (token_spans es)
+  backslashes-some [] p rest h = h
+  backslashes-some (token.Span kind s ∷ es) p rest h =
+      let end = point_at s.line s.end in
+      let left = backslashes-some es end rest h.1 in
+      by (is_line_backslash texts (token.Span kind s) es) (earlier p end _ (grind arith) left) (h.0, left)
+    where
+      some : List Span
+      some = token_spans (without_backslashes texts es) ++ rest
+
+      by : (b : Bool) → AreFrom p some → AreFrom p (s ∷ some)
+          → AreFrom p (token_spans ((if b then [] else token.Span kind s ∷ []) ++ without_backslashes texts es) ++ rest)
+      by true without with = without
+      by false without with = with
+  backslashes-some (e ∷ es) p rest h = backslashes-some es p rest h
+
+  unmarked-spans : (es : List Token) → item_spans (unmarked_items es) ≡ token_spans es
+  unmarked-spans [] = refl
+  unmarked-spans (token.Span kind s ∷ es) = grind (arith, unmarked-spans es)
+  unmarked-spans (e ∷ es) = unmarked-spans es
+
+  macro-some : (es : List Token) → AreSome (item_spans (macro_items texts es)) (token_spans es)
+  macro-some es =
+      let ts = macro_tokens texts es in
+      let fs = without_backslashes texts ts in
+      let all = alike-spans ts es (macro-kept texts es) in
+      let bs = macro_blanks texts true None false fs in
+      let blanked = unmarked-spans bs ∙ alike-spans bs fs (macro_blanks-kept texts true None false fs) in
+      subst (λ ss. AreSome ss (token_spans es)) (sym blanked)
+      (subst (AreSome (token_spans fs)) all (backslashes-some ts))
+
+  -- `f` takes some spans of each block
+  module _ (f : Block → List Span) (picks : (b : Block) → AreSome (f b) (token_spans b.tokens)) where
+    begun : (n : ℕ) (kind : BlockKind) (es : List Token) (p : Point)
+        → AreFrom p (token_spans (body es) ++ flat_map f (blocks n es))
+        → AreFrom p (f (record { section = n; kind = kind; tokens = body es }) ++ flat_map f (blocks n es))
+    begun n kind es p h =
+        picks (record { section = n; kind = kind; tokens = body es }) p (flat_map f (blocks n es)) h
+
+    -- the spans of the tokens up to the first head, and those of the blocks after it
+    blocks-from : (n : ℕ) (es : List Token) (p : Point)
+        → AreFrom p (token_spans es) → AreFrom p (token_spans (body es) ++ flat_map f (blocks n es))
+    blocks-from n [] p h = tt
+    blocks-from n (token.Section ∷ es) p h = some-none (token_spans (body es)) p _ (blocks-from (n + 1) es p h)
+    blocks-from n (token.MacroStart line ∷ es) p h = begun n (OfMacro line) es p (blocks-from n es p h)
+    blocks-from n (token.UnnamedPart line ∷ es) p h = begun n (OfPiece None line) es p (blocks-from n es p h)
+    blocks-from n (token.NamedPart line occurrence ∷ es) p h =
+        begun n (OfPiece (Some occurrence) line) es p (blocks-from n es p h)
+    blocks-from n (token.Span kind s ∷ es) p h = (h.0, blocks-from n es (point_at s.line s.end) h.1)
+    blocks-from n (_ ∷ es) p h = blocks-from n es p h
+
+    some-from : (es : List Token) → AreFrom (point_at 0 0) (token_spans es)
+        → AreFrom (point_at 0 0) (flat_map f (blocks 0 es))
+    some-from es h = some-none (token_spans (body es)) (point_at 0 0) _ (blocks-from 0 es (point_at 0 0) h)
+
+pub flat_map-twice : {A B C : Type 0} (f : B → List C) (g : A → List B) (xs : List A)
+    → flat_map f (flat_map g xs) ≡ flat_map (λ x. flat_map f (g x)) xs
+flat_map-twice f g [] = refl
+flat_map-twice f g (x ∷ xs) = grind (arith, nat_tests, flat_map-append f (g x) (flat_map g xs), flat_map-twice f g xs)
+
+module _ (lines : List SourceLine) where
+  all-from : AreFrom (texts_of lines) (point_at 0 0) (token_spans (all_tokens lines))
+  unfolding tokens_from
+  all-from =
+      spans-from (texts_of lines) 0 (point_at 0 0) (all_tokens lines) (all-in_order lines)
+      (lexemes-lead (texts_of lines) 0 _ (text_from 0 lines) (point_at 0 0) (point_at 0 0) (text-is lines)
+      (text-reaches (texts_of lines) (point_at 0 0) (point_at 0 0) (text_from 0 lines) (text-is lines)
+      (omega arith, λ e. omega arith)))
+
+  piece-some : (kind : BlockKind) (b : Block)
+      → AreSome (texts_of lines) (flat_map (λ p. item_spans p.items) (kind_piece lines kind b)) (token_spans b.tokens)
+  piece-some (OfMacro line) b = some-none (texts_of lines) (token_spans b.tokens)
+  piece-some (OfPiece occurrence line) b = λ p rest h. grind (arith, nat_tests, append-nil, part-spans)
+
+  kept_macro-some : (kind : BlockKind) (b : Block)
+      → AreSome (texts_of lines) (flat_map item_spans (kind_macro lines kind b)) (token_spans b.tokens)
+  kept_macro-some (OfPiece occurrence line) b = some-none (texts_of lines) (token_spans b.tokens)
+  kept_macro-some (OfMacro line) b = by (is_macro (texts_of lines) (macro_items (texts_of lines) b.tokens))
+    where
+      items : List Item
+      items = macro_items (texts_of lines) b.tokens
+
+      by : (c : Bool) → AreSome (texts_of lines) (flat_map item_spans (if c then items ∷ [] else [])) (token_spans b.tokens)
+      by true = subst (λ ss. AreSome (texts_of lines) ss (token_spans b.tokens)) (sym (append-nil (item_spans items)))
+          (macro-some (texts_of lines) b.tokens)
+      by false = some-none (texts_of lines) (token_spans b.tokens)
+
+  -- the spans of the pieces, and those of the macros
+
+  pub pieces-from : AreFrom (texts_of lines) (point_at 0 0)
+      (flat_map (λ p. item_spans p.items) (flat_map (piece_of lines) (blocks 0 (all_tokens lines))))
+  pieces-from =
+      rw (flat_map-twice (λ p. item_spans p.items) (piece_of lines) (blocks 0 (all_tokens lines)))
+      (some-from (texts_of lines) (λ b. flat_map (λ p. item_spans p.items) (piece_of lines b))
+      (λ b. piece-some b.kind b) (all_tokens lines) all-from)
+
+  pub macros-from : AreFrom (texts_of lines) (point_at 0 0)
+      (flat_map item_spans (flat_map (macro_of lines) (blocks 0 (all_tokens lines))))
+  macros-from =
+      rw (flat_map-twice item_spans (macro_of lines) (blocks 0 (all_tokens lines)))
+      (some-from (texts_of lines) (λ b. flat_map item_spans (macro_of lines b))
+      (λ b. kept_macro-some b.kind b) (all_tokens lines) all-from)

@@ -1,0 +1,336 @@
+-- The spans of the tokens of a source are in order. `texts` are the bytes of the source lines.
+use Rattle.std.proofs.Common.{rules}
+use Rattle.std.proofs.lemmas.Bool.Decides.{nat_tests}
+use Rattle.std.proofs.Common.{◌≡◌, ℕ, zero, suc, ◌+◌, ◌≤◌, ◌<◌, Bool, true, false, List, [], ◌∷◌, ◌++◌, drop}
+use Rattle.std.proofs.Common.{flat_map, map, inl, inr, refl, sym, ◌∙◌, arith, subst, if◌then◌else◌}
+use Rattle.std.proofs.Common.{Option, Some, None}
+use Rattle.std.proofs.lemmas.Bool.Decides.{eqb_tells}
+use Rattle.std.proofs.lemmas.List.{drop-drop}
+use Rattle.tangle_faults.specs.declared.faults.FaultKind.{FaultKind}
+use Rattle.tangle_faults.specs.declared.faults.FaultKind.TheVariants as fault
+use Rattle.tangle_lexer.specs.declared.tokens.Token.{Token}
+use Rattle.tangle_lexer.specs.declared.tokens.SpanKind.{SpanKind}
+use Rattle.tangle_lexer.specs.declared.tokens.Token.TheVariants as token
+use Rattle.tangle_lexer.specs.declared.modes.LexerState.{LexerState}
+use Rattle.tangle_lexer.specs.declared.lexeme_kinds.ControlCode.TheVariants as code
+use Rattle.tangle_lexer.specs.declared.lexeme_kinds.LexemeKind.{LexemeKind}
+use Rattle.tangle_lexer.specs.declared.lexeme_kinds.LexemeKind.TheVariants as lexeme_kind
+use Rattle.tangle_text.specs.declared.regions.Region.{Region}
+use Rattle.tangle_text.specs.declared.regions.Region.TheVariants as region
+use Rattle.tangle_text.specs.Bytes.{holds, is_line_end}
+use Rattle.tangle_text.specs.Text.{Cell, byte_at, span_at}
+use Rattle.tangle_text.specs.Regions.{count_before}
+use Rattle.tangle_text.specs.Words.{word_more}
+use Rattle.tangle_lexer.specs.Lexemes.{Lexeme, lexeme_of, in_mode, fault_if}
+use Rattle.tangle_lexer.specs.LinesOfC.{inner_end_in}
+use Rattle.tangle_lexer.specs.Comments.{line_ends, has_end_code, two_if}
+use Rattle.tangle_lexer.specs.Quoted.{cut_range, cut_tokens, quote_end, one_if, quoted_text}
+use Rattle.tangle_lexer.specs.Quoted.{verbatim_end, verbatim_tokens, verbatim_text}
+use Rattle.tangle_lexer.specs.declared.constants.AsciiConstant.{AsciiConstant}
+use Rattle.tangle_lexer.specs.Constants.{constant_at, constant_lexeme, ascii_constant}
+use Rattle.tangle_lexer.specs.Names.{definition_count, definition_or_mention, use_of_name, name_in_documentation}
+use Rattle.tangle_lexer.specs.CText.{section_start, code_fault}
+use Rattle.tangle_lexer.specs.Steps.{documentation_code, limbo_code, c_lexeme, lexeme, lexemes}
+use Rattle.tangle_lexer.specs.declared.modes.Mode.TheVariants as mode
+use Rattle.tangle_lexer.specs.declared.tokens.SpanKind.TheVariants as span_kind
+use Rattle.tangle_lexer.proofs.lemmas.PlainTokens.{HasNone, none-append}
+use Rattle.tangle_lexer.proofs.lemmas.LexemeCases.{OpensLexeme, IsPlainKind, lexeme-by}
+use Rattle.tangle_lexer.proofs.laws.Points.{Point, point_at, after_cell, IsByte, HoldsBytes, IsTextAt, text-next, text-after}
+use Rattle.tangle_lexer.proofs.laws.RegionOrder.{some-byte, code-bytes}
+use Rattle.tangle_lexer.proofs.laws.WhiteOrder.{word-bytes, after-end}
+use Rattle.tangle_lexer.proofs.laws.CutTexts.{IsCut, double_quote-cut, apostrophe-cut, header_name-cut, verbatim-cut, cut-by}
+
+-- the first point is not after the second
+abbrev pub Precedes : Point → Point → Type 0
+Precedes p q = (p.line ≤ q.line) × (p.line ≡ q.line → p.column ≤ q.column)
+
+-- the spans of tokens are in order from a point on, and `P` is true of the end of the last
+abbrev pub Lead : (Point → Type 0) → Point → List Token → Type 0
+Lead P p [] = P p
+Lead P p (token.Span kind s ∷ ts) = Precedes p (point_at s.line s.start) × Lead P (point_at s.line s.end) ts
+Lead P p (_ ∷ ts) = Lead P p ts
+
+lead-append : (P : Point → Type 0) (us : List Token) (p : Point) (ts : List Token)
+    → Lead (λ q. Lead P q us) p ts → Lead P p (ts ++ us)
+lead-append P us p [] h = h
+lead-append P us p (token.Span kind s ∷ ts) h = (h.0, lead-append P us (point_at s.line s.end) ts h.1)
+lead-append P us p (_ ∷ ts) h = lead-append P us p ts h
+
+lead-weaker : (P Q : Point → Type 0) → ((p : Point) → P p → Q p)
+    → (p : Point) (ts : List Token) → Lead P p ts → Lead Q p ts
+lead-weaker P Q weaker p [] h = weaker p h
+lead-weaker P Q weaker p (token.Span kind s ∷ ts) h = (h.0, lead-weaker P Q weaker (point_at s.line s.end) ts h.1)
+lead-weaker P Q weaker p (_ ∷ ts) h = lead-weaker P Q weaker p ts h
+
+-- tokens without spans
+
+abbrev is_span : Token → Bool
+is_span (token.Span kind s) = true
+is_span _ = false
+
+lead-none : (P : Point → Type 0) (p : Point) (ts : List Token) → HasNone is_span ts → P p → Lead P p ts
+lead-none P p [] none h = h
+lead-none P p (token.Span kind s ∷ ts) none h = cc
+lead-none P p (_ ∷ ts) none h = lead-none P p ts none h
+
+fault-none : (b : Bool) (kind : FaultKind) (line : ℕ) → HasNone is_span (fault_if b kind line)
+fault-none b kind line = grind arith
+
+flat-none : (f : List Cell → List Token) → ((u : List Cell) → HasNone is_span (f u))
+    → (us : List (List Cell)) → HasNone is_span (flat_map f us)
+flat-none f h [] = refl
+flat-none f h (u ∷ us) = none-append is_span (f u) (flat_map f us) (h u) (flat-none f h us)
+
+inner-none : (b : Bool) (ts : List Token) → HasNone is_span ts → HasNone is_span (map (inner_end_in b) ts)
+inner-none b [] h = refl
+inner-none b (t ∷ ts) h = grind (arith, nat_tests, inner-none b ts)
+
+-- a comment or a control text
+white-none : (r : Region) (text : List Cell) (inner b : Bool) (kind : FaultKind) (line : ℕ)
+    → HasNone is_span (token.White ∷ map (inner_end_in inner) (line_ends r text) ++ fault_if b kind line)
+white-none r text inner b kind line =
+    search (rules, none-append, inner-none, flat-none, fault-none)
+
+constant-none : (o : Option AsciiConstant) (s : LexerState) (text : List Cell)
+    → HasNone is_span (constant_lexeme o s text).tokens
+constant-none o s text = grind arith
+
+-- a point is not after the first cell of a text, if there is one
+abbrev pub Reaches : List Cell → Point → Type 0
+Reaches [] p = Unit {0}
+Reaches (c ∷ cs) p = Precedes p (point_at c.line c.column)
+
+module _ (texts : List (List ℕ)) where
+  pub text-reaches : (at p : Point) (text : List Cell) → IsTextAt texts at text → Precedes p at → Reaches text p
+  text-reaches at p x is h = grind arith
+
+  after-cell : (at p : Point) (c : Cell) (cs : List Cell) → IsTextAt texts at (c ∷ cs) → Reaches (c ∷ cs) p → Reaches cs p
+  after-cell at p c x is h = grind arith
+
+  -- a point that is not after a text is not after a later text
+  text-later : (n : ℕ) (at p : Point) (text : List Cell) → IsTextAt texts at text → Reaches text p → Reaches (drop n text) p
+  text-later zero at p text is h = h
+  text-later (suc n) at p [] is h = tt
+  text-later (suc n) at p (c ∷ cs) is h = text-later n (after_cell c) p cs is.1 (after-cell at p c cs is h)
+
+  -- The spans of the lexeme at the front of a text are in order from each point on that is not after the text, and their
+  -- end is not after the text that follows the lexeme.
+  abbrev Law : Cell → List Cell → Lexeme → Type 0
+  Law c cs here = (p : Point) → Reaches (c ∷ cs) p → Lead (Reaches (drop here.more cs)) p here.tokens
+
+  spanless : (at : Point) (c : Cell) (cs : List Cell) (here : Lexeme)
+      → IsTextAt texts at (c ∷ cs) → HasNone is_span here.tokens → Law c cs here
+  spanless at c cs here is none p h =
+      lead-none (Reaches (drop here.more cs)) p here.tokens none
+      (text-later here.more (after_cell c) p cs is.1 (after-cell at p c cs is h))
+
+  -- the span of the first `n` bytes of a lexeme that is bytes
+  span-leads : (kind : SpanKind) (at : Point) (n more : ℕ) (c : Cell) (cs : List Cell) → IsTextAt texts at (c ∷ cs)
+      → n ≤ suc more → HoldsBytes (suc more) (c ∷ cs) → (p : Point) → Reaches (c ∷ cs) p
+      → Lead (Reaches (drop more cs)) p (token.Span kind (span_at n (c ∷ cs)) ∷ [])
+  span-leads kind at n more c cs is le bytes p h = (
+    h,
+    text-reaches (point_at at.line (at.column + suc more)) (point_at c.line (c.column + n)) (drop more cs)
+        (text-after texts (suc more) at (c ∷ cs) is bytes)
+        (omega (arith, is.0.line), λ e. omega (arith, is.0.column)),
+  )
+
+  -- ranges of quoted and verbatim texts
+
+  abbrev LeadFrom : ℕ → ℕ → (Point → Type 0) → List Token → Type 0
+  LeadFrom line column P ts = (p : Point) → Precedes p (point_at line column) → Lead P p ts
+
+  range-leads : (r : Region) (line start end : ℕ) (P : Point → Type 0) (ts : List Token)
+      → start ≤ end → LeadFrom line end P ts → LeadFrom line start P (cut_range r line start end ++ ts)
+  range-leads r line start end P ts le next p h =
+      grind (arith, nat_tests, next p, next (point_at line end))
+
+  range-alone : (r : Region) (line start end : ℕ) (P : Point → Type 0) → start ≤ end
+      → ((q : Point) → Precedes q (point_at line end) → P q) → LeadFrom line start P (cut_range r line start end)
+  range-alone r line start end P le next p h =
+      grind (arith, nat_tests, next p, next (point_at line end))
+
+  fault-alone : (b : Bool) (kind : FaultKind) (line : ℕ) (P : Point → Type 0) (p : Point)
+      → P p → Lead P p (fault_if b kind line)
+  fault-alone b kind line P p h = grind arith
+
+  fault-leads : (b : Bool) (kind : FaultKind) (line : ℕ) (P : Point → Type 0) (p : Point) (ts : List Token)
+      → Lead P p ts → Lead P p (fault_if b kind line ++ ts)
+  fault-leads b kind line P p ts h = grind arith
+
+  -- a text that is cut; `ends` gives the tokens of its end, and `final` says what is true after them
+  cut-leads : (r : Region) → IsCut r → (ends : ℕ → List Cell → List Token) (final : List Cell → Point → Type 0)
+      → ((at : Point) (start : ℕ) (text : List Cell) → start ≤ at.column → IsTextAt texts at text
+      → LeadFrom at.line start (final text) (ends start text))
+      → (at : Point) (start : ℕ) (text : List Cell) → start ≤ at.column → IsTextAt texts at text
+      → LeadFrom at.line start (final (drop (count_before r text) text)) (cut_tokens ends r 0 start text)
+  cut-leads r cut ends final stop =
+      cut-by texts r cut ends Leads stop
+      (λ at start c cs ts n h is byte alone next p k.
+      fault-leads _ _ c.line (final (drop n cs)) p ts (next p (rw is.line k)))
+      (λ at start c d cs ts n h is cell byte second sign same next.
+      rw (← is.line) (range-leads r c.line start (c.column + 1) (final (drop n cs)) ts (omega (arith, is.column))
+      (λ p k. next p (rw cell.line (k.0, λ e. let le = k.1 e in omega (arith, le))))))
+      (λ at start c d cs ts n h is cell byte second other same next p k.
+      next p (rw (cell.line, is.line) k))
+      (λ at start c d cs ts n h is cell byte none other next.
+      rw (← is.line) (range-leads r c.line start (c.column + 1) (final (drop n cs)) (token.QuoteBreak c.line ∷ ts)
+      (omega (arith, is.column))
+      (λ p k. next p (omega (arith, k.0, cell.line), λ e. absurd (omega (arith, k.0, cell.line, e))))))
+    where
+      Leads : Point → ℕ → List Token → ℕ → List Cell → Type 0
+      Leads at start ts n text = LeadFrom at.line start (final (drop n text)) ts
+
+  -- quoted texts
+
+  abbrev quote-final : ℕ → List Cell → Point → Type 0
+  quote-final close text p = Reaches (drop (one_if (holds close (byte_at 0 text))) text) p
+
+  quote_end-leads : (r : Region) (close last : ℕ) (at : Point) (start : ℕ) (text : List Cell)
+      → start ≤ at.column → IsTextAt texts at text
+      → LeadFrom at.line start (quote-final close text) (quote_end r close last start text)
+  quote_end-leads r close last at start [] h is p k = tt
+  quote_end-leads r close last at start (c ∷ cs) h is p k =
+      by (holds close c.byte) refl
+    where
+      Final : Bool → Point → Type 0
+      Final b q = Reaches (drop (one_if b) (c ∷ cs)) q
+
+      by : (b : Bool) → holds close c.byte ≡ b
+          → Lead (Final b) p (if b then cut_range r c.line start (c.column + 1)
+          else cut_range r c.line start c.column ++ token.Fault fault.StringEnd c.line ∷ [])
+      by true e =
+          range-alone r c.line start (c.column + 1) (Final true) (omega (arith, is.0.column))
+          (λ q j. text-reaches (point_at c.line (c.column + 1)) q cs (text-next texts at c cs is (grind arith)) j)
+          p (rw is.0.line k)
+      by false e =
+          range-leads r c.line start c.column (Final false) (token.Fault fault.StringEnd c.line ∷ []) (omega (arith, is.0.column))
+          (λ q j. j) p (rw is.0.line k)
+
+  quoted-leads : (r : Region) → IsCut r → (close : ℕ) (s : LexerState) (at : Point) (c : Cell) (cs : List Cell)
+      → IsTextAt texts at (c ∷ cs) → IsByte c.byte → Law c cs (quoted_text r close s (c ∷ cs))
+  quoted-leads r cut close s at c cs is byte =
+      let n : ℕ = count_before r cs in
+      let last : ℕ = one_if (holds close (byte_at 0 (drop n cs))) in
+      let tokens : List Token = (quoted_text r close s (c ∷ cs)).tokens in
+      subst (λ rest. (p : Point) → Reaches (c ∷ cs) p → Lead (Reaches rest) p tokens) (drop-drop last n cs)
+      (cut-leads r cut (quote_end r close s.last_line) (quote-final close) (quote_end-leads r close s.last_line)
+      (point_at c.line (c.column + 1)) c.column cs (omega arith) (text-next texts at c cs is byte))
+
+  -- verbatim texts
+
+  abbrev verbatim-final : List Cell → Point → Type 0
+  verbatim-final text p = Reaches (drop (two_if (has_end_code text)) text) p
+
+  verbatim_end-leads : (at : Point) (start : ℕ) (text : List Cell)
+      → start ≤ at.column → IsTextAt texts at text
+      → LeadFrom at.line start (verbatim-final text) (verbatim_end start text)
+  verbatim_end-leads at start [] h is p k = tt
+  verbatim_end-leads at start (c ∷ cs) h is p k =
+      range-leads region.Verbatim c.line start c.column (verbatim-final (c ∷ cs))
+      (fault_if (is_line_end c.byte) fault.VerbatimEnd c.line) (omega (arith, is.0.column))
+      (λ q j. fault-alone (is_line_end c.byte) fault.VerbatimEnd c.line (verbatim-final (c ∷ cs)) q
+      (text-later (two_if (has_end_code (c ∷ cs))) at q (c ∷ cs) is j))
+      p (rw is.0.line k)
+
+  verbatim_tokens-lead : (at : Point) (text : List Cell) → 0 < at.column → IsTextAt texts at text
+      → LeadFrom at.line at.column (verbatim-final (drop (count_before region.Verbatim text) text)) (verbatim_tokens text)
+  verbatim_tokens-lead at [] after_code is = absurd (omega arith)
+  verbatim_tokens-lead at (c ∷ cs) after_code is =
+      elim (eqb_tells (count_before region.Verbatim (c ∷ cs)) 0) [
+        -- an empty verbatim text
+        | inl none ↦ rw none.1 (λ p k. (
+          (rw (is.0.line, is.0.column) k),
+          (fault-alone (is_line_end c.byte) fault.VerbatimEnd c.line (verbatim-final (c ∷ cs))
+              (point_at c.line (c.column + 0)) (text-later (two_if (has_end_code (c ∷ cs))) at _ (c ∷ cs) is (omega arith, λ e. omega arith))),
+        ))
+        | inr some ↦ rw (some.0, ← is.0.column)
+            (cut-leads region.Verbatim verbatim-cut verbatim_end verbatim-final verbatim_end-leads
+            at c.column (c ∷ cs) (omega arith) is)
+      ]
+
+  verbatim-leads : (s : LexerState) (at : Point) (c : Cell) (cs : List Cell)
+      → IsTextAt texts at (c ∷ cs) → HoldsBytes 2 (c ∷ cs) → Law c cs (verbatim_text s (c ∷ cs))
+  verbatim-leads s at c cs is h =
+      let rest : List Cell = drop 1 cs in
+      let n : ℕ = count_before region.Verbatim rest in
+      subst (λ end. (p : Point) → Reaches (c ∷ cs) p → Lead (Reaches end) p (verbatim_tokens rest))
+      (sym (after-end n (two_if (has_end_code (drop n rest))) cs))
+      (λ p k. verbatim_tokens-lead (point_at at.line (at.column + 2)) rest (omega arith) (text-after texts 2 at (c ∷ cs) is h) p
+      (omega (arith, k.0, is.0.line), λ e. let le = k.1 (e ∙ sym is.0.line) in omega (arith, le, is.0.column)))
+
+  -- C text and macros
+
+  kind-leads : (kind : LexemeKind) (s : LexerState) (at : Point) (c : Cell) (cs : List Cell)
+      → IsPlainKind kind → OpensLexeme kind (c ∷ cs) → IsTextAt texts at (c ∷ cs)
+      → Law c cs (c_lexeme kind s (c ∷ cs))
+  kind-leads (lexeme_kind.Control code.SectionStart) s at c cs plain o is = absurd plain
+  kind-leads (lexeme_kind.Control code.Name) s at c cs plain o is = absurd plain
+  kind-leads (lexeme_kind.Control code.DoubleAt) s at c cs plain o is =
+      span-leads span_kind.Sign at 1 1 c cs is (omega arith) (code-bytes code.DoubleAt (c ∷ cs) (λ e. cc) o)
+  kind-leads (lexeme_kind.Control code.ControlText) s at c cs plain o is =
+      search (rules, spanless, white-none)
+  kind-leads (lexeme_kind.Control code.Verbatim) s at c cs plain o is =
+      verbatim-leads s at c cs is (code-bytes code.Verbatim (c ∷ cs) (λ e. cc) o)
+  kind-leads (lexeme_kind.Control code.AllMacros) s at c cs plain o is =
+      search (rules, spanless, fault-none)
+  kind-leads (lexeme_kind.Control code.AsciiConstant) s at c cs plain o is =
+      spanless at c cs (ascii_constant s (c ∷ cs)) is (constant-none (constant_at (drop 1 cs)) s (c ∷ cs))
+  kind-leads (lexeme_kind.Control kind) s at c cs plain o is =
+      spanless at c cs (c_lexeme (lexeme_kind.Control kind) s (c ∷ cs)) is refl
+  kind-leads lexeme_kind.BlockComment s at c cs plain o is =
+      search (rules, spanless, white-none)
+  kind-leads lexeme_kind.LineComment s at c cs plain o is =
+      search (rules, spanless, fault-none)
+  kind-leads lexeme_kind.DoubleQuote s at c cs plain o is =
+      quoted-leads region.DoubleQuote double_quote-cut _ s at c cs is (some-byte c.byte o.0)
+  kind-leads lexeme_kind.Apostrophe s at c cs plain o is =
+      quoted-leads region.Apostrophe apostrophe-cut _ s at c cs is (some-byte c.byte o.0)
+  kind-leads lexeme_kind.HeaderName s at c cs plain o is =
+      quoted-leads region.HeaderName header_name-cut _ s at c cs is (some-byte c.byte o.0)
+  kind-leads lexeme_kind.Word s at c cs plain o is =
+      let n : ℕ = word_more (c ∷ cs) in
+      let e : 1 + n ≡ suc n = omega arith in
+      span-leads span_kind.Word at (1 + n) n c cs is (omega arith)
+      (subst (λ i. HoldsBytes i (c ∷ cs)) e (word-bytes c cs (some-byte c.byte o.0)))
+  kind-leads lexeme_kind.Other s at c cs plain o is =
+      span-leads span_kind.Sign at 1 0 c cs is (omega arith) (some-byte c.byte o.0, tt)
+  kind-leads kind s at c cs plain o is = spanless at c cs (c_lexeme kind s (c ∷ cs)) is refl
+
+  lexeme-leads : (s : LexerState) (at : Point) (c : Cell) (cs : List Cell)
+      → IsTextAt texts at (c ∷ cs) → Law c cs (lexeme s (c ∷ cs))
+  lexeme-leads s at c cs is =
+      lexeme-by (Law c cs) s text (record {
+        section = none (section_start s) refl;
+        macro = λ o. none (documentation_code code.Macro s text) refl;
+        part = λ o. none (documentation_code code.UnnamedPart s text) refl;
+        used = λ m o. none (use_of_name s text) (search (rules, none-append, fault-none));
+        name = λ out. none (name_in_documentation s text) (named (definition_count text));
+        limbo = λ m b. none (limbo_code b s text) (fault-none b fault.LimboCode _);
+        skip = λ out n. none (lexeme_of [] n s) refl;
+        format = λ m. none (lexeme_of [] 1 (in_mode mode.Documentation s)) refl;
+        misplaced = λ m o. none (code_fault fault.MisplacedH s text) refl;
+        inside = λ inside kind p o. kind-leads kind s at c cs p o is;
+      })
+    where
+      text : List Cell
+      text = c ∷ cs
+
+      none : (here : Lexeme) → HasNone is_span here.tokens → Law c cs here
+      none here h = spanless at c cs here is h
+
+      named : (o : Option ℕ) → HasNone is_span (definition_or_mention o s text).tokens
+      named None = search (rules, none-append, fault-none)
+      named (Some k) = refl
+
+  -- all lexemes of a text
+  pub lexemes-lead : (k : ℕ) (s : LexerState) (text : List Cell) (at p : Point) → IsTextAt texts at text
+      → Reaches (drop k text) p → Lead (λ q. Unit {0}) p (flat_map (λ l. l.tokens) (lexemes k s text))
+  lexemes-lead k s [] at p is h = tt
+  lexemes-lead (suc k) s (c ∷ cs) at p is h = lexemes-lead k s cs (after_cell c) p is.1 h
+  lexemes-lead zero s (c ∷ cs) at p is h =
+      let here : Lexeme = lexeme s (c ∷ cs) in
+      lead-append (λ q. Unit {0}) (flat_map (λ l. l.tokens) (lexemes here.more here.after cs)) p here.tokens
+      (lead-weaker (Reaches (drop here.more cs)) _
+      (λ q reached. lexemes-lead here.more here.after cs (after_cell c) q is.1 reached) p here.tokens
+      (lexeme-leads s at c cs is p h))
