@@ -1,6 +1,6 @@
 """What a C compiler reads of the bytes of a file: each token, at the file and line at which it counts it.
 
-The definitions are those of crates/c_tokens/specs/Counting.antt. A line of C, which ends at a line feed that is in no
+The definitions are those of crates/c_lines/specs/Counting.antt. A line of C, which ends at a line feed that is in no
 comment, is a directive if its first token is #. After `#if`, `#ifdef` and `#ifndef`, which begin a group, and
 after `#elif`, `#elifdef`, `#elifndef`, `#else` and `#endif` is a *region* each (docs/scanning.md), of which the compiler
 reads all lines or none. A group that begins in a region that is left out is left out. Lines of both are counted, but a

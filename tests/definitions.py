@@ -24,7 +24,8 @@ PAGES = {
     'docs/scanning.md': ['tangle_text', 'tangle_lexer', 'tangle_scan'],
     'docs/names.md': [
         'tangle_text/NameBytes', 'tangle_lexer/Names', 'tangle_lexer/Occurrences', 'tangle_names'],
-    'docs/tokens.md': ['c_tokens', 'tangle_c_tokens', 'tangle_c_lines', 'ctangle_cli/WhatTheCompilerReads'],
+    'docs/tokens.md': [
+        'c_tokens', 'c_lines', 'tangle_c_tokens', 'tangle_c_lines', 'ctangle_cli/WhatTheCompilerReads'],
     'docs/graphs.md': ['digraph'],
     'docs/expansion.md': ['tangle_bodies', 'tangle_expansion', 'tangle_graph'],
     'docs/output.md': [
@@ -40,6 +41,9 @@ PAGES = {
         'ctangle_cli/RetangleArguments', 'ctangle_cli/Conversation'],
     'docs/programs.md': ['tangle_folders', 'tangle_memory_folder', 'tangle_loading', 'ctangle_cli'],
 }
+
+# Files after whose rows the page has the files of all definitions of which theirs are made.
+LEADING = [('tangle_session', 'Headline'), ('ctangle_cli', 'WhatTheCompilerReads')]
 
 NOTES = {
     'PROOFS.md':
@@ -148,6 +152,9 @@ class Specs:
         names = {**self.imports, **self.own}
         self.cited = {self.own[name]: set(cited_in(text, names)) - {self.own[name]}
                       for name, text in texts.items()}
+
+    def place(self):
+        return self.crate, self.file
 
     def kinds_in(self, row):
         """The kinds of faults that the definitions of a row name."""
@@ -379,6 +386,21 @@ class Part:
             ', *promised by* ' + promised if promised else '', '\n'.join(self.lines()).lstrip('\n'))
 
 
+def link_to(crate, file):
+    path = '%s/specs/%s.antt' % (crate, file)
+    return '[`%s`](#%s)' % (path, re.sub(r'[^\w-]', '', path.lower()))
+
+
+def made_of(definitions, part):
+    """The files, by their pages, of the definitions of which those of a part are made."""
+    files = {one[:2] for one in definitions.below(part.listed())} - {part.specs.place()}
+    pages = {}
+    for crate, file in sorted(files):
+        pages.setdefault(page_of(crate, file), []).append(link_to(crate, file))
+    return '\nMade of definitions of these files:\n\n' + ''.join(
+        '- `%s`: %s\n' % (name, ', '.join(pages[name])) for name in PAGES if name in pages)
+
+
 def coded(names):
     return ', '.join('`%s`' % name for name in names)
 
@@ -410,7 +432,8 @@ def page(crates):
     for name in PAGES:
         texts.append('\n## `%s`\n' % name + ('\n%s\n' % NOTES[name] if name in NOTES else ''))
         parts = [Part(definitions, definitions.specs[at]) for at in files_of(crates, name)]
-        texts += [part.text() for part in parts if part.listed()]
+        texts += [part.text() + (made_of(definitions, part) if part.specs.place() in LEADING else '')
+                  for part in parts if part.listed()]
     count, others = unlisted_in(definitions)
     texts.append(BOTTOM % count)
     texts += ['- `%s`: %s\n' % (crate, coded(sorted(others[crate]))) for crate in sorted(others)]

@@ -4,7 +4,7 @@ usage: read_outputs.py CTANGLE TOP        TOP is the folder of the repository
 
 c_reads.py says what a compiler reads of the bytes of a file, and at which file and line it counts it.
 
-- The worked texts of crates/c_tokens, typed from the standard: `c_reads` gives what is typed there, as the logic does,
+- The worked texts of crates/c_lines, typed from the standard: `c_reads` gives what is typed there, as the logic does,
   and so does gcc. Each wrong reader gives something else of one of them.
 - Output files of generated webs, of which some pieces are in no file, or in several. Each token that `c_reads` gives,
   whichever regions are read, is at the place where the author wrote it, outside of stretches, by the reference
@@ -52,7 +52,7 @@ WORKED = 30             # at least as many texts are worked
 
 def worked_texts(top):
     """The choice, the text, and its tokens with their places."""
-    for choice, text, words in COUNTS.findall(read(top, 'crates', 'c_tokens', 'proofs', 'WorkedCounting.antt')):
+    for choice, text, words in COUNTS.findall(read(top, 'crates', 'c_lines', 'proofs', 'WorkedCounting.antt')):
         read_of = [each.rsplit(b' ', 2) for each in unescaped(words).split(b',') if each]
         yield ([word == b'true' for word in re.findall(rb'true|false', choice)], unescaped(text),
                [(token, (file, int(line))) for token, file, line in read_of])
@@ -70,7 +70,7 @@ def test_worked_texts(top):
             same(read_by(c_reads.c_reads, choice, b'a.c', text), expected, 'what is read of %r' % text)
             lay(folder, {'a.c': text})
             same(c_reads.read_by_compiler(folder, 'a.c', '-w'), (expected, b''), 'what gcc reads of %r' % text)
-    begins = BEGINS.findall(read(top, 'crates', 'c_tokens', 'proofs', 'WorkedCounting.antt'))
+    begins = BEGINS.findall(read(top, 'crates', 'c_lines', 'proofs', 'WorkedCounting.antt'))
     check(begins != [], 'worked texts', 'none says where tokens begin')
     for text, words in begins:
         found = c_reads.c_reads((), b'a.c', unescaped(text))

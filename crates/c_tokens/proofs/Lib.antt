@@ -4,10 +4,4 @@ pub mod LongerLemmas
 pub mod TouchingLemmas
 pub mod LongestLemmas
 pub mod BorderLemmas
-pub mod JoinedLemmas
-pub mod CountingLemmas
-pub mod LineLemmas
-pub mod LineDirectiveLemmas
 pub mod WorkedTokens
-pub mod WorkedLines
-pub mod WorkedCounting

@@ -1,14 +1,10 @@
 //! Laws of the tokens that a C compiler reads.
-ghost use Rattle.std.specs.Prelude.{◌≡◌, ◌≤◌, ℕ, List, [], ◌∷◌, ◌++◌, true, length, take, map, flat_map};
+ghost use Rattle.std.specs.Prelude.{◌≡◌, ◌≤◌, ℕ, List, [], ◌∷◌, ◌++◌, true, length, take, flat_map};
 ghost use Rattle.std.specs.List.{concat};
 ghost use Rattle.c_tokens.specs.Grammar.{is_element};
 ghost use Rattle.c_tokens.specs.Reading.{spliced, longest, elements, tokens};
 ghost use Rattle.c_tokens.specs.Touching.{TextKind, IsOfKind, kinds_may_touch};
 ghost use Rattle.c_tokens.specs.Borders.{are_apart, are_all_apart};
-ghost use Rattle.std.specs.List.{join_with_byte};
-ghost use Rattle.c_tokens.specs.Bytes.{line_feed};
-ghost use Rattle.c_tokens.specs.Counting.{Place, c_reads, lines_from};
-ghost use Rattle.c_tokens.specs.JoinedLines.{joined_lines, LinesAreWhole, lines_of_each};
 
 /// Each byte of a text, without the backslashes before line feeds, is in one white-space character,
 /// comment or token, in order. At each place the longest one that there can be is taken.
@@ -33,17 +29,4 @@ pub fn texts_with_borders_stay_apart()
     ensures two { (a b : List ℕ) → are_apart a b ≡ true → tokens (a ++ b) ≡ tokens a ++ tokens b }
     ensures row { (texts : List (List ℕ)) → are_all_apart texts ≡ true
         → tokens (concat texts) ≡ flat_map tokens texts }
-{}
-
-/// A compiler that leaves out no region counts each token, in order.
-pub fn each_token_is_counted()
-    ensures { (file text : List ℕ) → map (λ read. read.token) (c_reads [] file text) ≡ tokens text }
-{}
-
-/// Where no comment and no quoted text goes over the end of a line, each line of C is read by
-/// itself: it has the tokens that its bytes have alone, and ends where they end.
-pub fn each_line_is_read_by_itself()
-    ensures all { (text : List ℕ) → join_with_byte line_feed (joined_lines [] text) ≡ text }
-    ensures read { (place : Place) (text : List ℕ) → LinesAreWhole text
-        → lines_from place text ≡ lines_of_each place (joined_lines [] text) }
 {}

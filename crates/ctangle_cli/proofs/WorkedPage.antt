@@ -7,10 +7,10 @@ use Rattle.std.specs.List.{join_with_byte}
 use Rattle.std.specs.Fmt.{digits}
 use Rattle.c_tokens.specs.Bytes.{space, line_feed}
 use Rattle.c_tokens.specs.Grammar.{is_element, is_token, is_punctuator}
-use Rattle.c_tokens.specs.Counting.{LineOfTokens, lines_from, reads, start_of_text}
+use Rattle.c_lines.specs.Counting.{LineOfTokens, lines_from, reads, start_of_text}
 use Rattle.c_tokens.specs.Borders.{is_whole}
-use Rattle.c_tokens.proofs.LineLemmas.{each-line}
-use Rattle.c_tokens.specs.JoinedLines.{joined_lines, lines_of_each}
+use Rattle.c_lines.proofs.LineLemmas.{each-line}
+use Rattle.c_lines.specs.JoinedLines.{joined_lines, lines_of_each}
 use Rattle.std.specs.List.{AllByRecursion}
 use Rattle.std.proofs.Common.{rules}
 use Rattle.tangle_files.specs.Lines.{cut}

@@ -9,12 +9,12 @@ use Rattle.std.proofs.lemmas.Bool.{and_parts, false≢true}
 use Rattle.std.proofs.lemmas.List.{get_or-drop}
 use Rattle.c_tokens.specs.Bytes.{line_feed}
 use Rattle.c_tokens.specs.Borders.{is_whole, keep_lines}
-use Rattle.c_tokens.specs.Counting.{Place, LineCount, PresumedLine, TokenRead}
-use Rattle.c_tokens.specs.Counting.{next_place, place_after, places, lines_from}
-use Rattle.c_tokens.specs.Counting.{counted, reads}
-use Rattle.c_tokens.specs.JoinedLines.{joined_lines}
-use Rattle.c_tokens.proofs.LineLemmas.{places-more}
-use Rattle.c_tokens.proofs.JoinedLemmas.{IsOneLine, one-more}
+use Rattle.c_lines.specs.Counting.{Place, LineCount, PresumedLine, TokenRead}
+use Rattle.c_lines.specs.Counting.{next_place, place_after, places, lines_from}
+use Rattle.c_lines.specs.Counting.{counted, reads}
+use Rattle.c_lines.specs.JoinedLines.{joined_lines}
+use Rattle.c_lines.proofs.LineLemmas.{places-more}
+use Rattle.c_lines.proofs.JoinedLemmas.{IsOneLine, one-more}
 use Rattle.tangle_lines.specs.declared.origin.Origin.{Origin}
 use Rattle.tangle_scan.specs.LineTruth.{with_line_end}
 use Rattle.tangle_scan.specs.Directives.{Border, SameRegion, GroupBegins, GroupTurns, ForEachChoice}

@@ -3,7 +3,7 @@ use Rattle.std.proofs.Common.{◌≡◌, ℕ, Bool, true, false, List, [], ◌�
 use Rattle.std.proofs.Common.{None, refl, sym, subst, append-nil, zero-le}
 use Rattle.std.specs.Prelude.{if◌then◌else◌}
 use Rattle.c_tokens.specs.Bytes.{line_feed}
-use Rattle.c_tokens.specs.Counting.{start_of_text}
+use Rattle.c_lines.specs.Counting.{start_of_text}
 use Rattle.tangle_files.specs.declared.marks.MarkMode.TheVariants.{Full}
 use Rattle.tangle_lines.specs.Reading.{SourceRead}
 use Rattle.tangle_scan.proofs.laws.WebLaws.{web-line-truth}

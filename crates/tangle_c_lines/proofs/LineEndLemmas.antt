@@ -11,12 +11,12 @@ use Rattle.std.proofs.lemmas.Bool.{false≢true}
 use Rattle.c_tokens.specs.Bytes.{line_feed, is_digit}
 use Rattle.c_tokens.specs.Grammar.{is_string}
 use Rattle.c_tokens.specs.Borders.{is_whole, keep_lines}
-use Rattle.c_tokens.specs.Counting.{Place, PlacedElement, LineOfTokens, LineCount, TokenRead}
-use Rattle.c_tokens.specs.Counting.{next_place, place_after, places, tokens_at, lines_from, directive, begins_directive, begins_group, turns_group}
-use Rattle.c_tokens.specs.Counting.{count_after, counts_from, unescaped, read_of, reads, region_after}
-use Rattle.c_tokens.specs.JoinedLines.{joined_lines}
-use Rattle.c_tokens.proofs.LineLemmas.{line-first, line-last}
-use Rattle.c_tokens.proofs.LineLemmas.{tokens-placed}
+use Rattle.c_lines.specs.Counting.{Place, PlacedElement, LineOfTokens, LineCount, TokenRead}
+use Rattle.c_lines.specs.Counting.{next_place, place_after, places, tokens_at, lines_from, directive, begins_directive, begins_group, turns_group}
+use Rattle.c_lines.specs.Counting.{count_after, counts_from, unescaped, read_of, reads, region_after}
+use Rattle.c_lines.specs.JoinedLines.{joined_lines}
+use Rattle.c_lines.proofs.LineLemmas.{line-first, line-last}
+use Rattle.c_lines.proofs.LineLemmas.{tokens-placed}
 use Rattle.tangle_c_tokens.proofs.ListLemmas.{all-append}
 use Rattle.tangle_c_lines.proofs.ByteLemmas.{all-each, all-map, rest-drop, begins_sign, region-chosen, before-more, counts-feed}
 use Rattle.tangle_c_lines.proofs.ByteLemmas.{Stands, AreRead, IsOwn, IsOwnAt, IsPlainAt, IsBefore, IsCountedAs, ArePlain}

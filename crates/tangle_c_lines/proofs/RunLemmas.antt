@@ -11,10 +11,10 @@ use Rattle.std.proofs.lemmas.Bool.{and_parts, eqb-true, not-true}
 use Rattle.c_tokens.specs.Bytes.{line_feed, space, is_digit}
 use Rattle.c_tokens.specs.Grammar.{is_string}
 use Rattle.c_tokens.specs.Borders.{keep_lines, has_bytes}
-use Rattle.c_tokens.specs.Counting.{Place, LineCount}
-use Rattle.c_tokens.specs.Counting.{next_place, place_after, tokens_at, lines_from, directive}
-use Rattle.c_tokens.specs.Counting.{counted, count_after, counts_from, unescaped, reads}
-use Rattle.c_tokens.proofs.LineDirectiveLemmas.{line-directive}
+use Rattle.c_lines.specs.Counting.{Place, LineCount}
+use Rattle.c_lines.specs.Counting.{next_place, place_after, tokens_at, lines_from, directive}
+use Rattle.c_lines.specs.Counting.{counted, count_after, counts_from, unescaped, reads}
+use Rattle.c_lines.proofs.LineDirectiveLemmas.{line-directive}
 use Rattle.tangle_c_lines.proofs.ByteLemmas.{begins_sign, after_byte, same-choice, each-choice, later-choice, goes-on, counts-feed}
 use Rattle.tangle_c_lines.proofs.ByteLemmas.{Stands, AreRead, IsOwn, IsPlainByte, IsCountedAs, presumed}
 use Rattle.tangle_c_lines.proofs.KeptMarks.{kept-last}

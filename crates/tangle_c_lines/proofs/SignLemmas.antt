@@ -13,9 +13,9 @@ use Rattle.std.proofs.lemmas.List.Elements.{All-filter, All-from_recursion, recu
 use Rattle.c_tokens.specs.Grammar.{is_token}
 use Rattle.c_tokens.specs.Reading.{spliced, elements}
 use Rattle.c_tokens.specs.Borders.{has_bytes}
-use Rattle.c_tokens.specs.Counting.{Place, PlacedElement, next_place, places, with_places, tokens_at, begins_directive}
+use Rattle.c_lines.specs.Counting.{Place, PlacedElement, next_place, places, with_places, tokens_at, begins_directive}
 use Rattle.c_tokens.proofs.LongestLemmas.{elements-all}
-use Rattle.c_tokens.proofs.LineLemmas.{elements-some}
+use Rattle.c_lines.proofs.LineLemmas.{elements-some}
 use Rattle.tangle_c_lines.proofs.ByteLemmas.{at-drop, rest-drop, begins_sign}
 
 -- the first byte of an element

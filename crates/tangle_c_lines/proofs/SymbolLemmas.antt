@@ -11,7 +11,7 @@ use Rattle.std.proofs.lemmas.Fmt.{decimal_is_IsNumeral}
 use Rattle.std.proofs.lemmas.List.{map-append}
 use Rattle.c_tokens.specs.Bytes.{line_feed, space, is_digit, backslash, double_quote}
 use Rattle.c_tokens.specs.Borders.{has_bytes}
-use Rattle.c_tokens.specs.Counting.{LineCount, next_place, place_after, unescaped, directive, tokens_at, count_after}
+use Rattle.c_lines.specs.Counting.{LineCount, next_place, place_after, unescaped, directive, tokens_at, count_after}
 use Rattle.tangle_files.specs.declared.marks.MarkMode.TheVariants.{Full}
 use Rattle.tangle_lines.specs.declared.origin.Origin.{Origin}
 use Rattle.tangle_scan.specs.Web.{WebRead}

@@ -4,10 +4,10 @@ use Rattle.std.proofs.Common.{◌≡◌, ℕ, true, false, List, [], ◌∷◌, 
 use Rattle.std.specs.List.{AllByRecursion}
 use Rattle.std.specs.Fmt.{digits}
 use Rattle.std.proofs.lemmas.Bool.{false≢true}
-use Rattle.c_tokens.specs.Counting.{LineOfTokens, start_of_text, begins_directive, begins_group, directive, turns_group}
+use Rattle.c_lines.specs.Counting.{LineOfTokens, start_of_text, begins_directive, begins_group, directive, turns_group}
 use Rattle.c_tokens.specs.Grammar.{is_element, is_token, is_punctuator}
-use Rattle.c_tokens.specs.JoinedLines.{LinesAreWhole, joined_lines, lines_of_each}
-use Rattle.c_tokens.proofs.LineLemmas.{each-line}
+use Rattle.c_lines.specs.JoinedLines.{LinesAreWhole, joined_lines, lines_of_each}
+use Rattle.c_lines.proofs.LineLemmas.{each-line}
 use Rattle.tangle_lines.specs.Reading.{SourceRead}
 use Rattle.tangle_lexer.specs.Steps.{lexeme, occurrences_from, tokens_from}
 use Rattle.tangle_scan.specs.Directives.{SameRegion, GroupBegins, GroupTurns}

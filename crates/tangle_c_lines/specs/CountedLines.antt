@@ -5,9 +5,9 @@ use Rattle.std.specs.Prelude.{◌≡◌, ℕ, ◌+◌, Bool, true, false, List, 
 use Rattle.std.specs.Prelude.{if◌then◌else◌, Option, Some, None, get_or, slice_index_or, codes}
 use Rattle.std.specs.List.{AllByRecursion}
 use Rattle.std.specs.Str.{bytes_eq}
-use Rattle.c_tokens.specs.Counting.{Place, start_of_text, PlacedElement, LineOfTokens, lines_from}
-use Rattle.c_tokens.specs.Counting.{directive, begins_group, turns_group, PresumedLine}
-use Rattle.c_tokens.specs.Counting.{c_reads}
+use Rattle.c_lines.specs.Counting.{Place, start_of_text, PlacedElement, LineOfTokens, lines_from}
+use Rattle.c_lines.specs.Counting.{directive, begins_group, turns_group, PresumedLine}
+use Rattle.c_lines.specs.Counting.{c_reads}
 use Rattle.tangle_files.specs.declared.marks.MarkMode.TheVariants.{Full}
 use Rattle.tangle_lines.specs.Reading.{SourceLine, SourceRead}
 use Rattle.tangle_scan.specs.Directives.{Border, SameRegion, GroupTurns}

@@ -15,7 +15,7 @@ use Rattle.c_tokens.specs.Reading.{spliced, elements, elements_from, tokens}
 use Rattle.c_tokens.specs.Borders.{last_element, last_byte}
 use Rattle.c_tokens.specs.Borders.{have_border}
 use Rattle.c_tokens.proofs.TouchingLemmas.{one-element, comment-element}
-use Rattle.c_tokens.proofs.JoinedLemmas.{feeds_taken}
+use Rattle.c_lines.proofs.JoinedLemmas.{feeds_taken}
 use Rattle.tangle_c_tokens.proofs.TextLemmas.{Follows, follows-same, apart-from}
 use Rattle.tangle_expansion.specs.Numbers.{opening_bytes, closing_bytes}
 use Rattle.std.proofs.lemmas.Bool.Decides.{nat_tests}

@@ -17,7 +17,7 @@ use Rattle.tangle_c_tokens.specs.Kinds.{item_kind, is_range, IsAlone, IsQuotedTe
 use Rattle.tangle_c_tokens.specs.Kinds.{AreTexts}
 use Rattle.tangle_c_tokens.specs.Groups.{Group, group_before, groups_after, group_text}
 use Rattle.tangle_c_tokens.specs.Macros.{text_of, stay_apart, IsReadAlone}
-use Rattle.c_tokens.proofs.JoinedLemmas.{IsOneLine}
+use Rattle.c_lines.proofs.JoinedLemmas.{IsOneLine}
 use Rattle.tangle_c_tokens.proofs.ListLemmas.{all-both}
 use Rattle.std.proofs.lemmas.Bool.Decides.{nat_tests}
 

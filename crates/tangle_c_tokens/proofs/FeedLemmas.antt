@@ -7,7 +7,7 @@ use Rattle.std.proofs.Common.{◌++◌}
 use Rattle.std.proofs.Common.{◌==◌}
 use Rattle.c_tokens.specs.Bytes.{line_feed, backslash}
 use Rattle.c_tokens.specs.Borders.{keep_lines}
-use Rattle.c_tokens.specs.JoinedLines.{LinesAreWhole}
+use Rattle.c_lines.specs.JoinedLines.{LinesAreWhole}
 use Rattle.tangle_expansion.specs.Numbers.{closing_bytes}
 use Rattle.tangle_c_tokens.specs.Edges.{last_byte_passes}
 use Rattle.tangle_c_tokens.proofs.CommentLemmas.{last-slash}

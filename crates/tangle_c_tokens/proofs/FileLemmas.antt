@@ -32,7 +32,7 @@ use Rattle.tangle_c_tokens.specs.Files.{FilesAreReadByParts, SourceHasNoLineFeed
 use Rattle.tangle_c_tokens.specs.Files.{NodesAreReadByParts, ReachesWholePieces, numbers_in}
 use Rattle.tangle_c_tokens.specs.Files.{shapes_in, texts_of_node, row_of_node}
 use Rattle.tangle_c_tokens.proofs.ListLemmas.{all-both, each}
-use Rattle.c_tokens.specs.JoinedLines.{LinesAreWhole}
+use Rattle.c_lines.specs.JoinedLines.{LinesAreWhole}
 use Rattle.digraph.specs.Reach.{here, on}
 use Rattle.tangle_c_tokens.proofs.TextLemmas.{no-text, feed-front, with-nothing}
 use Rattle.tangle_c_tokens.proofs.FeedLemmas.{KeepsFeed, line-of}

@@ -29,7 +29,7 @@ use Rattle.tangle_c_tokens.specs.Macros.{text_of, IsReadAlone, IsReadByGroups}
 use Rattle.tangle_c_tokens.proofs.EdgeLemmas.{are_apart_at_edges, IsApart, apart-groups}
 use Rattle.tangle_c_tokens.proofs.kind_lemmas.TableKinds.{same-table}
 use Rattle.tangle_c_tokens.proofs.OneLineLemmas.{IsGroupOnLine}
-use Rattle.c_tokens.proofs.JoinedLemmas.{lines-one}
+use Rattle.c_lines.proofs.JoinedLemmas.{lines-one}
 use Rattle.tangle_c_tokens.proofs.GroupLemmas.{last-item, group-one}
 use Rattle.tangle_c_tokens.proofs.TextLemmas.{feed-between, feed-front, space-between}
 use Rattle.tangle_c_tokens.proofs.TextLemmas.{taken-between, kinds-border}

@@ -13,10 +13,10 @@ use Rattle.std.proofs.Math.ListN.{get_or-map}
 use Rattle.c_tokens.specs.Bytes.{space, double_quote}
 use Rattle.c_tokens.specs.Grammar.{ends_quoted}
 use Rattle.c_tokens.specs.Borders.{is_whole}
-use Rattle.c_tokens.specs.JoinedLines.{LinesAreWhole}
-use Rattle.c_tokens.proofs.LineDirectiveLemmas.{digits-line, digits-whole, spliced-line, word-whole}
+use Rattle.c_lines.specs.JoinedLines.{LinesAreWhole}
+use Rattle.c_lines.proofs.LineDirectiveLemmas.{digits-line, digits-whole, spliced-line, word-whole}
 use Rattle.c_tokens.proofs.TouchingLemmas.{one-element, plain-element}
-use Rattle.c_tokens.proofs.JoinedLemmas.{IsInLine, in-line-taken, lines-one}
+use Rattle.c_lines.proofs.JoinedLemmas.{IsInLine, in-line-taken, lines-one}
 use Rattle.tangle_files.specs.declared.marks.MarkMode.{MarkMode}
 use Rattle.tangle_files.specs.declared.marks.MarkMode.TheVariants.{Full, Bare}
 use Rattle.tangle_expansion.specs.Numbers.{escaped, mark_end, mark_bytes}

@@ -20,9 +20,9 @@ use Rattle.tangle_lexer.specs.SpanBytes.{first_byte, last_byte}
 use Rattle.tangle_scan.specs.Rules.{is_continued}
 use Rattle.tangle_scan.specs.ReadAsMeant.{written_tokens}
 use Rattle.c_tokens.specs.Bytes.{line_feed}
-use Rattle.c_tokens.proofs.JoinedLemmas.{ends_back, feeds_taken, IsOneLine, back-append, taken-append, taken-more, back-more}
-use Rattle.c_tokens.proofs.JoinedLemmas.{no-feed-taken, in-line-taken, spliced-taken}
-use Rattle.c_tokens.proofs.LineDirectiveLemmas.{digits-line}
+use Rattle.c_lines.proofs.JoinedLemmas.{ends_back, feeds_taken, IsOneLine, back-append, taken-append, taken-more, back-more}
+use Rattle.c_lines.proofs.JoinedLemmas.{no-feed-taken, in-line-taken, spliced-taken}
+use Rattle.c_lines.proofs.LineDirectiveLemmas.{digits-line}
 use Rattle.tangle_c_tokens.specs.Kinds.{HasItsKind, is_range, range_bytes, AreTexts}
 use Rattle.tangle_c_tokens.specs.LineFeeds.{TextHasNoLineFeed, SourceLinesHaveNoLineFeed}
 use Rattle.tangle_c_tokens.specs.Groups.{Group, group_before, groups_after, group_text}

@@ -4,9 +4,9 @@ use Rattle.std.proofs.Common.{arith}
 use Rattle.tangle_c_tokens.proofs.GroupLemmas.{last-item}
 use Rattle.tangle_c_tokens.proofs.OneLineLemmas.{AreOnLine, more-on_line}
 use Rattle.tangle_c_tokens.proofs.TextLemmas.{IsWholeLine}
-use Rattle.c_tokens.specs.JoinedLines.{LinesAreWhole}
-use Rattle.c_tokens.proofs.JoinedLemmas.{IsOneLine, ends_back, feeds_taken, back-append, taken-append, back-more}
-use Rattle.c_tokens.proofs.JoinedLemmas.{lines-one, lines-whole}
+use Rattle.c_lines.specs.JoinedLines.{LinesAreWhole}
+use Rattle.c_lines.proofs.JoinedLemmas.{IsOneLine, ends_back, feeds_taken, back-append, taken-append, back-more}
+use Rattle.c_lines.proofs.JoinedLemmas.{lines-one, lines-whole}
 use Rattle.std.proofs.Common.{◌≡◌, ℕ, Bool, true, false, ◌&&◌, not, if◌then◌else◌, List, [], ◌∷◌}
 use Rattle.std.proofs.Common.{◌++◌, refl, ap, sym, ◌∙◌, subst, Option, Some, None}
 use Rattle.std.specs.Prelude.{◌||◌}

@@ -39,7 +39,7 @@ use Rattle.tangle_c_tokens.specs.Pieces.{written_for, part_text, passage_text}
 use Rattle.tangle_c_tokens.specs.Pieces.{IsWholePart}
 use Rattle.tangle_c_tokens.proofs.GroupLemmas.{last-item, group-one}
 use Rattle.tangle_c_tokens.proofs.PartLemmas.{IsWholeText, IsWholeWritten, ends_in_use}
-use Rattle.c_tokens.proofs.JoinedLemmas.{IsOneLine, lines-one}
+use Rattle.c_lines.proofs.JoinedLemmas.{IsOneLine, lines-one}
 use Rattle.tangle_c_tokens.proofs.TextLemmas.{Follows, follows-same, feed-between, feed-front}
 use Rattle.tangle_c_tokens.proofs.TextLemmas.{space-between, space-front, with-text, with-mark, with-nothing}
 use Rattle.std.proofs.lemmas.Bool.Decides.{nat_tests}

@@ -20,9 +20,9 @@ use Rattle.c_tokens.specs.Borders.{is_border, have_border, keep_lines}
 use Rattle.c_tokens.specs.Borders.{is_plain_byte}
 use Rattle.c_tokens.proofs.BorderLemmas.{border-elements}
 use Rattle.c_tokens.proofs.TouchingLemmas.{spliced-both}
-use Rattle.c_tokens.specs.JoinedLines.{LinesAreWhole}
-use Rattle.c_tokens.proofs.LineLemmas.{keep-feed}
-use Rattle.c_tokens.proofs.JoinedLemmas.{IsOneLine, lines-apart, lines-feed, lines-whole, taken-append, spliced-other, white-next, white-before}
+use Rattle.c_lines.specs.JoinedLines.{LinesAreWhole}
+use Rattle.c_lines.proofs.LineLemmas.{keep-feed}
+use Rattle.c_lines.proofs.JoinedLemmas.{IsOneLine, lines-apart, lines-feed, lines-whole, taken-append, spliced-other, white-next, white-before}
 use Rattle.tangle_c_tokens.specs.Reading.{IsReadAsTexts}
 use Rattle.tangle_c_tokens.specs.Edges.{first_byte_passes, last_byte_passes, begins_as, ends_as, last_number_goes_on}
 use Rattle.std.proofs.lemmas.Bool.Decides.{nat_tests}

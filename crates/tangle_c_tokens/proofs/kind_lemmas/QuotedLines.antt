@@ -15,7 +15,7 @@ use Rattle.tangle_lexer.proofs.laws.CutTexts.{IsCut}
 use Rattle.tangle_scan.specs.Rules.{without_faults}
 use Rattle.c_tokens.specs.Bytes.{line_feed}
 use Rattle.c_tokens.specs.Reading.{spliced}
-use Rattle.c_tokens.proofs.JoinedLemmas.{spliced-other}
+use Rattle.c_lines.proofs.JoinedLemmas.{spliced-other}
 use Rattle.tangle_c_tokens.specs.Kinds.{range_bytes}
 use Rattle.tangle_c_tokens.specs.LineFeeds.{TextHasNoLineFeed}
 use Rattle.tangle_c_tokens.proofs.kind_lemmas.Lines.{AreInLines}

@@ -3,7 +3,7 @@ use Rattle.std.proofs.Common.{◌≡◌, true, [], ◌∷◌, codes, refl}
 use Rattle.std.proofs.lemmas.Bool.{false≢true}
 use Rattle.c_tokens.specs.Grammar.{is_element, is_token, is_punctuator}
 use Rattle.c_tokens.specs.Borders.{is_whole}
-use Rattle.c_tokens.specs.JoinedLines.{joined_lines, LinesAreWhole}
+use Rattle.c_lines.specs.JoinedLines.{joined_lines, LinesAreWhole}
 
 -- A line feed ends a line, unless a backslash is directly before it.
 lines :

@@ -8,9 +8,9 @@ use Rattle.std.proofs.lemmas.Slice.Eq.{bytes_eq-Decides}
 use Rattle.c_tokens.specs.Bytes.{line_feed}
 use Rattle.c_tokens.specs.Grammar.{is_token, is_punctuator}
 use Rattle.c_tokens.specs.Reading.{elements, tokens}
-use Rattle.c_tokens.specs.Counting.{Place, PlacedElement, LineOfTokens, LineCount, TokenRead, start_of_text, places, with_places}
-use Rattle.c_tokens.specs.Counting.{lines, lines_from, begins_directive, directive, begins_group, turns_group, region_after}
-use Rattle.c_tokens.specs.Counting.{counted, count_after, read_of, reads, c_reads}
+use Rattle.c_lines.specs.Counting.{Place, PlacedElement, LineOfTokens, LineCount, TokenRead, start_of_text, places, with_places}
+use Rattle.c_lines.specs.Counting.{lines, lines_from, begins_directive, directive, begins_group, turns_group, region_after}
+use Rattle.c_lines.specs.Counting.{counted, count_after, read_of, reads, c_reads}
 
 abbrev texts_of : List PlacedElement → List (List ℕ)
 texts_of es = map (λ e. e.text) es

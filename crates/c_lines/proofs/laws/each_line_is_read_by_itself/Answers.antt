@@ -1,5 +1,5 @@
-use Rattle.c_tokens.proofs.LineLemmas.{lines-joined, each-line}
-use Rattle.c_tokens.proofs.laws.each_line_is_read_by_itself.Goals as goal
+use Rattle.c_lines.proofs.LineLemmas.{lines-joined, each-line}
+use Rattle.c_lines.proofs.laws.each_line_is_read_by_itself.Goals as goal
 
 pub returns-clause-all : goal.returns-clause-all
 returns-clause-all c = lines-joined

@@ -15,11 +15,11 @@ use Rattle.c_tokens.specs.Bytes.{line_feed, backslash}
 use Rattle.c_tokens.specs.Grammar.{is_token, is_element, is_punctuator}
 use Rattle.c_tokens.specs.Reading.{spliced, longest, elements_from, elements}
 use Rattle.c_tokens.specs.Borders.{is_unfinished, is_whole, last_byte, keep_lines, has_bytes}
-use Rattle.c_tokens.specs.Counting.{Place, PlacedElement, next_place, place_after, places}
-use Rattle.c_tokens.specs.Counting.{with_places, elements_at, tokens_at, lines, lines_from}
-use Rattle.c_tokens.specs.JoinedLines.{joined_lines, LinesAreWhole, lines_of_each}
+use Rattle.c_lines.specs.Counting.{Place, PlacedElement, next_place, place_after, places}
+use Rattle.c_lines.specs.Counting.{with_places, elements_at, tokens_at, lines, lines_from}
+use Rattle.c_lines.specs.JoinedLines.{joined_lines, LinesAreWhole, lines_of_each}
 use Rattle.c_tokens.proofs.TouchingLemmas.{spliced-both}
-use Rattle.c_tokens.proofs.JoinedLemmas.{IsOneLine, taken-spliced, one-more, joined-is, spliced-other, white-next, white-before}
+use Rattle.c_lines.proofs.JoinedLemmas.{IsOneLine, taken-spliced, one-more, joined-is, spliced-other, white-next, white-before}
 use Rattle.c_tokens.proofs.BorderLemmas.{border-elements}
 use Rattle.c_tokens.proofs.LongestLemmas.{longest-one, elements-all}
 

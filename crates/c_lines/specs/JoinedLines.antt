@@ -5,7 +5,7 @@ use Rattle.std.specs.Prelude.{Some, None}
 use Rattle.std.specs.List.{AllByRecursion}
 use Rattle.c_tokens.specs.Bytes.{line_feed}
 use Rattle.c_tokens.specs.Borders.{keep_lines, is_whole}
-use Rattle.c_tokens.specs.Counting.{Place, LineOfTokens, next_place, place_after, tokens_at}
+use Rattle.c_lines.specs.Counting.{Place, LineOfTokens, next_place, place_after, tokens_at}
 
 -- the lines of a text; `line`: the bytes of the first one that are before the text
 abbrev pub joined_lines : List ℕ → List ℕ → List (List ℕ)

@@ -11,11 +11,11 @@ use Rattle.c_tokens.specs.Grammar.{is_token, is_element, is_punctuator, is_strin
 use Rattle.c_tokens.specs.Grammar.{signs_follow_exponents, apostrophes_separate, has_universal_names}
 use Rattle.c_tokens.specs.Reading.{spliced, elements_from, elements, tokens}
 use Rattle.c_tokens.specs.Borders.{is_unfinished, is_whole, keep_lines, have_border, has_bytes}
-use Rattle.c_tokens.specs.Counting.{Place, PlacedElement, places, with_places, tokens_at, begins_directive, directive}
+use Rattle.c_lines.specs.Counting.{Place, PlacedElement, places, with_places, tokens_at, begins_directive, directive}
 use Rattle.c_tokens.proofs.GrammarLemmas.{number-from}
 use Rattle.c_tokens.proofs.TouchingLemmas.{one-element, plain-token, token-element}
 use Rattle.c_tokens.proofs.BorderLemmas.{number-token, apart-tokens}
-use Rattle.c_tokens.proofs.JoinedLemmas.{IsInLine, spliced-other, white-next, white-before}
+use Rattle.c_lines.proofs.JoinedLemmas.{IsInLine, spliced-other, white-next, white-before}
 
 -- texts without line feeds
 

@@ -6,8 +6,8 @@ use Rattle.std.specs.Fmt.{digits}
 use Prim.Native.String.{String}
 use Rattle.c_tokens.specs.Bytes.{space}
 use Rattle.c_tokens.specs.Grammar.{is_element, is_token, is_punctuator}
-use Rattle.c_tokens.specs.Counting.{TokenRead, c_reads}
-use Rattle.c_tokens.specs.JoinedLines.{joined_lines}
+use Rattle.c_lines.specs.Counting.{TokenRead, c_reads}
+use Rattle.c_lines.specs.JoinedLines.{joined_lines}
 
 abbrev shown : TokenRead → List ℕ
 shown read = read.token ++ space ∷ read.origin.file ++ space ∷ decimal read.origin.line

@@ -11,7 +11,7 @@ use Rattle.c_tokens.specs.Grammar.{is_token, is_element, is_punctuator}
 use Rattle.c_tokens.specs.Reading.{spliced}
 use Rattle.c_tokens.specs.Borders.{is_whole, have_border, keep_lines}
 use Rattle.c_tokens.specs.Borders.{last_byte}
-use Rattle.c_tokens.specs.JoinedLines.{joined_lines, LinesAreWhole}
+use Rattle.c_lines.specs.JoinedLines.{joined_lines, LinesAreWhole}
 use Rattle.c_tokens.proofs.BorderLemmas.{border-elements}
 use Rattle.c_tokens.proofs.TouchingLemmas.{spliced-both}
 use Rattle.std.proofs.lemmas.Bool.Decides.{nat_tests}
