@@ -28,7 +28,7 @@ RELATIONS = ('≡', '≤', ' < ', '↔', '⊎', '≢', '⊥', 'goal.')
 # What the types of laws begin with where they have no sign of a relation. Definitions have others,
 # and are left as they are.
 LAWS = ('Is', 'Are', 'Has', 'Have', 'Reads', 'All', 'Holds', 'Adds', 'Begins', 'Follows', 'Keeps',
-        'If', 'On', 'Contains', 'Ends', 'Makes', 'Says', 'Reaches', 'Passes', 'Decides')
+        'If', 'On', 'Contains', 'Ends', 'Makes', 'Says', 'Reaches', 'Passes', 'Decides', 'Lead', 'Law')
 IMPORTS = {'arith': 'Rattle.std.proofs.Common', 'rules': 'Rattle.std.proofs.Common',
            'nat_tests': 'Rattle.std.proofs.lemmas.Bool.Decides'}
 

@@ -1,4 +1,6 @@
 -- A compiler that leaves out no region reads all tokens.
+use Rattle.std.proofs.Common.{rules, arith}
+use Rattle.std.proofs.lemmas.Bool.Decides.{nat_tests}
 use Rattle.std.proofs.Common.{◌≡◌, ℕ, Bool, true, false, List, [], ◌∷◌, ◌++◌, map, drop, length}
 use Rattle.std.proofs.Common.{refl, ap, sym, subst, ◌∙◌}
 use Rattle.std.specs.Prelude.{◌||◌, if◌then◌else◌, filter, flat_map}
@@ -34,23 +36,19 @@ line-feed-no-token : (e : List ℕ) → bytes_eq e (line_feed ∷ []) ≡ true �
 unfolding is_token is_punctuator
 line-feed-no-token e h = subst (λ t. is_token t ≡ false) (sym ((bytes_eq-Decides e (line_feed ∷ [])).0 h)) refl
 
-abbrev Splits : List PlacedElement → Type 0
-Splits es = (front : List PlacedElement) → tokens_in (lines front es) ≡ texts_of front ++ filter is_token (texts_of es)
-
-splits-after : (e : PlacedElement) (es : List PlacedElement) → Splits es → (b : Bool) → bytes_eq e.text (line_feed ∷ []) ≡ b →
-    (c : Bool) → is_token e.text ≡ c → Splits (e ∷ es)
-splits-after e es more true h c k front =
-    rw h (rw (line-feed-no-token e.text h) (ap (λ rest. texts_of front ++ rest) (more [])))
-splits-after e es more false h true k front =
-    rw h (rw k (more (front ++ e ∷ [])
-    ∙ ap (λ t. t ++ filter is_token (texts_of es)) (map-append (λ e. e.text) front (e ∷ []))
-    ∙ append_assoc (texts_of front) (e.text ∷ []) (filter is_token (texts_of es))))
-splits-after e es more false h false k front = rw h (rw k (more front))
-
-lines-tokens : (es : List PlacedElement) → Splits es
+lines-tokens : (es front : List PlacedElement) → tokens_in (lines front es) ≡ texts_of front ++ filter is_token (texts_of es)
 lines-tokens [] front = refl
 lines-tokens (e ∷ es) front =
-    splits-after e es (lines-tokens es) (bytes_eq e.text (line_feed ∷ [])) refl (is_token e.text) refl front
+    grind (
+      arith,
+      nat_tests,
+      line-feed-no-token e.text,
+      lines-tokens es [],
+      lines-tokens es (front ++ e ∷ []),
+      lines-tokens es front,
+      map-append (λ e. e.text) front (e ∷ []),
+      append_assoc (texts_of front) (e.text ∷ []) (filter is_token (texts_of es)),
+    )
 
 read-texts : (count : LineCount) (b : Bool) (es : List PlacedElement) →
     tokens_of (map (λ e. record { token = e.text; at = e.place.at; origin = counted count e.place.row; in_directive = b }) es) ≡ texts_of es
@@ -58,12 +56,7 @@ read-texts count b [] = refl
 read-texts count b (e ∷ es) = ap (λ more. e.text ∷ more) (read-texts count b es)
 
 read-after : (words : List (List ℕ)) → region_after words true true ≡ true
-read-after words = if-same-twice (begins_group words) (turns_group words)
-  where
-    if-same-twice : (b c : Bool) → (if b then true else if c then true else true) ≡ true
-    if-same-twice true c = refl
-    if-same-twice false true = refl
-    if-same-twice false false = refl
+read-after words = search rules
 
 reads-tokens : (count : LineCount) (ls : List LineOfTokens) → tokens_of (reads [] true count ls) ≡ tokens_in ls
 reads-tokens count [] = refl

@@ -50,9 +50,7 @@ last-back x [] = refl
 last-back x (y ∷ a) = last-back y a
 
 pub keep-is : (a b : List ℕ) → keep_lines a b ≡ not (ends_back false a && begins_feed b)
-keep-is [] b = refl
-keep-is (x ∷ a) [] = grind (arith, nat_tests)
-keep-is (x ∷ a) (c ∷ r) = grind (arith, nat_tests, last-back x a)
+keep-is a b = search (rules, last-back)
 
 -- texts of one line
 
@@ -81,15 +79,7 @@ in-line-taken after (b ∷ t) line = grind (arith, nat_tests, in-line-taken (b =
 pub spliced-taken : (t : List ℕ) → list_any (λ b. b == line_feed) (spliced t) ≡ false → IsOneLine t
 spliced-taken [] none = refl
 spliced-taken (b ∷ []) none = grind (arith, nat_tests)
-spliced-taken (b ∷ c ∷ t) none =
-    grind (
-      arith,
-      nat_tests,
-      spliced-taken t,
-      spliced-taken (c ∷ t),
-      taken-more (b == backslash) (c ∷ t),
-      taken-more (c == backslash) t,
-    )
+spliced-taken (b ∷ c ∷ t) none = grind (arith, nat_tests, spliced-taken t, spliced-taken (c ∷ t), taken-more (b == backslash) (c ∷ t), taken-more (c == backslash) t)
 
 -- each line feed of a text of one line is taken out
 pub taken-spliced : (t : List ℕ) → IsOneLine t → IsInLine (spliced t)
@@ -121,15 +111,7 @@ pub joined-is : (line bs : List ℕ) → let after = ends_back false line in
     joined_lines line bs ≡ (line ++ first_line after bs) ∷ lines_after after bs
 joined-is line [] = ap (λ l. l ∷ []) (sym (append-nil line))
 joined-is line (b ∷ bs) =
-    grind (
-      arith,
-      nat_tests,
-      keep-is line (line_feed ∷ []),
-      back-append false line (b ∷ []),
-      joined-is (line ++ b ∷ []) bs,
-      append_assoc line (b ∷ []),
-      append-nil line,
-    )
+    grind (arith, nat_tests, keep-is line (line_feed ∷ []), back-append false line (b ∷ []), joined-is (line ++ b ∷ []) bs, append_assoc line (b ∷ []), append-nil line)
 
 first-taken : (after : Bool) (a b : List ℕ) → feeds_taken after a ≡ true
     → first_line after (a ++ b) ≡ a ++ first_line (ends_back after a) b
@@ -155,16 +137,7 @@ after-same after (c ∷ r) same = grind (arith, nat_tests)
 joined-both : (a b : List ℕ) → IsOneLine a → keep_lines a b ≡ true
     → joined_lines [] (a ++ b) ≡ (a ++ first_line false b) ∷ lines_after false b
 joined-both a b one kept =
-    let same : (ends_back false a && begins_feed b) ≡ false = not-true _ (sym (keep-is a b) ∙ kept) in
-    joined-is [] (a ++ b)
-    ∙ grind (
-      arith,
-      nat_tests,
-      first-taken false a b one,
-      after-taken false a b one,
-      first-same (ends_back false a) b same,
-      after-same (ends_back false a) b same,
-    )
+    search (rules, not-true, keep-is, joined-is, nat_tests, first-taken, after-taken, first-same, after-same)
 
 -- the first line and what is after it
 
@@ -178,27 +151,21 @@ rest-kept after (c ∷ r) = grind (arith, nat_tests, rest-kept (c == backslash) 
 
 first-spliced : (b : List ℕ) → spliced b ≡ spliced (first_line false b) ++ spliced (rest_of false b)
 first-spliced b =
-    ap spliced (first-rest false b)
-    ∙ spliced-both (first_line false b) (rest_of false b)
+    ap spliced (first-rest false b) ∙ spliced-both (first_line false b) (rest_of false b)
     (keep-is (first_line false b) (rest_of false b) ∙ ap not (rest-kept false b))
 
 border-front : (a b c : List ℕ) → have_border a (b ++ c) ≡ true → have_border a b ≡ true
-border-front [] b c border = refl
-border-front (x ∷ a) [] c border = refl
-border-front (x ∷ a) (y ∷ b) c border = border
+border-front a b c border = search rules
 
 keep-front : (a b c : List ℕ) → keep_lines a (b ++ c) ≡ true → keep_lines a b ≡ true
-keep-front [] b c kept = refl
-keep-front (x ∷ a) [] c kept = refl
-keep-front (x ∷ a) (y ∷ b) c kept = kept
+keep-front a b c kept = search rules
 
 -- whole texts
 
 none-append : (test : List ℕ → Bool) (xs ys : List (List ℕ)) → list_any test xs ≡ false
     → list_any test (xs ++ ys) ≡ list_any test ys
 none-append test [] ys none = refl
-none-append test (x ∷ xs) ys none =
-    grind (arith, nat_tests, none-append test xs ys)
+none-append test (x ∷ xs) ys none = grind (arith, nat_tests, none-append test xs ys)
 
 pub whole-apart : (a b : List ℕ) → is_whole a ≡ true → keep_lines a b ≡ true
     → have_border (spliced a) (spliced b) ≡ true → is_whole (a ++ b) ≡ is_whole b
@@ -213,16 +180,14 @@ lines-apart a b whole one kept border lines =
       whole-apart a first whole
           (keep-front a first (rest_of false b) (subst (λ t. keep_lines a t ≡ true) (first-rest false b) kept))
           (border-front (spliced a) (spliced first) (spliced (rest_of false b))
-          (subst (λ t. have_border (spliced a) t ≡ true) (first-spliced b) border))
-          ∙ more.0,
+          (subst (λ t. have_border (spliced a) t ≡ true) (first-spliced b) border)) ∙ more.0,
       more.1,
     )
 
 -- a text of one line alone
 pub lines-one : (a : List ℕ) → is_whole a ≡ true → IsOneLine a → LinesAreWhole a
 lines-one a whole one =
-    subst LinesAreWhole (append-nil a)
-    (lines-apart a [] whole one (kept a) (none (spliced a)) (refl, tt))
+    subst LinesAreWhole (append-nil a) (lines-apart a [] whole one (kept a) (none (spliced a)) (refl, tt))
   where
     kept : (a : List ℕ) → keep_lines a [] ≡ true
     kept [] = refl
@@ -237,8 +202,7 @@ lines-one a whole one =
 joined-feed : (line a b : List ℕ) → ends_back (ends_back false line) a ≡ false
     → joined_lines line (a ++ line_feed ∷ b) ≡ joined_lines line a ++ joined_lines [] b
 joined-feed line [] b ends = grind (arith, nat_tests, keep-is line (line_feed ∷ []))
-joined-feed line (x ∷ a) b ends =
-    grind (arith, nat_tests, joined-feed [] a b, joined-feed (line ++ x ∷ []) a b, back-append false line (x ∷ []))
+joined-feed line (x ∷ a) b ends = grind (arith, nat_tests, joined-feed [] a b, joined-feed (line ++ x ∷ []) a b, back-append false line (x ∷ []))
 
 all-append : {X : Type 0} (P : X → Type 0) (xs ys : List X) → AllByRecursion P xs → AllByRecursion P ys
     → AllByRecursion P (xs ++ ys)
@@ -247,10 +211,7 @@ all-append P (x ∷ xs) ys h k = (h.0, all-append P xs ys h.1 k)
 
 pub lines-feed : (a b : List ℕ) → keep_lines a (line_feed ∷ []) ≡ true → LinesAreWhole a → LinesAreWhole b
     → LinesAreWhole (a ++ line_feed ∷ b)
-lines-feed a b kept of_a of_b =
-    subst (AllByRecursion (λ line. is_whole line ≡ true))
-    (sym (joined-feed [] a b (grind (arith, nat_tests, keep-is a (line_feed ∷ [])))))
-    (all-append (λ line. is_whole line ≡ true) (joined_lines [] a) (joined_lines [] b) of_a of_b)
+lines-feed a b kept of_a of_b = search (rules, joined-feed, keep-is, all-append)
 
 -- a text of whole lines is whole
 
@@ -270,11 +231,7 @@ feed-whole b =
 
 whole-feed : (line bs : List ℕ) → is_whole line ≡ true → keep_lines line (line_feed ∷ []) ≡ true
     → is_whole (line ++ line_feed ∷ bs) ≡ is_whole bs
-whole-feed line bs whole kept =
-    whole-apart line (line_feed ∷ bs) whole (keep-is line (line_feed ∷ bs) ∙ sym (keep-is line (line_feed ∷ [])) ∙ kept)
-    (subst (λ t. have_border (spliced line) t ≡ true) (sym (spliced-other line_feed bs refl))
-    (white-next (spliced line) line_feed (spliced bs) refl))
-    ∙ feed-whole bs
+whole-feed line bs whole kept = search (rules, whole-apart, keep-is, spliced-other, white-next, feed-whole)
 
 whole-from : (line bs : List ℕ) → AllByRecursion (λ line. is_whole line ≡ true) (joined_lines line bs)
     → is_whole (line ++ bs) ≡ true

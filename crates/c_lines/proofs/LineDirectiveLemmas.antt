@@ -1,7 +1,7 @@
 -- The tokens of a `#line` with digits and a name in quotes.
 use Rattle.std.proofs.Common.{rules}
 use Rattle.std.proofs.Common.{◌≡◌, ℕ, true, false, List, [], ◌∷◌, ◌++◌, map, drop, length, codes, arith}
-use Rattle.std.proofs.Common.{refl, ap, sym, subst, ◌∙◌, get_or}
+use Rattle.std.proofs.Common.{refl, ap, ◌∙◌}
 use Rattle.std.specs.Prelude.{◌&&◌, not, filter}
 use Rattle.std.specs.List.{list_any, list_all}
 use Rattle.std.proofs.lemmas.Bool.{and_parts, and_from, or_right, false≢true}
@@ -27,9 +27,7 @@ spliced-line (b ∷ c ∷ t) line = grind (arith, nat_tests, spliced-line (c ∷
 -- a text that is one token
 
 one-token : (b : ℕ) (t : List ℕ) → IsInLine (b ∷ t) → is_token (b ∷ t) ≡ true → tokens (b ∷ t) ≡ (b ∷ t) ∷ []
-one-token b t line is =
-    ap (λ u. filter is_token (elements_from 0 u)) (spliced-line (b ∷ t) line)
-    ∙ ap (filter is_token) (one-element b t (token-element (b ∷ t) is)) ∙ rw is refl
+one-token b t line is = search (rules, spliced-line, one-element, token-element)
 
 pub digits-line : (t : List ℕ) → list_all is_digit t ≡ true → IsInLine t
 digits-line [] all = refl
@@ -54,20 +52,16 @@ digits-names [] all = refl
 digits-names (b ∷ t) all = grind (arith, nat_tests, digits-names t)
 
 digits-begin : (b : ℕ) (t : List ℕ) → list_all is_digit (b ∷ t) ≡ true → begins_number (b ∷ t) ≡ true
-digits-begin b [] all = grind (arith, nat_tests)
-digits-begin b (c ∷ t) all = grind (arith, nat_tests)
+digits-begin b t all = search (rules, and_parts)
 
 digits-number : (b : ℕ) (t : List ℕ) → list_all is_digit (b ∷ t) ≡ true → is_number (b ∷ t) ≡ true
-digits-number b t all =
-    number-from (b ∷ t) (digits-begin b t all) (digits-bytes (b ∷ t) all) (digits-signs (b ∷ t) all)
-    (digits-separate (b ∷ t) all) (digits-names (b ∷ t) all)
+digits-number b t all = search (rules, number-from, digits-begin, digits-bytes, digits-signs, digits-separate, digits-names)
 
 digits-token : (b : ℕ) (t : List ℕ) → list_all is_digit (b ∷ t) ≡ true → tokens (b ∷ t) ≡ (b ∷ t) ∷ []
 digits-token b t all = one-token b t (digits-line (b ∷ t) all) (number-token (b ∷ t) (digits-number b t all))
 
 number-finished : (b : ℕ) (t : List ℕ) → is_digit b ≡ true → is_unfinished (b ∷ t) ≡ false
-number-finished b [] digit = grind (arith, nat_tests)
-number-finished b (c ∷ t) digit = grind (arith, nat_tests)
+number-finished b t digit = grind (arith, nat_tests)
 
 pub digits-whole : (t : List ℕ) → list_all is_digit t ≡ true → is_whole t ≡ true
 digits-whole [] all = refl
@@ -84,23 +78,13 @@ string-token (b ∷ t) is line = one-token b t line (plain-token (b ∷ t) (sear
 
 space-first : (rest : List ℕ) → tokens (space ∷ rest) ≡ tokens rest
 unfolding is_element is_token is_punctuator
-space-first rest = apart-tokens (space ∷ []) rest
-    (and_from (keep_lines (space ∷ []) rest) (have_border (space ∷ []) (spliced rest)) (kept rest) (white-before space (spliced rest) refl))
-  where
-    kept : (rest : List ℕ) → keep_lines (space ∷ []) rest ≡ true
-    kept [] = refl
-    kept (c ∷ rest) = refl
+space-first rest = apart-tokens (space ∷ []) rest (and_from (keep_lines (space ∷ []) rest) (have_border (space ∷ []) (spliced rest)) (search rules) (white-before space (spliced rest) refl))
 
 space-after : (a rest : List ℕ) → is_whole a ≡ true → tokens (a ++ space ∷ rest) ≡ tokens a ++ tokens rest
 space-after a rest whole =
     apart-tokens a (space ∷ rest) (and_from (is_whole a && keep_lines a (space ∷ rest)) (have_border (spliced a) (spliced (space ∷ rest)))
-    (and_from (is_whole a) (keep_lines a (space ∷ rest)) whole (kept a))
-    (subst (λ t. have_border (spliced a) t ≡ true) (sym (spliced-other space rest refl)) (white-next (spliced a) space (spliced rest) refl)))
+    (and_from (is_whole a) (keep_lines a (space ∷ rest)) whole (search rules)) (search (rules, spliced-other, white-next)))
     ∙ ap (λ ts. tokens a ++ ts) (space-first rest)
-  where
-    kept : (a : List ℕ) → keep_lines a (space ∷ rest) ≡ true
-    kept [] = refl
-    kept (x ∷ a) = search rules
 
 word-tokens : tokens (codes "#line") ≡ codes "#" ∷ codes "line" ∷ []
 unfolding is_element is_token is_punctuator
@@ -116,16 +100,14 @@ line-tokens [] literal all some is line = absurd (false≢true some)
 line-tokens (d ∷ digits) literal all some is line =
     space-after (codes "#line") (d ∷ digits ++ space ∷ literal) word-whole
     ∙ ap (λ ts. ts ++ tokens (d ∷ digits ++ space ∷ literal)) word-tokens
-    ∙ ap (λ ts. codes "#" ∷ codes "line" ∷ ts) (space-after (d ∷ digits) literal (digits-whole (d ∷ digits) all)
-    ∙ ap (λ ts. ts ++ tokens literal) (digits-token d digits all) ∙ ap (λ ts. (d ∷ digits) ∷ ts) (string-token literal is line))
+    ∙ ap (λ ts. codes "#" ∷ codes "line" ∷ ts) (search (rules, space-after, digits-whole, digits-token, string-token))
 
 -- the same of tokens with places
 
 placed-texts : (ps : List Place) (es : List (List ℕ)) →
     map (λ e. e.text) (filter (λ e. is_token e.text) (with_places ps es)) ≡ filter is_token es
 placed-texts ps [] = refl
-placed-texts ps (e ∷ es) =
-    grind (arith, nat_tests, placed-texts (drop (length e) ps) es)
+placed-texts ps (e ∷ es) = grind (arith, nat_tests, placed-texts (drop (length e) ps) es)
 
 -- the texts of the tokens of a text are its tokens
 pub token-texts : (p : Place) (text : List ℕ) → map (λ e. e.text) (tokens_at p text) ≡ tokens text
@@ -134,10 +116,7 @@ token-texts p text = placed-texts (places p text) (elements text)
 directive-texts : (es : List PlacedElement) (ts : List (List ℕ)) → map (λ e. e.text) es ≡ codes "#" ∷ ts →
     (begins_directive es ≡ true) × (directive es ≡ ts)
 directive-texts [] ts same = absurd (omega (arith, ap length same))
-directive-texts (e ∷ es) ts same =
-    let first : e.text ≡ codes "#" = ap (λ l. get_or l 0 []) same in
-    let begins : begins_directive (e ∷ es) ≡ true = rw first refl in
-    (begins, rw begins (ap (drop 1) same))
+directive-texts (e ∷ es) ts same = grind (arith, nat_tests)
 
 -- The tokens of a `#line` with these digits and this name.
 pub line-directive : (p : Place) (digits literal : List ℕ) → list_all is_digit digits ≡ true → has_bytes digits ≡ true →

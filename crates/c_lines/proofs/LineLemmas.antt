@@ -3,7 +3,7 @@ use Rattle.std.proofs.Common.{rules}
 use Rattle.std.proofs.Common.{◌≡◌, ℕ, zero, suc, ◌+◌, ◌≤◌, Bool, true, List, [], ◌∷◌, ◌++◌, take, drop, length, ◌-◌}
 use Rattle.std.proofs.Common.{refl, ap, sym, ◌∙◌, append_assoc, append-nil, arith, length-append, length-drop}
 use Rattle.std.specs.Prelude.{◌&&◌, not, ◌==◌, filter, Some, None}
-use Rattle.std.specs.List.{list_any, list_all, concat, join_with_byte, AllByRecursion}
+use Rattle.std.specs.List.{list_all, concat, join_with_byte, AllByRecursion}
 use Rattle.std.specs.Str.{bytes_eq}
 use Rattle.std.proofs.lemmas.Bool.{and_from, not-true, false≢true}
 use Rattle.std.proofs.lemmas.List.{drop-append-le}
@@ -14,7 +14,7 @@ use Rattle.std.proofs.lemmas.Bool.Decides.{nat_tests}
 use Rattle.c_tokens.specs.Bytes.{line_feed, backslash}
 use Rattle.c_tokens.specs.Grammar.{is_token, is_element, is_punctuator}
 use Rattle.c_tokens.specs.Reading.{spliced, longest, elements_from, elements}
-use Rattle.c_tokens.specs.Borders.{is_unfinished, is_whole, last_byte, keep_lines, has_bytes}
+use Rattle.c_tokens.specs.Borders.{is_whole, last_byte, keep_lines, has_bytes}
 use Rattle.c_lines.specs.Counting.{Place, PlacedElement, next_place, place_after, places}
 use Rattle.c_lines.specs.Counting.{with_places, elements_at, tokens_at, lines, lines_from}
 use Rattle.c_lines.specs.JoinedLines.{joined_lines, LinesAreWhole, lines_of_each}
@@ -44,16 +44,13 @@ places-length p (b ∷ c ∷ bs) =
 -- elements, and the places of their bytes
 
 take-some : (k x : ℕ) (a : List ℕ) → 1 ≤ k → has_bytes (take k (x ∷ a)) ≡ true
-take-some zero x a h = absurd (omega arith)
-take-some (suc k) x a h = refl
+take-some k x a h = grind (arith, nat_tests)
 
 pub elements-some : (n : ℕ) (a : List ℕ) → list_all has_bytes (elements_from n a) ≡ true
 elements-some zero [] = refl
 elements-some (suc n) [] = refl
 elements-some (suc n) (x ∷ a) = elements-some n a
-elements-some zero (x ∷ a) =
-    and_from (has_bytes (take (longest is_element (x ∷ a)) (x ∷ a))) (list_all has_bytes (elements_from (longest is_element (x ∷ a) - 1) a))
-    (take-some (longest is_element (x ∷ a)) x a (longest-one x a)) (elements-some (longest is_element (x ∷ a) - 1) a)
+elements-some zero (x ∷ a) = search (rules, and_from, take-some, longest-one, elements-some (longest is_element (x ∷ a) - 1) a)
 
 elements-fill : (p : Place) (a : List ℕ) → length (concat (elements a)) ≡ length (places p a)
 elements-fill p a = ap length (elements-all 0 (spliced a)) ∙ sym (places-length p a)
@@ -65,10 +62,7 @@ with_places-both (p ∷ ps) qs [] fs some same = absurd (omega arith)
 with_places-both ps qs ([] ∷ es) fs some same = absurd (false≢true some)
 with_places-both [] qs ((b ∷ e) ∷ es) fs some same = absurd (omega arith)
 with_places-both (p ∷ ps) qs ((b ∷ e) ∷ es) fs some same =
-    let within : length e + length (concat es) ≡ length ps = omega (arith, same, length-append e (concat es)) in
-    ap (λ more. record { text = b ∷ e; place = p } ∷ with_places more (es ++ fs)) (drop-append-le (length e) ps qs (omega arith))
-    ∙ ap (λ more. record { text = b ∷ e; place = p } ∷ more)
-    (with_places-both (drop (length e) ps) qs es fs some (omega (arith, within, length-drop (length e) ps)))
+    grind (arith, length-append e (concat es), drop-append-le (length e) ps qs, with_places-both (drop (length e) ps) qs es fs some, length-drop (length e) ps)
 
 -- a line feed after a whole text
 
@@ -84,10 +78,7 @@ feed-first rest =
 pub feed-elements : (l rest : List ℕ) → is_whole l ≡ true → keep_lines l (line_feed ∷ []) ≡ true →
     elements (l ++ line_feed ∷ rest) ≡ elements l ++ (line_feed ∷ []) ∷ elements rest
 feed-elements l rest whole kept =
-    ap (elements_from 0) (spliced-both l (line_feed ∷ rest) (keep-feed l rest kept) ∙ ap (λ t. spliced l ++ t) (spliced-other line_feed rest refl))
-    ∙ border-elements (spliced l) (line_feed ∷ spliced rest) (not-true (list_any is_unfinished (elements l)) whole) (white-next (spliced l) line_feed (spliced rest) refl)
-    ∙ ap (λ es. elements l ++ elements_from 0 es) (sym (spliced-other line_feed rest refl))
-    ∙ ap (λ es. elements l ++ es) (feed-first rest)
+    search (rules, spliced-both, keep-feed, spliced-other, border-elements, not-true, white-next, feed-first)
 
 feed-places : (p : Place) (rest : List ℕ) → places p (line_feed ∷ rest) ≡ p ∷ places (next_place p line_feed) rest
 feed-places p [] = refl
@@ -143,10 +134,8 @@ tokens-placed-by Q ps [] some within all = tt
 tokens-placed-by Q ps ([] ∷ es) some within all = absurd (false≢true some)
 tokens-placed-by Q [] ((b ∷ e) ∷ es) some within all = absurd (omega arith)
 tokens-placed-by Q (p ∷ ps) ((b ∷ e) ∷ es) some within all =
-    let rest = tokens-placed-by Q (drop (length e) ps) es some
-    (omega (arith, within, length-append e (concat es), length-drop (length e) ps))
-    (recursion_from_All Q _ (All-drop Q (length e) ps (All-from_recursion Q ps all.1))) in
-    search rules
+    let rest = tokens-placed-by Q (drop (length e) ps) es some (omega (arith, within, length-append e (concat es), length-drop (length e) ps))
+    (recursion_from_All Q _ (All-drop Q (length e) ps (All-from_recursion Q ps all.1))) in search rules
 
 -- what holds of the place of each byte of a text holds of that of each token
 pub tokens-placed : (Q : Place → Type 0) (p : Place) (l : List ℕ) → AllByRecursion Q (places p l) →
@@ -159,8 +148,7 @@ tokens-placed Q p l all =
 pub places-more : (Q : Place → Type 0) (p : Place) (l : List ℕ) (b : ℕ) → AllByRecursion Q (places p l) → Q (place_after p l) →
     AllByRecursion Q (places p (l ++ b ∷ []))
 places-more Q p [] b all next = (next, tt)
-places-more Q p (x ∷ []) b all next =
-    search rules
+places-more Q p (x ∷ []) b all next = search rules
 places-more Q p (x ∷ y ∷ l) b all next =
     search (rules, places-more Q (next_place (next_place p x) y) l b, places-more Q (next_place p x) (y ∷ l) b)
 

@@ -15,8 +15,8 @@ use Rattle.c_tokens.specs.Grammar.{has_prefix, is_punctuator, is_token, is_comme
 use Rattle.c_tokens.specs.Grammar.{is_white_character, is_other_character}
 use Rattle.c_tokens.specs.Reading.{spliced, longest, elements_from, tokens}
 use Rattle.c_tokens.specs.Touching.{is_separator, is_operator, is_plain}
-use Rattle.c_tokens.specs.Borders.{is_unfinished, is_whole, last_element, last_byte, is_plain_byte, are_never_in_one}
-use Rattle.c_tokens.specs.Borders.{is_at_operator, number_goes_on, is_border_of_bytes, is_border, have_border, keep_lines, are_apart, has_bytes, are_all_apart}
+use Rattle.c_tokens.specs.Borders.{is_unfinished, last_element, last_byte, is_plain_byte, are_never_in_one}
+use Rattle.c_tokens.specs.Borders.{is_at_operator, number_goes_on, is_border_of_bytes, is_border, have_border, are_apart, has_bytes, are_all_apart}
 use Rattle.c_tokens.proofs.ReadingLemmas.{NoLonger, elements-front, elements-append}
 use Rattle.c_tokens.proofs.GrammarLemmas.{identifier-bytes, number-parts, number-from, number-bytes, number-first, punctuator-is}
 use Rattle.c_tokens.proofs.GrammarLemmas.{begins_prefix, IsLiteral, literal-word, ends-once}
@@ -80,8 +80,7 @@ hexadecimal-front : (n : ℕ) (a : List ℕ) (c : ℕ) (q : List ℕ) → Stops 
     begins_hexadecimal n a ≡ true
 hexadecimal-front zero a c q stops h = refl
 hexadecimal-front (suc n) [] c q stops h = grind (arith, nat_tests)
-hexadecimal-front (suc n) (b ∷ a) c q stops h =
-    grind (arith, nat_tests, hexadecimal-front n a c q, stops-rest b a c)
+hexadecimal-front (suc n) (b ∷ a) c q stops h = grind (arith, nat_tests, hexadecimal-front n a c q, stops-rest b a c)
 
 universal-front : (a : List ℕ) (c : ℕ) (q : List ℕ) → Stops a c → begins_universal_name (a ++ c ∷ q) ≡ true →
     begins_universal_name a ≡ true
@@ -126,23 +125,12 @@ weaker false false s t f h = h
 -- no apostrophe at the end of the first text separates, since what follows is an operator
 apostrophe-last : (x c : ℕ) (next : Bool) → is_at_operator x c ≡ true → (not (x == apostrophe) || is_word_byte c && next) ≡ true →
     not (x == apostrophe) ≡ true
-apostrophe-last x c next at h =
-    elim (or_cases (not (x == apostrophe)) (is_word_byte c && next) h) [
-      | inl other ↦ other
-      | inr word ↦ grind (arith, nat_tests, operator-not is_word_byte refl c, (and_parts (is_word_byte c) next word).0)
-    ]
+apostrophe-last x c next at h = grind (arith, nat_tests, operator-not is_word_byte refl c)
 
 apostrophes-front : (x : ℕ) (a : List ℕ) (c : ℕ) (q : List ℕ) → is_at_operator (last_byte x a) c ≡ true →
     apostrophes_separate (x ∷ a ++ c ∷ q) ≡ true → apostrophes_separate (x ∷ a) ≡ true
-apostrophes-front x [] c q at h =
-    apostrophe-last x c (not (begins_with_sign q)) at
-    (and_parts (not (x == apostrophe) || is_word_byte c && not (begins_with_sign q)) (apostrophes_separate (c ∷ q)) h).0
-apostrophes-front x (y ∷ a) c q at h =
-    let next = not (begins_with_sign (a ++ c ∷ q)) in
-    let parts = and_parts (not (x == apostrophe) || is_word_byte y && next) (apostrophes_separate (y ∷ a ++ c ∷ q)) h in
-    and_from (not (x == apostrophe) || is_word_byte y && not (begins_with_sign a)) (apostrophes_separate (y ∷ a))
-    (weaker (not (x == apostrophe)) (is_word_byte y) next (not (begins_with_sign a)) (no-sign-front a (c ∷ q)) parts.0)
-    (apostrophes-front y a c q at parts.1)
+apostrophes-front x [] c q at h = grind (arith, nat_tests, apostrophe-last x c (not (begins_with_sign q)) at)
+apostrophes-front x (y ∷ a) c q at h = search (rules, and_parts, and_from, weaker, no-sign-front, apostrophes-front y a c q at)
 
 number-front : (x : ℕ) (a : List ℕ) (c : ℕ) (q : List ℕ) → is_at_operator (last_byte x a) c ≡ true →
     is_number (x ∷ a ++ c ∷ q) ≡ true → is_number (x ∷ a) ≡ true
@@ -156,9 +144,8 @@ number-front x a c q at h =
 
 signs-at : (x : ℕ) (a : List ℕ) (c : ℕ) (q : List ℕ) → signs_follow_exponents (x ∷ a ++ c ∷ q) ≡ true →
     (is_exponent (last_byte x a) || not (is_sign c)) ≡ true
-signs-at x [] c q h = (and_parts (is_exponent x || not (is_sign c)) (signs_follow_exponents (c ∷ q)) h).0
-signs-at x (y ∷ a) c q h =
-    grind (arith, nat_tests, signs-at y a c q)
+signs-at x [] c q h = grind (arith, nat_tests)
+signs-at x (y ∷ a) c q h = grind (arith, nat_tests, signs-at y a c q)
 
 operator-sign : (o : ℕ) → is_operator o ≡ true → is_number_byte o ≡ true → is_sign o ≡ true
 operator-sign o operator number = grind (arith, nat_tests)
@@ -206,15 +193,9 @@ punctuator-border x a c q h border =
     elim (or_cases (are_never_in_one d c) (is_at_operator d c) border) [
       | inl never ↦ elim (or_cases (is_white d || is_white c || is_separator d || is_separator c) (c == slash && not (d == slash)) never) [
         | inl gap ↦ none-fails is_in_punctuator x a c q (punctuator-inside x a c q h) (gap-fails is_in_punctuator refl refl d c gap)
-        | inr slashes ↦
-            grind (arith, nat_tests, all-last, punctuator-is has_no_later_slash refl (x ∷ a ++ c ∷ q) h)
+        | inr slashes ↦ grind (arith, nat_tests, all-last, punctuator-is has_no_later_slash refl (x ∷ a ++ c ∷ q) h)
       ]
-      | inr at ↦ elim (or_cases (is_operator d && is_plain_byte c) (is_plain_byte d && is_operator c) at) [
-        | inl first ↦ search (rules, all-last, and_parts)
-        | inr second ↦ both_ways (is_plain_byte d)
-            (search (rules, not-true, all-last-byte, all-front))
-            (and_parts (is_plain_byte d) (is_operator c) second).0
-      ]
+      | inr at ↦ none-fails (λ b. not (is_plain_byte b)) x a c q none (search (rules, or_cases, and_parts))
     ]
 
 -- quoted texts
@@ -235,25 +216,14 @@ abbrev IsInPrefix : List ℕ → ℕ → Type 0
 IsInPrefix a c = (list_all is_word_byte a ≡ true) × (is_plain_byte c ≡ true)
 
 literal-parts : (a : List ℕ) (c : ℕ) (q : List ℕ) → IsLiteral (a ++ c ∷ q) → IsOpened a c q ⊎ IsInPrefix a c
-literal-parts a c q l =
-    elim (go l.prefix a l.word l.has) [
-      | inr inside ↦ inr inside
-      | inl opened ↦ grind (arith, nat_tests)
-    ]
+literal-parts a c q l = elim (go l.prefix a l.word l.has) [ inr inside ↦ inr inside | inl opened ↦ grind (arith, nat_tests) ]
   where
     go : (prefix a : List ℕ) → list_all is_word_byte prefix ≡ true → has_prefix prefix (is_quoted l.quote) (a ++ c ∷ q) ≡ true →
         ((rest : List ℕ) × (a ≡ prefix ++ l.quote ∷ rest) × (ends_quoted l.quote (rest ++ c ∷ q) ≡ true)) ⊎ IsInPrefix a c
     go [] [] word has = grind (arith, nat_tests)
     go [] (x ∷ a) word has = grind (arith, nat_tests)
     go (p ∷ ps) [] word has = grind (arith, nat_tests)
-    go (p ∷ ps) (x ∷ a) word has =
-        let parts = and_parts (x == p) (has_prefix ps (is_quoted l.quote) (a ++ c ∷ q)) has in
-        let words = and_parts (is_word_byte p) (list_all is_word_byte ps) word in
-        let same = eqb-true x p parts.0 in
-        elim (go ps a words.1 parts.1) [
-          | inl opened ↦ inl (opened.0, ap (λ k. k ∷ a) same ∙ ap (λ t. p ∷ t) opened.1, opened.2)
-          | inr inside ↦ inr (and_from (is_word_byte x) (list_all is_word_byte a) (ap is_word_byte same ∙ words.0) inside.0, inside.1)
-        ]
+    go (p ∷ ps) (x ∷ a) word has = search (rules, and_parts, and_from, eqb-true, go ps a)
 
 quote-byte : (Q : ℕ) → is_quote Q ≡ true → is_word_byte Q ≡ false
 quote-byte Q h = quote-not is_word_byte refl refl Q h
@@ -320,31 +290,28 @@ pub number-token : (t : List ℕ) → is_number t ≡ true → is_token t ≡ tr
 unfolding is_token
 number-token t h = grind (arith, nat_tests)
 
--- the bytes at a border or at an operator are not both of words and quotes
-both-plain : (d c : ℕ) → is_word_byte d ≡ true → is_plain_byte c ≡ true →
-    (are_never_in_one d c || is_at_operator d c) ≡ true → ⊥
+-- the bytes at a border or at an operator are not both of words and quotes, nor both of identifiers
+
+met-fails : (test : ℕ → Bool) → FailsAtBorders test → list_all (λ b. not (test b)) (codes "!#%&*+-/:<=>?^|") ≡ true → (d c : ℕ) →
+    (are_never_in_one d c || is_at_operator d c) ≡ true → OneFails test d c
+met-fails test f none d c met = search (rules, or_cases, never-fails, operator-fails)
+
+both-plain : (d c : ℕ) → is_word_byte d ≡ true → is_plain_byte c ≡ true → (are_never_in_one d c || is_at_operator d c) ≡ true → ⊥
 both-plain d c word plain met =
-    elim (or_cases (are_never_in_one d c) (is_at_operator d c) met) [
-      | inl never ↦ plain-fails (never-fails is_plain_byte (record { white = refl; separators = refl; slash = refl }) d c never)
-      | inr at ↦ plain-fails (operator-fails is_plain_byte refl d c at)
-    ]
-  where
-    plain-fails : OneFails is_plain_byte d c → ⊥
-    plain-fails fails = grind (arith, nat_tests)
+    grind (arith, nat_tests, met-fails is_plain_byte (record { white = refl; separators = refl; slash = refl }) refl d c met)
 
 identifier-fails : (d c : ℕ) → (are_never_in_one d c || is_at_operator d c) ≡ true → OneFails is_identifier_byte d c
-identifier-fails d c met =
-    elim (or_cases (are_never_in_one d c) (is_at_operator d c) met) [
-      | inl never ↦ never-fails is_identifier_byte (record { white = refl; separators = refl; slash = refl }) d c never
-      | inr at ↦ operator-fails is_identifier_byte refl d c at
-    ]
+identifier-fails d c met = met-fails is_identifier_byte (record { white = refl; separators = refl; slash = refl }) refl d c met
 
 border-met : (after_number : Bool) (d c : ℕ) → is_border_of_bytes after_number d c ≡ true → (are_never_in_one d c || is_at_operator d c) ≡ true
 border-met after_number d c h =
-    elim (or_cases (are_never_in_one d c) (not (after_number && number_goes_on d c) && is_at_operator d c) h) [
-      | inl never ↦ or_left (are_never_in_one d c) (is_at_operator d c) never
-      | inr at ↦ search (rules, and_parts)
-    ]
+    grind (
+      arith,
+      or_left (are_never_in_one d c) (is_at_operator d c),
+      or_cases (are_never_in_one d c) (not (after_number && number_goes_on d c) && is_at_operator d c) h,
+      and_parts (not (after_number && number_goes_on d c)) (is_at_operator d c),
+      or_right (are_never_in_one d c) (is_at_operator d c),
+    )
 
 -- no comment goes on after a whole text of two bytes or more
 comment-ended : (x y : ℕ) (a : List ℕ) (c : ℕ) (q : List ℕ) → list_any is_unfinished (elements_from 0 (x ∷ y ∷ a)) ≡ false →
@@ -389,8 +356,7 @@ bytes-longer : (before : List ℕ) (x : ℕ) (a : List ℕ) (c : ℕ) (q : List 
 bytes-longer before x a c q whole border =
     let met = border-met (is_number (last_element before (elements_from 0 (x ∷ a)))) (last_byte x a) c border in
     false_from_ne_true (is_element (x ∷ a ++ c ∷ q)) λ is.
-    element-cases (x ∷ a ++ c ∷ q) (two-white x a c q) (two-other x a c q) is
-    (comment-border x a c q whole met)
+    element-cases (x ∷ a ++ c ∷ q) (two-white x a c q) (two-other x a c q) is (comment-border x a c q whole met)
     (λ identifier. none-fails is_identifier_byte x a c q (identifier-bytes (x ∷ a ++ c ∷ q) identifier) (identifier-fails (last_byte x a) c met))
     (number-border before x a c q border)
     (literal-border x a c q whole (λ word plain. both-plain (last_byte x a) c word plain met))
@@ -410,8 +376,7 @@ comment-longer before x (y ∷ a) c q whole comment last =
     let same = eqb-true (last_byte y a) slash last in
     let t = x ∷ y ∷ a ++ c ∷ q in
     false_from_ne_true (is_element t) λ is.
-    element-cases t (two-white x (y ∷ a) c q) (two-other x (y ∷ a) c q) is
-    (comment-ended x y a c q whole)
+    element-cases t (two-white x (y ∷ a) c q) (two-other x (y ∷ a) c q) is (comment-ended x y a c q whole)
     (λ identifier. none-fails is_identifier_byte x (y ∷ a) c q (identifier-bytes t identifier) (inl (ap is_identifier_byte same)))
     (λ number. none-fails is_number_byte x (y ∷ a) c q (number-bytes t number) (inl (ap is_number_byte same)))
     (literal-border x (y ∷ a) c q whole (λ word plain. both_ways (is_word_byte (last_byte y a)) (ap is_word_byte same) word))
@@ -447,19 +412,13 @@ border-next : (c x : ℕ) (a : List ℕ) → Borders c 0 (x ∷ a) → Borders c
 border-next c x a b = record {
   before = take (longest is_element (x ∷ a)) (x ∷ a);
   whole = search (rules, or_parts);
-  border = go a b.border;
+  border = search rules;
 }
-  where
-    go : (a : List ℕ) → IsAtBorder c b.before 0 (x ∷ a) →
-        IsAtBorder c (take (longest is_element (x ∷ a)) (x ∷ a)) (longest is_element (x ∷ a) - 1) a
-    go [] border = tt
-    go (y ∷ a) border = border
 
 pub border-elements : (a b : List ℕ) → list_any is_unfinished (elements_from 0 a) ≡ false → have_border a b ≡ true →
     elements_from 0 (a ++ b) ≡ elements_from 0 a ++ elements_from 0 b
 border-elements [] b whole border = refl
-border-elements (x ∷ a) [] whole border =
-    search rules
+border-elements (x ∷ a) [] whole border = search rules
 border-elements (x ∷ a) (c ∷ r) whole border =
     elements-append c r (Borders c) (border-passed c) (border-next c)
     (λ x a b q rest same. border-longer b.before x a c q b.whole b.border)
@@ -478,15 +437,8 @@ have_border-more a b more some border = search rules
 pub row-tokens : (a : List ℕ) (rest : List (List ℕ)) → are_all_apart (a ∷ rest) ≡ true →
     (spliced (a ++ concat rest) ≡ spliced a ++ spliced (concat rest))
     × (tokens (a ++ concat rest) ≡ tokens a ++ flat_map tokens rest)
-row-tokens a [] apart =
-    search rules
-row-tokens a (b ∷ rest) apart =
-    let parts = and_parts (are_apart a b && has_bytes (spliced b)) (are_all_apart (b ∷ rest)) apart in
-    let first = and_parts (are_apart a b) (has_bytes (spliced b)) parts.0 in
-    let outer = and_parts (is_whole a && keep_lines a b) (have_border (spliced a) (spliced b)) first.0 in
-    let inner = and_parts (is_whole a) (keep_lines a b) outer.0 in
-    let later = row-tokens b rest parts.1 in
-    search (rules, have_border-more, spliced-both, apart-tokens)
+row-tokens a [] apart = search rules
+row-tokens a (b ∷ rest) apart = search (rules, and_parts, have_border-more, spliced-both, apart-tokens, row-tokens b rest)
 
 pub all-tokens : (texts : List (List ℕ)) → are_all_apart texts ≡ true → tokens (concat texts) ≡ flat_map tokens texts
 all-tokens [] apart = refl

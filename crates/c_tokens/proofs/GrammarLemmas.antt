@@ -2,23 +2,20 @@
 use Rattle.std.proofs.Common.{rules}
 use Rattle.std.proofs.Common.{arith}
 use Rattle.std.proofs.Common.{◌≡◌, ℕ, Bool, true, false, List, [], ◌∷◌, ◌++◌, codes}
-use Rattle.std.proofs.Common.{inl, inr, refl, ap, ◌∙◌}
+use Rattle.std.proofs.Common.{refl, ap, ◌∙◌}
 use Rattle.std.specs.Prelude.{◌&&◌, ◌||◌, not, ◌==◌, if◌then◌else◌}
 use Rattle.std.specs.List.{list_any, list_all}
 use Rattle.std.specs.Str.{bytes_eq}
-use Rattle.std.proofs.lemmas.Bool.{and_parts, or_cases, and_right, false≢true}
+use Rattle.std.proofs.lemmas.Bool.{and_parts, or_cases, false≢true}
 use Rattle.std.proofs.lemmas.Bool.{eqb-true}
 use Rattle.std.proofs.lemmas.Slice.Eq.{bytes_eq-Decides}
-use Rattle.c_tokens.specs.Bytes.{line_feed, backslash, full_stop, double_quote, apostrophe, is_digit, is_word_byte, is_quote}
+use Rattle.c_tokens.specs.Bytes.{backslash, full_stop, double_quote, apostrophe, is_digit, is_word_byte, is_quote}
 use Rattle.c_tokens.specs.Grammar.{is_identifier_byte, is_identifier, begins_number, is_number_byte, is_number}
 use Rattle.c_tokens.specs.Grammar.{signs_follow_exponents, apostrophes_separate, has_universal_names}
 use Rattle.c_tokens.specs.Grammar.{ends_quoted, is_quoted, is_character}
 use Rattle.c_tokens.specs.Grammar.{is_string, has_prefix, is_character_constant, is_string_literal, punctuators}
 use Rattle.c_tokens.specs.Grammar.{is_punctuator}
 use Rattle.std.proofs.lemmas.Bool.Decides.{nat_tests}
-
-second : (x y z : Bool) → (x && y && z) ≡ true → y ≡ true
-second x y z h = (and_parts x y (and_parts (x && y) z h).0).1
 
 -- what a test says of each byte of a list, it says of a byte in it
 pub listed : (test : ℕ → Bool) (bs : List ℕ) → list_all test bs ≡ true → (b : ℕ) → list_any (λ c. b == c) bs ≡ true →
@@ -54,8 +51,7 @@ number-first b bs h = grind (arith, nat_tests)
 one-of : (test : List ℕ → Bool) (t : List ℕ) (ps : List (List ℕ)) → list_all test ps ≡ true →
     list_any (bytes_eq t) ps ≡ true → test t ≡ true
 one-of test t [] all any = absurd (false≢true any)
-one-of test t (p ∷ ps) all any =
-    grind (arith, nat_tests, bytes_eq-Decides t p, one-of test t ps)
+one-of test t (p ∷ ps) all any = grind (arith, nat_tests, bytes_eq-Decides t p, one-of test t ps)
 
 pub punctuator-is : (test : List ℕ → Bool) → list_all test punctuators ≡ true → (t : List ℕ) → is_punctuator t ≡ true →
     test t ≡ true
@@ -85,8 +81,7 @@ has_prefix-weaker : (f g : List ℕ → Bool) → ((t : List ℕ) → f t ≡ tr
     has_prefix prefix f t ≡ true → has_prefix prefix g t ≡ true
 has_prefix-weaker f g weaker [] t h = weaker t h
 has_prefix-weaker f g weaker (p ∷ ps) [] h = h
-has_prefix-weaker f g weaker (p ∷ ps) (b ∷ bs) h =
-    grind (arith, nat_tests, has_prefix-weaker f g weaker ps bs)
+has_prefix-weaker f g weaker (p ∷ ps) (b ∷ bs) h = grind (arith, nat_tests, has_prefix-weaker f g weaker ps bs)
 
 character-quoted : (t : List ℕ) → is_character t ≡ true → is_quoted apostrophe t ≡ true
 character-quoted t h = (and_parts (is_quoted apostrophe t) (not (bytes_eq t (codes "''"))) h).0
@@ -96,17 +91,10 @@ literal : (quote : ℕ) (test : List ℕ → Bool) → is_quote quote ≡ true �
     (prefixes : List (List ℕ)) → list_all (λ p. list_all is_word_byte p && begins_prefix p) prefixes ≡ true → (t : List ℕ) →
     list_any (λ p. has_prefix p test t) prefixes ≡ true → IsLiteral t
 literal quote test is quoted [] all t any = absurd (false≢true any)
-literal quote test is quoted (p ∷ ps) all t any =
-    let parts = and_parts (list_all is_word_byte p && begins_prefix p) (list_all (λ p. list_all is_word_byte p && begins_prefix p) ps) all in
-    let of_p = and_parts (list_all is_word_byte p) (begins_prefix p) parts.0 in
-    elim (or_cases (has_prefix p test t) (list_any (λ p. has_prefix p test t) ps) any) [
-      | inl here ↦ search (rules, has_prefix-weaker)
-      | inr later ↦ literal quote test is quoted ps parts.1 t later
-    ]
+literal quote test is quoted (p ∷ ps) all t any = search (rules, or_cases, and_parts, has_prefix-weaker, literal quote test is quoted ps)
 
 pub literal-from_character : (t : List ℕ) → is_character_constant t ≡ true → IsLiteral t
-literal-from_character t h =
-    literal apostrophe is_character refl character-quoted ([] ∷ codes "u8" ∷ codes "u" ∷ codes "U" ∷ codes "L" ∷ []) refl t h
+literal-from_character t h = literal apostrophe is_character refl character-quoted ([] ∷ codes "u8" ∷ codes "u" ∷ codes "U" ∷ codes "L" ∷ []) refl t h
 
 pub literal-from_string : (t : List ℕ) → is_string_literal t ≡ true → IsLiteral t
 literal-from_string t h =
@@ -117,29 +105,20 @@ literal-first b bs l = grind (arith, nat_tests)
 
 -- the last byte is the closing quote
 
-branch : {P : Type 0} (x escaped f other g : Bool) → (if x then escaped && f else other && g) ≡ true →
-    (f ≡ true → P) → (g ≡ true → P) → P
-branch true escaped f other g h of_f of_g = of_f (and_parts escaped f h).1
-branch false escaped f other g h of_f of_g = of_g (and_parts other g h).1
-
 ends-last : (quote : ℕ) (a : List ℕ) (s : ℕ) → ends_quoted quote (a ++ s ∷ []) ≡ true → s ≡ quote
 ends-last quote [] s h = eqb-true s quote h
 ends-last quote (b ∷ []) s h = grind (arith, nat_tests)
-ends-last quote (b ∷ c ∷ a) s h =
-    branch (b == backslash) (not (c == line_feed)) (ends_quoted quote (a ++ s ∷ []))
-    (not (b == quote || b == line_feed)) (ends_quoted quote (c ∷ a ++ s ∷ [])) h
-    (ends-last quote a s) (ends-last quote (c ∷ a) s)
+ends-last quote (b ∷ c ∷ a) s h = grind (arith, nat_tests, ends-last quote a s, ends-last quote (c ∷ a) s)
 
 pub literal-last : (a : List ℕ) (s : ℕ) → IsLiteral (a ++ s ∷ []) → is_quote s ≡ true
 literal-last a s l = go l.prefix a l.has
   where
     go : (prefix a : List ℕ) → has_prefix prefix (is_quoted l.quote) (a ++ s ∷ []) ≡ true → is_quote s ≡ true
-    go [] [] has = absurd (false≢true (and_parts (s == l.quote) false has).1)
-    go [] (b ∷ a) has =
-        ap is_quote (ends-last l.quote a s (and_parts (b == l.quote) (ends_quoted l.quote (a ++ s ∷ [])) has).1) ∙ l.quotes
-    go (p ∷ []) [] has = absurd (false≢true (and_parts (s == p) false has).1)
-    go (p ∷ q ∷ ps) [] has = absurd (false≢true (and_parts (s == p) false has).1)
-    go (p ∷ ps) (b ∷ a) has = go ps a (and_parts (b == p) (has_prefix ps (is_quoted l.quote) (a ++ s ∷ [])) has).1
+    go [] [] has = grind (arith, nat_tests)
+    go [] (b ∷ a) has = search (rules, ends-last, and_parts, l.quotes)
+    go (p ∷ []) [] has = grind (arith, nat_tests)
+    go (p ∷ q ∷ ps) [] has = grind (arith, nat_tests)
+    go (p ∷ ps) (b ∷ a) has = search (rules, and_parts, go ps a)
 
 -- after the word bytes at the front stand a quote and what it encloses
 pub literal-word : (a : List ℕ) (b : ℕ) (bs : List ℕ) → list_all is_word_byte a ≡ true → is_word_byte b ≡ false →
@@ -154,22 +133,11 @@ literal-word a b bs word other l = go l.prefix a l.word word l.has
         (ap is_quote same ∙ l.quotes, ap (λ k. ends_quoted k bs) same ∙ parts.1)
     go [] (x ∷ a) words word has = grind (arith, nat_tests)
     go (p ∷ ps) [] words word has = grind (arith, nat_tests)
-    go (p ∷ ps) (x ∷ a) words word has =
-        go ps a (and_parts (is_word_byte p) (list_all is_word_byte ps) words).1
-        (and_parts (is_word_byte x) (list_all is_word_byte a) word).1
-        (and_parts (x == p) (has_prefix ps (is_quoted l.quote) (a ++ b ∷ bs)) has).1
-
-same-branch : (x escaped f f' other g g' : Bool) → (if x then escaped && f else other && g) ≡ true →
-    (f ≡ true → f' ≡ false) → (g ≡ true → g' ≡ false) → (if x then escaped && f' else other && g') ≡ false
-same-branch true escaped f f' other g g' h of_f of_g = and_right escaped f' (of_f (and_parts escaped f h).1)
-same-branch false escaped f f' other g g' h of_f of_g = and_right other g' (of_g (and_parts other g h).1)
+    go (p ∷ ps) (x ∷ a) words word has = search (rules, and_parts, go ps a)
 
 -- a quoted text ends at its first closing quote
 pub ends-once : (quote : ℕ) (a : List ℕ) (c : ℕ) (q : List ℕ) → (quote == backslash) ≡ false → ends_quoted quote a ≡ true →
     ends_quoted quote (a ++ c ∷ q) ≡ false
 ends-once quote [] c q other h = absurd (false≢true h)
 ends-once quote (b ∷ []) c q other h = grind (arith, nat_tests)
-ends-once quote (b ∷ d ∷ a) c q other h =
-    same-branch (b == backslash) (not (d == line_feed)) (ends_quoted quote a) (ends_quoted quote (a ++ c ∷ q))
-    (not (b == quote || b == line_feed)) (ends_quoted quote (d ∷ a)) (ends_quoted quote (d ∷ a ++ c ∷ q)) h
-    (ends-once quote a c q other) (ends-once quote (d ∷ a) c q other)
+ends-once quote (b ∷ d ∷ a) c q other h = grind (arith, nat_tests, ends-once quote a c q other, ends-once quote (d ∷ a) c q other)

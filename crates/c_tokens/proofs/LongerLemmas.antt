@@ -2,14 +2,14 @@
 use Rattle.std.proofs.Common.{rules}
 use Rattle.std.proofs.Common.{arith}
 use Rattle.std.proofs.Common.{◌≡◌, ℕ, Bool, true, false, List, [], ◌∷◌, ◌++◌, codes}
-use Rattle.std.proofs.Common.{inl, inr, refl, ap, ◌∙◌}
+use Rattle.std.proofs.Common.{refl, ap, ◌∙◌}
 use Rattle.std.specs.Prelude.{◌||◌, not, ◌==◌}
 use Rattle.std.specs.List.{list_all}
 use Rattle.std.proofs.lemmas.Bool.{and_parts, or_cases, or_left, or_right, both_ways}
 use Rattle.std.proofs.lemmas.Bool.{eqb-true, not-true, false_from_ne_true}
 use Rattle.c_tokens.specs.Bytes.{space, slash, asterisk, backslash, double_quote, apostrophe, line_feed, is_digit, is_word_byte, is_quote}
 use Rattle.c_tokens.specs.Grammar.{is_identifier_byte, is_identifier, is_number_byte, is_number, is_quoted, ends_quoted}
-use Rattle.c_tokens.specs.Grammar.{is_character_constant, is_string_literal, is_punctuator, is_other_character, is_token}
+use Rattle.c_tokens.specs.Grammar.{is_punctuator, is_other_character, is_token}
 use Rattle.c_tokens.specs.Grammar.{ends_once, is_comment, is_white_character, is_element, has_prefix}
 use Rattle.c_tokens.specs.Borders.{is_plain_byte}
 use Rattle.c_tokens.specs.Touching.{is_separator, is_operator, is_plain_word}
@@ -24,23 +24,7 @@ pub element-cases : {P : Type 0} (t : List ℕ) → is_white_character t ≡ fal
     (IsLiteral t → P) → (is_punctuator t ≡ true → P) → P
 unfolding is_element is_token
 element-cases t white other h comment identifier number literal punctuator =
-    elim (or_cases (is_white_character t || is_comment t) (is_token t) h) [
-      | inl gap ↦ grind (arith, nat_tests)
-      | inr token ↦ elim (or_cases (is_identifier t || is_number t || is_character_constant t || is_string_literal t || is_punctuator t)
-          (is_other_character t) token) [
-            | inr is ↦ absurd (both_ways (is_other_character t) other is)
-            | inl four ↦ elim (or_cases (is_identifier t || is_number t || is_character_constant t || is_string_literal t) (is_punctuator t) four) [
-              | inr is ↦ punctuator is
-              | inl three ↦ elim (or_cases (is_identifier t || is_number t || is_character_constant t) (is_string_literal t) three) [
-                | inr is ↦ literal (literal-from_string t is)
-                | inl two ↦ elim (or_cases (is_identifier t || is_number t) (is_character_constant t) two) [
-                  | inr is ↦ literal (literal-from_character t is)
-                  | inl one ↦ elim (or_cases (is_identifier t) (is_number t) one) [ inl is ↦ identifier is | inr is ↦ number is ]
-                ]
-              ]
-            ]
-          ]
-    ]
+    search (rules, or_cases, both_ways, literal-from_character, literal-from_string)
 
 pub all-last : (test : ℕ → Bool) (a : List ℕ) (b : ℕ) (q : List ℕ) → list_all test (a ++ b ∷ q) ≡ true → test b ≡ true
 all-last test [] b q h = (and_parts (test b) (list_all test q) h).0
@@ -84,14 +68,11 @@ two-other x (y ∷ a) b q = refl
 
 -- a separator, and more after it
 pub separator-longer : (s c : ℕ) (q : List ℕ) → is_separator s ≡ true → is_element (s ∷ c ∷ q) ≡ false
-separator-longer s c q h = false_from_ne_true (is_element (s ∷ c ∷ q)) λ is.
-    element-cases (s ∷ c ∷ q) refl refl is
+separator-longer s c q h = false_from_ne_true (is_element (s ∷ c ∷ q)) λ is. element-cases (s ∷ c ∷ q) refl refl is
     (λ comment. both_ways (s == slash) (separator-not (λ b. b == slash) refl s h) (comment-first s (c ∷ q) comment))
-    (search rules)
-    (grind (arith, nat_tests))
+    (search rules) (grind (arith, nat_tests))
     (λ literal. both_ways (is_quote s || is_prefix_byte s) (separator-not (λ b. is_quote b || is_prefix_byte b) refl s h)
-    (literal-first s (c ∷ q) literal))
-    (grind (arith, nat_tests, long-punctuator s c q))
+    (literal-first s (c ∷ q) literal)) (grind (arith, nat_tests, long-punctuator s c q))
 
 -- a separator after more: only a comment takes it
 
@@ -102,8 +83,7 @@ long-punctuator-last x (y ∷ a) s h = grind (arith, nat_tests, all-last, long-p
 pub separator-last : (x : ℕ) (a : List ℕ) (s : ℕ) → is_separator s ≡ true → is_element (x ∷ a ++ s ∷ []) ≡ true →
     is_comment (x ∷ a ++ s ∷ []) ≡ true
 separator-last x a s h is =
-    element-cases (x ∷ a ++ s ∷ []) (two-white x a s []) (two-other x a s []) is
-    (λ comment. comment)
+    element-cases (x ∷ a ++ s ∷ []) (two-white x a s []) (two-other x a s []) is (λ comment. comment)
     (λ identifier. absurd (both_ways (is_identifier_byte s) (separator-not is_identifier_byte refl s h)
     (all-last is_identifier_byte (x ∷ a) s [] (identifier-bytes (x ∷ a ++ s ∷ []) identifier))))
     (λ number. absurd (both_ways (is_number_byte s) (separator-not is_number_byte refl s h)
@@ -175,16 +155,13 @@ pub quoted-longer : (x : ℕ) (a : List ℕ) (c : ℕ) (q : List ℕ) → is_quo
 quoted-longer x a c q quote ends = false_from_ne_true (is_element (x ∷ a ++ c ∷ q)) λ is.
     element-cases (x ∷ a ++ c ∷ q) (two-white x a c q) (two-other x a c q) is
     (λ comment. both_ways (x == slash) (quote-not (λ b. b == slash) refl refl x quote) (comment-first x (a ++ c ∷ q) comment))
-    (search rules)
-    (search rules)
-    (quoted-literal x a c q quote ends)
+    (search rules) (search rules) (quoted-literal x a c q quote ends)
     (λ punctuator. search (rules, punctuator-bytes, or_right))
 
 -- an operator, and a word byte or a quote after it
 pub operator-longer : (o p : ℕ) (q : List ℕ) → is_operator o ≡ true → is_plain_byte p ≡ true → is_element (o ∷ p ∷ q) ≡ false
 operator-longer o p q h plain = false_from_ne_true (is_element (o ∷ p ∷ q)) λ is.
-    element-cases (o ∷ p ∷ q) refl refl is
-    (search (rules, comment-second))
+    element-cases (o ∷ p ∷ q) refl refl is (search (rules, comment-second))
     (λ identifier. both_ways (is_identifier_byte o) (operator-not is_identifier_byte refl o h)
     (all-last is_identifier_byte [] o (p ∷ q) (identifier-bytes (o ∷ p ∷ q) identifier)))
     (λ number. grind (arith, nat_tests))

@@ -14,11 +14,7 @@ pub longest-most : (test : List ℕ → Bool) (b : List ℕ) (n : ℕ) → n ≤
 longest-most test b zero within h = omega arith
 longest-most test [] (suc n) within h = absurd (omega arith)
 longest-most test (x ∷ b) (suc zero) within h = grind (arith, nat_tests)
-longest-most test (x ∷ b) (suc (suc n)) within h =
-    more (longest (λ t. test (x ∷ t)) b) (longest-most (λ t. test (x ∷ t)) b (suc n) (omega arith) h)
-  where
-    more : (m : ℕ) → suc n ≤ m → suc (suc n) ≤ counted test x m
-    more m h = search rules
+longest-most test (x ∷ b) (suc (suc n)) within h = grind (arith, nat_tests, longest-most (λ t. test (x ∷ t)) b (suc n))
 
 longest-passes : (test : List ℕ → Bool) (b : List ℕ) → 0 < longest test b → test (take (longest test b) b) ≡ true
 longest-passes test [] h = absurd (omega arith)

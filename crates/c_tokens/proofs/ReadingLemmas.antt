@@ -1,6 +1,6 @@
 -- The longest front that passes a test, and the elements of two texts that are written together.
 use Rattle.std.proofs.Common.{rules}
-use Rattle.std.proofs.Common.{◌≡◌, ℕ, ◌+◌, ◌-◌, ◌<◌, ◌≤◌, zero, suc, Bool, true, false, List, [], ◌∷◌, ◌++◌, length, take}
+use Rattle.std.proofs.Common.{◌≡◌, ℕ, ◌+◌, ◌-◌, ◌<◌, ◌≤◌, zero, suc, Bool, true, false, List, [], ◌∷◌, ◌++◌, length}
 use Rattle.std.proofs.Common.{refl, ap, subst, ◌∙◌, get_or, arith}
 use Rattle.std.specs.Prelude.{nat_lt, if◌then◌else◌}
 use Rattle.std.proofs.lemmas.Bool.{lt-ltb}
@@ -44,21 +44,13 @@ longest-append : (test : List ℕ → Bool) (a : List ℕ) (c : ℕ) (r : List �
 longest-append test [] c r none = grind (arith, nat_tests, longest-none test (c ∷ r))
 longest-append test (x ∷ a) c r none = ap (counted test x) (longest-append (λ t. test (x ∷ t)) a c r none)
 
-counted-within : (test : List ℕ → Bool) (x n m : ℕ) → n ≤ m → counted test x n ≤ suc m
-counted-within test x n m h = grind arith
-
 longest-within : (test : List ℕ → Bool) (a : List ℕ) → longest test a ≤ length a
 longest-within test [] = omega arith
-longest-within test (x ∷ a) =
-    counted-within test x (longest (λ t. test (x ∷ t)) a) (length a) (longest-within (λ t. test (x ∷ t)) a)
+longest-within test (x ∷ a) = grind (arith, nat_tests, longest-within (λ t. test (x ∷ t)) a)
 
 elements-passed : (a b : List ℕ) → elements_from (length a) (a ++ b) ≡ elements_from 0 b
 elements-passed [] b = refl
 elements-passed (x ∷ a) b = elements-passed a b
-
--- the elements of a text whose first one has `n` bytes; `rest`: the text without its first byte
-abbrev cut : List ℕ → List ℕ → ℕ → List (List ℕ)
-cut text rest n = take n text ∷ elements_from (n - 1) rest
 
 -- an element with which no longer one begins is the first element
 pub elements-front : (x : ℕ) (a b : List ℕ) → is_element (x ∷ a) ≡ true → NoLonger is_element (x ∷ a) b →
@@ -78,8 +70,11 @@ module _ (c : ℕ) (r : List ℕ) (Good : ℕ → List ℕ → Type 0)
     elements-append (suc n) [] within good = absurd (omega arith)
     elements-append (suc n) (x ∷ a) within good = elements-append n a (omega arith) (passed n x a good)
     elements-append zero (x ∷ a) within good =
-        let k = longest is_element (x ∷ a) in
-        let fits : k ≤ length (x ∷ a) = longest-within is_element (x ∷ a) in
-        ap (cut (x ∷ a ++ c ∷ r) (a ++ c ∷ r)) (longest-append is_element (x ∷ a) c r (stays x a good))
-        ∙ ap (λ t. t ∷ elements_from (k - 1) (a ++ c ∷ r)) (take-append-le k (x ∷ a) (c ∷ r) fits)
-        ∙ ap (λ es. take k (x ∷ a) ∷ es) (elements-append (k - 1) a (omega arith) (next x a good))
+        grind (
+          arith,
+          longest-append is_element (x ∷ a) c r (stays x a good),
+          take-append-le (longest is_element (x ∷ a)) (x ∷ a) (c ∷ r) (longest-within is_element (x ∷ a)),
+          longest-within is_element (x ∷ a),
+          elements-append (longest is_element (x ∷ a) - 1) a,
+          next x a good,
+        )

@@ -13,7 +13,7 @@ use Rattle.c_tokens.specs.Grammar.{is_identifier_byte, is_identifier, has_univer
 use Rattle.c_tokens.specs.Grammar.{is_quoted, ends_quoted, is_character, is_string}
 use Rattle.c_tokens.specs.Grammar.{is_token, is_comment}
 use Rattle.c_tokens.specs.Grammar.{is_white_character, is_element}
-use Rattle.c_tokens.specs.Reading.{spliced, longest, elements_from, elements, tokens, ends_in_comment}
+use Rattle.c_tokens.specs.Reading.{spliced, elements_from, elements, tokens, ends_in_comment}
 use Rattle.c_tokens.specs.Touching.{TextKind, is_separator, is_operator, is_one, is_plain_word, is_plain, IsOfKind}
 use Rattle.c_tokens.specs.Borders.{is_plain_byte, last_byte, keep_lines}
 use Rattle.c_tokens.specs.Touching.{kinds_may_touch}
@@ -99,12 +99,9 @@ one-element b a h =
 elements-separator : (a : List ℕ) (s : ℕ) → is_separator s ≡ true → list_any is_open (elements_from 0 a) ≡ false →
     elements_from 0 (a ++ s ∷ []) ≡ elements_from 0 a ++ elements_from 0 (s ∷ [])
 elements-separator a s h closed =
-    elements-append s [] (λ n a. list_any is_open (elements_from n a) ≡ false) (λ n x a good. good) next stays 0 a (omega arith) closed
+    elements-append s [] (λ n a. list_any is_open (elements_from n a) ≡ false) (λ n x a good. good)
+    (λ x a good. grind (arith, nat_tests)) stays 0 a (omega arith) closed
   where
-    next : (x : ℕ) (a : List ℕ) → list_any is_open (elements_from 0 (x ∷ a)) ≡ false →
-        list_any is_open (elements_from (longest is_element (x ∷ a) - 1) a) ≡ false
-    next x a good = grind (arith, nat_tests)
-
     alone : (x : ℕ) (a : List ℕ) → list_any is_open (elements_from 0 (x ∷ a)) ≡ false → is_comment (x ∷ a ++ s ∷ []) ≡ true → ⊥
     alone x [] closed comment = grind (arith, nat_tests)
     alone x (y ∷ a) closed comment =
@@ -128,8 +125,7 @@ plain-elements a o r h operator = search (rules, elements-front, plain-element, 
 
 plain-closed : (a : List ℕ) → is_plain a ≡ true → list_any is_open (elements_from 0 a) ≡ false
 plain-closed [] h = refl
-plain-closed (b ∷ a) h =
-    grind (arith, nat_tests, one-element, plain-element)
+plain-closed (b ∷ a) h = grind (arith, nat_tests, one-element, plain-element)
 
 -- backslashes before line feeds
 
@@ -137,8 +133,7 @@ spliced-bytes : (x : ℕ) (a : List ℕ) (c : ℕ) (r : List ℕ) → not (last_
     spliced (x ∷ a ++ c ∷ r) ≡ spliced (x ∷ a) ++ spliced (c ∷ r)
 spliced-bytes x [] c r kept = rw (not-true (x == backslash && c == line_feed) kept) refl
 spliced-bytes x (d ∷ []) c r kept = grind (arith, nat_tests)
-spliced-bytes x (d ∷ e ∷ a) c r kept =
-    grind (arith, nat_tests, spliced-bytes e a c r kept)
+spliced-bytes x (d ∷ e ∷ a) c r kept = grind (arith, nat_tests, spliced-bytes e a c r kept)
 
 pub spliced-both : (a b : List ℕ) → keep_lines a b ≡ true → spliced (a ++ b) ≡ spliced a ++ spliced b
 spliced-both a b kept = search (rules, spliced-bytes)
@@ -162,9 +157,6 @@ operator-plain a b h plain = search (rules, operator-elements, single-element)
 plain-operator : (a b : List ℕ) → is_plain (spliced a) ≡ true → is_one is_operator b ≡ true →
     elements (a ++ b) ≡ elements a ++ elements b
 plain-operator a b plain h = search (rules, spliced-append, plain-elements)
-
-one-closed : (test : ℕ → Bool) (a : List ℕ) → is_one test a ≡ true → ends_in_comment a ≡ false
-one-closed test a h = search rules
 
 touching-elements : (k g : TextKind) (a b : List ℕ) → IsOfKind k a → IsOfKind g b → kinds_may_touch k g ≡ true →
     elements (a ++ b) ≡ elements a ++ elements b

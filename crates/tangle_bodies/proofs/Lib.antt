@@ -8,6 +8,5 @@ pub mod AddingPieces
 pub mod TagLemmas
 pub mod CountLemmas
 pub mod HeldLemmas
-pub mod LeftLemmas
 pub mod FlatLemmas
 pub mod LongerLemmas

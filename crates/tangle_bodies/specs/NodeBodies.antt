@@ -12,7 +12,7 @@ use Rattle.tangle_scan.specs.declared.texts.ItemTag.{ItemTag}
 use Rattle.tangle_scan.specs.UnfoldedTags.{unfolded_tags}
 use Rattle.tangle_bodies.specs.declared.nodes.NodeBody.{NodeBody}
 
--- a body without its name, as it is in memory: a run has one tag
+-- a body without its name, as it is in memory, where one tag may stand for several items
 pub record ItemsRead : Type 0 where
   pub tags : List ItemTag
   pub bytes : List ℕ
@@ -54,7 +54,7 @@ pub record AreItemsOf (texts : List (List ℕ)) (table : TableRead)
   pub bytes : items.bytes ≡ shape_bytes (shape_of texts table pieces)
   pub uses : items.uses ≡ pieces_uses table pieces
 
--- the same items, whatever runs they are in, with uses of the same names, where the one table has
+-- the same items, whatever tags stand for them, with uses of the same names, where the one table has
 -- these names and the other table those
 pub record HaveOneShape (names other_names : List (List ℕ))
     (items others : ItemsRead) : Type 0 where

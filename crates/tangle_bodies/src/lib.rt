@@ -9,8 +9,6 @@ mod counting;
 mod laws;
 mod nodes;
 mod shapes;
-mod tags;
-mod tags_left;
 
 pub use body_builder::BodyBuilder;
 pub use laws::{names_resolve_inside, tags_settle_the_shape};

@@ -5,9 +5,8 @@ ghost use Rattle.tangle_bodies.specs.NodeBodies.{HaveOneShape, body_tags, body_b
 ghost use Rattle.tangle_bodies.specs.NodeBodies.{body_uses, names_at};
 
 use crate::nodes::NodeBody;
-use crate::tags::same_tags;
-use crate::tags_left::TagsLeft;
 use tangle_names::Names;
+use tangle_scan::have_same_items;
 
 /// Whether the names with these numbers in one table are, one by one, those with the other numbers
 /// in the other table.
@@ -28,36 +27,14 @@ fn use_same_names(names: &Names, uses: &[usize], other_names: &Names, other_uses
     true
 }
 
-/// Whether the tags that remain are the same on both sides.
-fn same_tags_left(mut left: TagsLeft, mut other: TagsLeft) -> bool
-    ensures { (result ≡ true) ↔ (left.entry ≡ other.entry) }
-{
-    while let Some(tag) = left.next() {
-        if !other.pass_tag(tag) {
-            return false;
-        }
-    }
-    other.next().is_none()
-}
-
-/// Whether the items of two bodies have the same kinds and the same bytes. Where the same items are
-/// in other runs, the tags differ, and the items are compared one by one.
+/// Whether the items of two bodies have the same kinds and the same bytes.
 pub(crate) fn same_items(body: &NodeBody, other: &NodeBody) -> bool
     ensures some { result ≡ true → (body_tags body.now ≡ body_tags other.now)
         × (body_bytes body.now ≡ body_bytes other.now) }
     ensures none { result ≡ false → body_tags body.now ≡ body_tags other.now → body_bytes body.now
         ≡ body_bytes other.now → ⊥ }
 {
-    if body.bytes != other.bytes {
-        return false;
-    }
-    if same_tags(&body.tags, &other.tags) {
-        return true;
-    }
-    same_tags_left(
-        TagsLeft::new(&body.tags, &body.bytes),
-        TagsLeft::new(&other.tags, &other.bytes),
-    )
+    body.bytes == other.bytes && have_same_items(&body.tags, &other.tags, &body.bytes)
 }
 
 impl NodeBody {

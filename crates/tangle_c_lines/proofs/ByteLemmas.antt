@@ -2,11 +2,11 @@
 use Rattle.std.proofs.Common.{rules}
 use Rattle.std.proofs.Common.{arith}
 use Rattle.std.proofs.Common.{◌≡◌, ℕ, ◌+◌, ◌≤◌, zero, suc, Bool, true, false, List, [], ◌∷◌, ◌++◌, map, take, drop, get_or}
-use Rattle.std.proofs.Common.{Option, None, Some, ◌⊎◌, inl, refl, sym, ap, subst, ◌∙◌, append_assoc, drop-drop, le_refl}
+use Rattle.std.proofs.Common.{Option, None, Some, ◌⊎◌, inl, refl, sym, ap, subst, ◌∙◌, append_assoc, drop-drop, le_refl, add-zero}
 use Rattle.std.specs.Prelude.{◌==◌, ◌&&◌, ◌||◌, if◌then◌else◌}
 use Rattle.std.specs.List.{AllByRecursion}
 use Rattle.std.proofs.lemmas.Bool.{and_parts, false≢true}
-use Rattle.std.proofs.lemmas.List.{get_or-drop}
+use Rattle.std.proofs.lemmas.List.{get_or-drop, drop-take}
 use Rattle.c_tokens.specs.Bytes.{line_feed}
 use Rattle.c_tokens.specs.Borders.{is_whole, keep_lines}
 use Rattle.c_lines.specs.Counting.{Place, LineCount, PresumedLine, TokenRead}
@@ -18,7 +18,7 @@ use Rattle.c_lines.proofs.JoinedLemmas.{IsOneLine, one-more}
 use Rattle.tangle_lines.specs.declared.origin.Origin.{Origin}
 use Rattle.tangle_scan.specs.LineTruth.{with_line_end}
 use Rattle.tangle_scan.specs.Directives.{Border, SameRegion, GroupBegins, GroupTurns, ForEachChoice}
-use Rattle.tangle_expansion.specs.Location.{ByteClass, OfItem, LineFeed, Other, IsOwnOrigin, border_of}
+use Rattle.tangle_expansion.specs.Location.{ByteClass, IsOwnOrigin, border_of}
 use Rattle.tangle_c_lines.specs.CountedLines.{no_class, class_of_byte, is_of_item, later_border, last_border, is_between_regions, IsSeen, IsCountedAtItsLine}
 
 -- lists
@@ -33,9 +33,7 @@ all-map P f (x ∷ xs) h = (h.0, all-map P f xs h.1)
 
 -- the element of a list at a place
 pub at-drop : {X : Type 0} (d : X) (xs : List X) (n : ℕ) (x : X) (rest : List X) → drop n xs ≡ x ∷ rest → get_or xs n d ≡ x
-at-drop d xs n x rest e =
-    let same : n ≡ n + 0 = omega arith in
-    ap (λ n. get_or xs n d) same ∙ sym (get_or-drop n xs 0 d) ∙ ap (λ l. get_or l 0 d) e
+at-drop d xs n x rest e = grind (arith, get_or-drop n xs 0 d, e)
 
 pub rest-drop : {X : Type 0} (xs : List X) (n : ℕ) (x : X) (rest : List X) → drop n xs ≡ x ∷ rest → drop (n + 1) xs ≡ rest
 rest-drop xs n x rest e = sym (drop-drop 1 n xs) ∙ ap (drop 1) e
@@ -51,10 +49,7 @@ take-one (y ∷ xs) zero (suc n) x rest le e = ap (λ l. y ∷ l) (take-one xs z
 take-one (y ∷ xs) (suc i) (suc n) x rest le e = take-one xs i n x rest (omega (arith, le)) e
 
 none-taken : {X : Type 0} (xs : List X) (n : ℕ) → drop n (take n xs) ≡ []
-none-taken [] zero = refl
-none-taken [] (suc n) = refl
-none-taken (x ∷ xs) zero = refl
-none-taken (x ∷ xs) (suc n) = none-taken xs n
+none-taken xs n = subst (λ k. drop n (take k xs) ≡ []) (add-zero n) (drop-take n 0 xs)
 
 -- borders
 
@@ -62,8 +57,7 @@ later-assoc : (a b c : Border) → later_border a (later_border b c) ≡ later_b
 later-assoc a b c = search rules
 
 last-one : (classes : List ByteClass) (k : ByteClass) → last_border (classes ++ k ∷ []) ≡ later_border (last_border classes) (border_of k)
-last-one [] k =
-    search rules
+last-one [] k = search rules
 last-one (c ∷ classes) k = ap (later_border (border_of c)) (last-one classes k) ∙ later-assoc (border_of c) (last_border classes) (border_of k)
 
 -- the region that is read before a border may be read after it
@@ -84,12 +78,7 @@ later-choice b GroupTurns read T h = same-choice b read (λ now. ForEachChoice G
 pub region-chosen : (border : Border) (read choice b t : Bool) (T : Bool → Type 0)
     → (b ≡ true → is_between_regions border ≡ true) → (t ≡ true → border ≡ GroupTurns)
     → ForEachChoice border read T → T (if b then read && choice else if t then choice else read)
-region-chosen SameRegion read choice true t T begins turns h = absurd (false≢true (begins refl))
-region-chosen GroupBegins read choice true t T begins turns h = h (read && choice) (λ is. (and_parts read choice is).0)
-region-chosen GroupTurns read choice true t T begins turns h = h (read && choice)
-region-chosen border read choice false true T begins turns h =
-    (subst (λ b. ForEachChoice b read T) (turns refl) h) choice
-region-chosen border read choice false false T begins turns h = same-choice border read T h
+region-chosen border read choice b t T begins turns h = search (rules, false≢true, and_parts, same-choice)
 
 -- places
 
@@ -164,10 +153,7 @@ module _ (names : List (List ℕ)) (all : List ByteClass) (text : List ℕ) wher
 
   pub own-here : (read : Bool) (count : LineCount) (row : ℕ) (origin : Option Origin) (k : ByteClass)
       → IsOwnOrigin read origin k → IsCountedAs count row origin → read ≡ true → IsCountedAtItsLine names k (counted count row)
-  own-here read count row origin (OfItem own false) is counts now = subst (IsCountedAs count row) (is now refl) counts
-  own-here read count row origin (OfItem own true) is counts now = tt
-  own-here read count row origin (LineFeed border) is counts now = tt
-  own-here read count row origin (Other border) is counts now = tt
+  own-here read count row origin k is counts now = search rules
 
   later-last : (x before k : Border) → (x ≡ SameRegion) ⊎ (x ≡ before)
       → (later_border x k ≡ SameRegion) ⊎ (later_border x k ≡ later_border before k)
@@ -184,15 +170,11 @@ module _ (names : List (List ℕ)) (all : List ByteClass) (text : List ℕ) wher
 
   pub counts-feed : (count : LineCount) (row : ℕ) (origin : Option Origin) → count.row ≤ row → IsCountedAs count row origin
       → IsCountedAs count (row + 1) (with_line_end origin)
-  counts-feed count row None le h = tt
-  counts-feed count row (Some o) le h =
-      ap (λ (n : ℕ). record { file = count.origin.file; line = n }) (omega (arith, le))
-      ∙ ap (λ (p : PresumedLine). record { file = p.file; line = p.line + 1 }) h
+  counts-feed count row origin le h = grind (arith, le, h)
 
   pub counts-more : (count : LineCount) (here : Place) (c : ℕ) (origin : Option Origin) → count.row ≤ here.row
       → IsCountedAs count here.row origin → IsCountedAs count (next_place here c).row (after_byte c origin)
-  counts-more count here c origin le h =
-      search (rules, counts-feed)
+  counts-more count here c origin le h = search (rules, counts-feed)
 
   plain-more : (start : Place) (line : List ℕ) (c : ℕ) (rest : List ℕ) (k : ByteClass) (ks : List ByteClass) (origin : Option Origin)
       → drop (place_after start line).at text ≡ c ∷ rest → drop (place_after start line).at all ≡ k ∷ ks

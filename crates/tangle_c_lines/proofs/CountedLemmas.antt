@@ -66,7 +66,7 @@ module _ (pieces : AreWrittenByPieces) (source : SourceRead) (clear : SourceHasN
         symbols-read web (table_of web) clear.names (mark-low source low) macros_keep all text
         (symbols_of node) (classes_in node) true None
         (node-fits source levels node (web-line-truth source) clear.lines)
-        (subst (AreKept true) (append-nil (symbols_of node)) (node-kept source levels node (ready refl).1 [] tt))
+        (subst (AreKept true) (append-nil (symbols_of node)) (node-kept source clear.lines levels node (ready refl).1 [] tt))
 
     property : (has_piece : Bool) (node : Title) → Property has_piece node true
     property false node = tt
@@ -94,8 +94,7 @@ module _ (pieces : AreWrittenByPieces) (source : SourceRead) (clear : SourceHasN
         classes_are = refl;
         bytes_are = refl;
         line_is = refl;
-      })
-      (property all text has_piece node)
+      }) (property all text has_piece node)
     where
       all : List ByteClass
       all = classes_of_file source has_macros has_piece node

@@ -11,7 +11,6 @@ use Rattle.c_tokens.specs.Bytes.{line_feed, is_digit}
 use Rattle.tangle_lines.specs.Reading.{SourceLine, SourceRead}
 use Rattle.tangle_text.specs.Text.{span_text}
 use Rattle.tangle_text.specs.declared.spans.Span.{Span}
-use Rattle.tangle_scan.specs.ItemBytes.{bytes_in}
 use Rattle.tangle_scan.specs.declared.items.Item.{Item}
 use Rattle.tangle_scan.specs.declared.items.Item.TheVariants as item
 use Rattle.tangle_scan.specs.Rules.{texts_of}
@@ -19,7 +18,6 @@ use Rattle.tangle_scan.specs.Directives.{Border, SameRegion, border_after, after
 use Rattle.tangle_scan.specs.LineTruth.{Location, piece_locations, PiecesAreAtTheirLines}
 use Rattle.tangle_scan.specs.Web.{WebRead, PieceRead, web_of}
 use Rattle.tangle_names.specs.declared.Resolved.{Resolved}
-use Rattle.tangle_names.specs.declared.Resolved.TheVariants.{Name}
 use Rattle.tangle_names.specs.NameTable.{table_of}
 use Rattle.tangle_bodies.specs.Shapes.{Title, Named, ShapeItem}
 use Rattle.tangle_bodies.specs.Flat.{Symbol, Byte, items_flat, pieces_flat, flat}
@@ -33,8 +31,7 @@ use Rattle.tangle_c_lines.proofs.SymbolLemmas.{FitsClass}
 zip-both : {X Y : Type 0} (R : X → Y → Type 0) (xs zs : List X) (ys ws : List Y) → AllZip R xs ys → AllZip R zs ws → AllZip R (xs ++ zs) (ys ++ ws)
 zip-both R [] zs [] ws h k = k
 zip-both R [] zs (y ∷ ys) ws h k = absurd h
-zip-both R (x ∷ xs) zs [] ws h k = absurd h
-zip-both R (x ∷ xs) zs (y ∷ ys) ws h k = (h.0, zip-both R xs zs ys ws h.1 k)
+zip-both R (x ∷ xs) zs ys ws h k = search (rules, zip-both R xs zs)
 
 -- texts without line feeds
 
@@ -55,8 +52,7 @@ module _ (web : WebRead) (lines : List SourceLine) (same : web.texts ≡ texts_o
   bytes-fit : (bytes : List ℕ) (ss : List Location) (ys : List Symbol) (ds : List ByteClass) → TextHasNoLineFeed bytes
       → AllZip FitsClass ys ds → AllZip FitsClass (map Byte bytes ++ ys) (map (λ b. class_at lines ss) bytes ++ ds)
   bytes-fit [] ss ys ds none h = h
-  bytes-fit (b ∷ bytes) ss ys ds none h =
-      (fits-class b ss (grind (arith, nat_tests)), bytes-fit bytes ss ys ds (grind (arith, nat_tests)) h)
+  bytes-fit (b ∷ bytes) ss ys ds none h = grind (arith, nat_tests, fits-class b ss, bytes-fit bytes ss ys ds)
 
   span-fits : (s : Span) → TextHasNoLineFeed (span_text web.texts s)
   span-fits s = subst (λ (texts : List (List ℕ)). TextHasNoLineFeed (span_text texts s)) (sym same) (span-none lines s clear)
@@ -65,27 +61,27 @@ module _ (web : WebRead) (lines : List SourceLine) (same : web.texts ≡ texts_o
       → AllZip FitsClass (items_flat used node piece marks items) ds
       → AllZip FitsClass (items_flat used node piece marks (use_of (table_of web) r ∷ items))
       (Other border ∷ resolved_classes (table_of web) used_classes r ++ ds)
-  resolved-fit node piece marks items ds border (Name id) h = (refl, zip-both FitsClass _ _ _ _ (all _) h)
-  resolved-fit node piece marks items ds border _ h = (refl, h)
+  resolved-fit node piece marks items ds border r h = search (rules, zip-both)
 
   items-fit : (node : Title) (piece marks : ℕ) (line items : List Item) (ss : List Location)
       → AllZip FitsClass (items_flat used node piece marks (map (shape_item web.texts (table_of web)) items))
       (items_classes (table_of web) used_classes web.texts lines line ss items)
   items-fit node piece marks line [] ss = (tt, tt)
-  items-fit node piece marks line (item.QuoteBreak ∷ items) ss =
-      (refl, items-fit node piece marks (line ++ item.QuoteBreak ∷ []) items ss)
-  items-fit node piece marks line (item.LineEnd ∷ items) ss =
-      (refl, items-fit node piece marks (after_line_end (texts_of lines) line) items ss)
-  items-fit node piece marks line (item.Blank ∷ items) ss =
-      (refl, items-fit node piece marks (line ++ item.Blank ∷ []) items ss)
-  items-fit node piece marks line (item.LineMark origin ∷ items) ss = (tt, items-fit node piece (marks + 1) [] items ss)
   items-fit node piece marks line (item.UseOf occurrence ∷ items) ss =
       resolved-fit node piece marks (map (shape_item web.texts (table_of web)) items) _ (border_after (texts_of lines) line) (resolved_at (table_of web) occurrence)
       (items-fit node piece marks [] items ss)
-  items-fit node piece marks line (item.AllMacros ∷ items) ss = (tt, items-fit node piece marks [] items ss)
   items-fit node piece marks line (x ∷ items) ss =
-      bytes-fit (bytes_in web.texts x) ss _ _ (search (rules, span-fits, digits-none, decimal-digits))
-      (items-fit node piece marks (line ++ x ∷ []) items (drop 1 ss))
+      search (
+        rules,
+        bytes-fit,
+        span-fits,
+        digits-none,
+        decimal-digits,
+        items-fit node piece marks (line ++ x ∷ []) items,
+        items-fit node piece (marks + 1) [] items ss,
+        items-fit node piece marks [] items ss,
+        items-fit node piece marks (after_line_end (texts_of lines) line) items ss,
+      )
 
   abbrev of_node : Title → List PieceRead → List PieceRead
   of_node node pieces = filter (is_piece_of (table_of web) node) pieces

@@ -4,16 +4,14 @@ use Rattle.std.proofs.lemmas.Bool.Decides.{nat_tests}
 use Rattle.std.proofs.Common.{arith}
 use Rattle.std.proofs.Common.{◌≡◌, ℕ, ◌+◌, ◌≤◌, Bool, true, false, List, [], ◌∷◌, ◌++◌, take, drop, get_or}
 use Rattle.std.proofs.Common.{Option, None, Some, refl, sym, ap, subst, ◌∙◌, append-nil}
-use Rattle.std.specs.Prelude.{◌&&◌, ◌||◌, if◌then◌else◌, slice_index_or, codes}
-use Rattle.std.specs.List.{AllByRecursion, list_all}
-use Rattle.std.specs.Str.{bytes_eq}
+use Rattle.std.specs.Prelude.{◌&&◌, ◌||◌, if◌then◌else◌, slice_index_or}
+use Rattle.std.specs.List.{AllByRecursion}
 use Rattle.std.proofs.lemmas.Bool.{false≢true}
-use Rattle.c_tokens.specs.Bytes.{line_feed, is_digit}
-use Rattle.c_tokens.specs.Grammar.{is_string}
+use Rattle.c_tokens.specs.Bytes.{line_feed}
 use Rattle.c_tokens.specs.Borders.{is_whole, keep_lines}
 use Rattle.c_lines.specs.Counting.{Place, PlacedElement, LineOfTokens, LineCount, TokenRead}
 use Rattle.c_lines.specs.Counting.{next_place, place_after, places, tokens_at, lines_from, directive, begins_directive, begins_group, turns_group}
-use Rattle.c_lines.specs.Counting.{count_after, counts_from, unescaped, read_of, reads, region_after}
+use Rattle.c_lines.specs.Counting.{count_after, read_of, reads, region_after}
 use Rattle.c_lines.specs.JoinedLines.{joined_lines}
 use Rattle.c_lines.proofs.LineLemmas.{line-first, line-last}
 use Rattle.c_lines.proofs.LineLemmas.{tokens-placed}
@@ -32,19 +30,7 @@ same-count : (count : LineCount) (end : Place) (words : List (List ℕ)) → set
 same-count count end words none = search rules
 
 row-after : (count : LineCount) (end : Place) (words : List (List ℕ)) → count.row ≤ end.row → (count_after count (Some end) words).row ≤ end.row + 1
-row-after count end [] le = omega (arith, le)
-row-after count end (word ∷ []) le = omega (arith, le)
-row-after count end (word ∷ digits ∷ []) le = by (bytes_eq word (codes "line") && list_all is_digit digits)
-  where
-    by : (b : Bool) → (if b then counts_from (end.row + 1) count.origin.file digits else count).row ≤ end.row + 1
-    by true = omega arith
-    by false = omega (arith, le)
-row-after count end (word ∷ digits ∷ name ∷ []) le = by (bytes_eq word (codes "line") && list_all is_digit digits && is_string name)
-  where
-    by : (b : Bool) → (if b then counts_from (end.row + 1) (unescaped (drop 1 name)) digits else count).row ≤ end.row + 1
-    by true = omega arith
-    by false = omega (arith, le)
-row-after count end (word ∷ digits ∷ name ∷ w ∷ words) le = omega (arith, le)
+row-after count end words le = search rules
 
 module _ (names : List (List ℕ)) (all : List ByteClass) (text : List ℕ) where
   abbrev Owns : TokenRead → Type 0
@@ -64,8 +50,7 @@ module _ (names : List (List ℕ)) (all : List ByteClass) (text : List ℕ) wher
       → is_between_regions (last_border (drop (place_of_first es).at (take n all))) ≡ true
       → last_border (drop (place_of_first es).at (take n all)) ≡ border
   border-is border n test [] none before is between = absurd (false≢true (sym none ∙ is))
-  border-is border n test (e ∷ es) none before is between =
-      grind (arith, before.0.last)
+  border-is border n test (e ∷ es) none before is between = grind (arith, before.0.last)
 
   plain-none : (origin : Option Origin) → ArePlain names all text origin []
   plain-none origin = search rules
@@ -75,8 +60,7 @@ module _ (names : List (List ℕ)) (all : List ByteClass) (text : List ℕ) wher
   pub ends : (start : Place) (line : List ℕ) (read : Bool) (count : LineCount) (choices : List Bool) (border : Border)
       (origin : Option Origin) (rest : List ℕ) (k : ByteClass) (ks : List ByteClass) (T : Bool → Type 0) (next : Option Origin)
       → Stands names all text start line read count border origin (line_feed ∷ rest) (k ∷ ks)
-      → keep_lines line (line_feed ∷ []) ≡ true
-      → ForEachChoice (later_border border (border_of k)) read T
+      → keep_lines line (line_feed ∷ []) ≡ true → ForEachChoice (later_border border (border_of k)) read T
       → let here : Place = place_after start line in
       let words : List (List ℕ) = directive (tokens_at start line) in
       let counts : LineCount = if read then count_after count (Some here) words else count in
@@ -143,8 +127,7 @@ module _ (names : List (List ℕ)) (all : List ByteClass) (text : List ℕ) wher
       turns is = sym (border-is after (here.at + 1) turns_group found.tokens refl before is (ap is_between_regions (seen.0.turns is))) ∙ seen.0.turns is
 
   directive-is : (es : List PlacedElement) → sets_line (directive es) ≡ true → begins_directive es ≡ true
-  directive-is es is =
-      grind (arith, nat_tests)
+  directive-is es is = grind (arith, nat_tests)
 
   -- the first line of C
   first-seen : (start : Place) (line : List ℕ) (read : Bool) (count : LineCount) (border : Border)
@@ -163,8 +146,7 @@ module _ (names : List (List ℕ)) (all : List ByteClass) (text : List ℕ) wher
       (o : Origin) (rest : List ℕ) (ks : List ByteClass)
       → Stands names all text start line read count border (Some o) (line_feed ∷ rest) ks → keep_lines line (line_feed ∷ []) ≡ true
       → sets_line (directive (tokens_at start line)) ≡ false
-  no-line start line read count border o rest ks s kept =
-      by (sets_line (directive (tokens_at start line))) refl
+  no-line start line read count border o rest ks s kept = by (sets_line (directive (tokens_at start line))) refl
     where
       found : List PlacedElement
       found = tokens_at start line

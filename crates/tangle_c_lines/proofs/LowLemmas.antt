@@ -43,8 +43,7 @@ module _ (lines : List SourceLine) (low : SourceLinesAreLow lines) where
 
   needed-low : (line : List Item) (counted : Origin) (items : List Item) → AreLow items → AreLow (with_needed_marks (texts_of lines) line counted items)
   needed-low line counted [] h = tt
-  needed-low line counted (item.LineEnd ∷ item.LineMark p ∷ items) h =
-      search (rules, needed-low [] p items)
+  needed-low line counted (item.LineEnd ∷ item.LineMark p ∷ items) h = search (rules, needed-low [] p items)
   needed-low line counted (item.LineEnd ∷ []) h = tt
   needed-low line counted (item.LineEnd ∷ x ∷ items) h = needed-low (line ++ item.LineEnd ∷ []) (next_line counted) (x ∷ items) h
   needed-low line counted (item.QuoteBreak ∷ items) h = needed-low (line ++ item.QuoteBreak ∷ []) (next_line counted) items h
@@ -62,16 +61,14 @@ IsLowPiece p = IsLow p.origin × AllByRecursion IsLow (flat_map item_origins p.i
 
 pieces-low : (lines : List SourceLine) → SourceLinesAreLow lines → (bs : List Block) → AllByRecursion IsLowPiece (flat_map (piece_of lines) bs)
 pieces-low lines low [] = tt
-pieces-low lines low (b ∷ bs) =
-    search (rules, pieces-low lines low bs, origin-low, part-low)
+pieces-low lines low (b ∷ bs) = search (rules, pieces-low lines low bs, origin-low, part-low)
 
 abbrev AreLowNumbers : List PieceNumbersRead → Type 0
 AreLowNumbers ns = AllByRecursion (λ n. AllByRecursion IsLow n.origins) ns
 
 numbers-low : (test : PieceRead → Bool) (pieces : List PieceRead) → AllByRecursion IsLowPiece pieces → AreLowNumbers (map numbers_of_piece (filter test pieces))
 numbers-low test [] low = tt
-numbers-low test (p ∷ pieces) low =
-    search (rules, numbers-low test pieces)
+numbers-low test (p ∷ pieces) low = search (rules, numbers-low test pieces)
 
 -- the origin of each mark is low
 pub mark-low : (source : SourceRead) → SourceLinesAreLow source.lines → (node : Title) (piece mark : ℕ)
@@ -79,7 +76,8 @@ pub mark-low : (source : SourceRead) → SourceLinesAreLow source.lines → (nod
 mark-low source low node piece mark =
     all-get IsLow (numbers_at numbers node piece).origins mark no_origin (omega arith)
     (all-get (λ (n : PieceNumbersRead). AllByRecursion IsLow n.origins) (node_numbers numbers node) piece no_numbers tt
-    (all-get AreLowNumbers numbers.rows (row_number numbers.names node) [] tt (of_program, names-low numbers.names)))
+    (all-get AreLowNumbers numbers.rows (row_number numbers.names node) [] tt
+    (numbers-low (is_piece_of table Program) web.pieces each, names-low numbers.names)))
   where
     web : WebRead
     web = web_of source
@@ -92,9 +90,6 @@ mark-low source low node piece mark =
 
     each : AllByRecursion IsLowPiece web.pieces
     each = pieces-low source.lines low (blocks 0 (all_tokens source.lines))
-
-    of_program : AreLowNumbers (map numbers_of_piece (pieces_of web table Program))
-    of_program = numbers-low (is_piece_of table Program) web.pieces each
 
     names-low : (names : List (List ℕ))
         → AllByRecursion AreLowNumbers (map (map numbers_of_piece) (map (λ name. pieces_of web table (Named name)) names))

@@ -47,8 +47,7 @@ keeps_after kept (b ∷ bs) = keeps_after (keeps b) bs
 
 rows-same : (p : Place) (l : List ℕ) → list_all (λ b. not (is_feed b)) l ≡ true → (place_after p l).row ≡ p.row
 rows-same p [] none = refl
-rows-same p (b ∷ l) none =
-    grind (arith, nat_tests, rows-same (next_place p b) l)
+rows-same p (b ∷ l) none = grind (arith, nat_tests, rows-same (next_place p b) l)
 
 module _ (names : List (List ℕ)) (all : List ByteClass) (text : List ℕ) where
   abbrev Here : Place → List ℕ → Bool → LineCount → Border → Option Origin → List ℕ → List ByteClass → Type 0
@@ -159,8 +158,7 @@ module _ (names : List (List ℕ)) (all : List ByteClass) (text : List ℕ) wher
   -- such bytes, of which the first has this class
   pub plain-read : (kept : Bool) (c : ℕ) (bs rest : List ℕ) (k : ByteClass) (ks : List ByteClass) (origin : Option Origin)
       (T : Bool → Type 0) → list_all (λ b. not (is_feed b)) (c ∷ bs) ≡ true → HasNoSign origin (c ∷ bs) → keep_lines (c ∷ bs) (line_feed ∷ []) ≡ true
-      → IsReadOn true origin rest ks T
-      → IsReadOn kept origin (c ∷ bs ++ rest) (k ∷ no_classes bs ++ ks)
+      → IsReadOn true origin rest ks T → IsReadOn kept origin (c ∷ bs ++ rest) (k ∷ no_classes bs ++ ks)
       (λ now. ForEachChoice (border_of k) now (λ after. IsOwnOrigin after origin k × T after))
   plain-read kept c bs rest k ks origin T none plain keeps-end onward start line read count choices border keeps-so s pending =
       subst (λ (bytes : List ℕ). AllByRecursion (IsOwn names all text) (reads choices read count (lines_from start bytes)))
@@ -193,8 +191,7 @@ module _ (names : List (List ℕ)) (all : List ByteClass) (text : List ℕ) wher
       → Here start [] read count SameRegion origin (line ++ line_feed ∷ rest) (no_classes line ++ no_class ∷ ks)
       → ((next : Place) (count : LineCount) (choices : List Bool)
       → Here next [] read count SameRegion (if read then Some own else with_line_end origin) rest ks
-      → Reads next [] read count choices rest)
-      → Reads start [] read count choices (line ++ line_feed ∷ rest)
+      → Reads next [] read count choices rest) → Reads start [] read count choices (line ++ line_feed ∷ rest)
   line-read digits literal rest ks own origin start read count choices all_digits some is_text in_line no_feed kept name number s onward =
       ends names all text start line read count choices SameRegion None rest no_class ks (λ now. now ≡ read)
       (if read then Some own else with_line_end origin)

@@ -62,8 +62,7 @@ module _ (text : List ℕ) where
 
 -- a directive begins with the sign # or its digraph
 sign-first : (b : ℕ) (e : List ℕ) → Begins b e → (bytes_eq e (codes "#") || bytes_eq e (codes "%:")) ≡ true → begins_sign b ≡ true
-sign-first b e first is =
-    grind (arith, nat_tests, bytes_eq-Decides e (codes "#"), bytes_eq-Decides e (codes "%:"))
+sign-first b e first is = grind (arith, nat_tests, bytes_eq-Decides e (codes "#"), bytes_eq-Decides e (codes "%:"))
 
 pub directive-sign : (text : List ℕ) (es : List PlacedElement) → AllByRecursion (IsFirst (IsAt text)) es → begins_directive es ≡ true
     → (e : PlacedElement) × (rest : List PlacedElement) × (es ≡ e ∷ rest) × (begins_sign (get_or text e.place.at 0) ≡ true)

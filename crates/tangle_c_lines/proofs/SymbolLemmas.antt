@@ -5,7 +5,7 @@ use Rattle.std.proofs.Common.{Option, None, Some, refl, sym, ap, subst, ◌∙�
 use Rattle.std.specs.Prelude.{◌==◌, not, if◌then◌else◌, codes, decimal}
 use Rattle.std.specs.List.{AllByRecursion, AllZip, list_all}
 use Rattle.std.specs.Str.Parse.{digits_value}
-use Rattle.std.proofs.lemmas.Bool.{false≢true, true≢false}
+use Rattle.std.proofs.lemmas.Bool.{true≢false}
 use Rattle.std.proofs.lemmas.Bool.Decides.{nat_tests}
 use Rattle.std.proofs.lemmas.Fmt.{decimal_is_IsNumeral}
 use Rattle.std.proofs.lemmas.List.{map-append}
@@ -36,13 +36,11 @@ use Rattle.tangle_c_lines.proofs.RunLemmas.{is_feed, HasNoSign, no_classes, keep
 -- names in quotes
 
 unescaped-other : (b : ℕ) (t : List ℕ) → has_bytes t ≡ true → (b == backslash) ≡ false → unescaped (b ∷ t) ≡ b ∷ unescaped t
-unescaped-other b [] some other = absurd (false≢true some)
-unescaped-other b (c ∷ t) some other = rw other refl
+unescaped-other b t some other = grind (arith, nat_tests)
 
 quoted-some : (name : List ℕ) → has_bytes (quoted name) ≡ true
 quoted-some [] = refl
-quoted-some (b ∷ name) =
-    search rules
+quoted-some (b ∷ name) = search rules
 
 -- the name is what is read of it
 unescaped-quoted : (name : List ℕ) → unescaped (quoted name) ≡ name
@@ -76,8 +74,7 @@ no-feed (d ∷ digits) more all h = grind (arith, nat_tests, no-feed digits more
 
 pub keeps_after-from : (kept : Bool) (t : List ℕ) → kept ≡ true → KeepsFeed t → keeps_after kept t ≡ true
 keeps_after-from kept [] is keeps = is
-keeps_after-from kept (b ∷ []) is keeps = feed-kept (b ∷ []) keeps
-keeps_after-from kept (b ∷ c ∷ t) is keeps = keeps_after-from true (c ∷ t) refl keeps
+keeps_after-from kept (b ∷ t) is keeps = search (rules, feed-kept, keeps_after-from true t)
 
 -- what symbols of these classes are
 

@@ -38,11 +38,6 @@ decimal-inside n = digits-inside (decimal n) (decimal-digits n)
 
 -- the comment as an element
 
--- a byte that is no asterisk ends no comment
-ends_once-other : (b c d : ℕ) (bs : List ℕ) → (b == asterisk) ≡ false
-    → ends_once (b ∷ c ∷ d ∷ bs) ≡ ends_once (c ∷ d ∷ bs)
-ends_once-other b c d bs other = rw other refl
-
 inside-ends : (inside more : List ℕ) → list_all is_inside inside ≡ true →
     ends_once (inside ++ asterisk ∷ slash ∷ more) ≡ ends_once (asterisk ∷ slash ∷ more)
 inside-ends [] more all = refl
@@ -50,15 +45,13 @@ inside-ends (b ∷ inside) more all =
     let other : (b == asterisk) ≡ false = search rules in
     two inside other ∙ inside-ends inside more (and_parts (is_inside b) (list_all is_inside inside) all).1
   where
-    two : (inside : List ℕ) → (b == asterisk) ≡ false →
-        ends_once (b ∷ inside ++ asterisk ∷ slash ∷ more) ≡ ends_once
+    two : (inside : List ℕ) → (b == asterisk) ≡ false → ends_once (b ∷ inside ++ asterisk ∷ slash ∷ more) ≡ ends_once
         (inside ++ asterisk ∷ slash ∷ more)
     two [] other = search rules
     two (c ∷ []) other = search rules
     two (c ∷ d ∷ inside) other = search rules
 
-comment-is : (inside : List ℕ) → list_all is_inside inside ≡ true
-    → is_comment (comment inside) ≡ true
+comment-is : (inside : List ℕ) → list_all is_inside inside ≡ true → is_comment (comment inside) ≡ true
 comment-is inside all = rw (inside-ends inside [] all) refl
 
 comment-ended : (inside : List ℕ) → list_all is_inside inside ≡ true
@@ -68,15 +61,12 @@ comment-ended inside all = search (rules, append_assoc, inside-ends)
 spliced-inside : (inside more : List ℕ) → list_all is_inside inside ≡ true
     → spliced (inside ++ more) ≡ inside ++ spliced more
 spliced-inside [] more all = refl
-spliced-inside (b ∷ inside) more all =
-    grind (arith, nat_tests, spliced-inside inside more)
+spliced-inside (b ∷ inside) more all = grind (arith, nat_tests, spliced-inside inside more)
 
-spliced-comment : (inside : List ℕ) → list_all is_inside inside ≡ true
-    → spliced (comment inside) ≡ comment inside
+spliced-comment : (inside : List ℕ) → list_all is_inside inside ≡ true → spliced (comment inside) ≡ comment inside
 spliced-comment inside all = search (rules, spliced-inside)
 
-one-comment : (inside : List ℕ) → list_all is_inside inside ≡ true
-    → elements (comment inside) ≡ comment inside ∷ []
+one-comment : (inside : List ℕ) → list_all is_inside inside ≡ true → elements (comment inside) ≡ comment inside ∷ []
 one-comment inside all = search (rules, spliced-comment, one-element, comment-element, comment-is)
 
 no-token : (inside : List ℕ) → filter is_token (comment inside ∷ []) ≡ []
@@ -87,8 +77,7 @@ pub last-slash : (x : ℕ) (a : List ℕ) → last_byte x (a ++ asterisk ∷ sla
 last-slash x [] = refl
 last-slash x (y ∷ a) = last-slash y a
 
-comment-border : (inside b : List ℕ) → list_all is_inside inside ≡ true
-    → have_border (comment inside) b ≡ true
+comment-border : (inside b : List ℕ) → list_all is_inside inside ≡ true → have_border (comment inside) b ≡ true
 comment-border inside [] all = refl
 comment-border inside (c ∷ b) all =
     let t = comment inside in
@@ -104,12 +93,10 @@ comment-one : (after : Bool) (inside : List ℕ) → list_all is_inside inside �
 comment-one after [] all = refl
 comment-one after (b ∷ inside) all = grind (arith, nat_tests, comment-one (b == backslash) inside)
 
-comment-front : (inside rest : List ℕ) → list_all is_inside inside ≡ true
-    → Follows [] rest (comment inside ++ rest)
+comment-front : (inside rest : List ℕ) → list_all is_inside inside ≡ true → Follows [] rest (comment inside ++ rest)
 comment-front inside rest all =
     let apart = apart-from (comment inside) rest (grind (arith, nat_tests, one-comment, comment-ended))
-    (comment-one false inside all) (search (rules, last-slash))
-    (search (rules, spliced-comment, comment-border)) in
+    (comment-one false inside all) (search (rules, last-slash)) (search (rules, spliced-comment, comment-border)) in
     record {
       read = apart.read ∙ ap (λ es. filter is_token es ++ tokens rest) (one-comment inside all)
           ∙ ap (λ ts. ts ++ tokens rest) (no-token inside);

@@ -12,8 +12,7 @@ use Rattle.std.proofs.lemmas.Bool.Decides.{nat_tests}
 all-digits : (k n : ℕ) (more : List ℕ) → list_all is_digit more ≡ true
     → list_all is_digit (digits_onto k 10 false n more) ≡ true
 all-digits zero n more all = all
-all-digits (suc k) n more all =
-    grind (arith, nat_tests, all-digits k)
+all-digits (suc k) n more all = grind (arith, nat_tests, all-digits k)
 
 pub decimal-digits : (n : ℕ) → list_all is_digit (decimal n) ≡ true
 unfolding digits

@@ -2,8 +2,7 @@
 use Rattle.std.proofs.Common.{rules}
 use Rattle.std.proofs.Common.{arith}
 use Rattle.std.proofs.Common.{◌≡◌, ℕ, Bool, true, false, ◌&&◌, ◌||◌, not, List, [], ◌∷◌, ◌++◌}
-use Rattle.std.proofs.Common.{Option, Some, None, inl, inr, flat_map, ◌⊎◌}
-use Rattle.std.proofs.Common.{sym, subst}
+use Rattle.std.proofs.Common.{Option, Some, None, ◌⊎◌}
 use Rattle.std.specs.List.{AllByRecursion, last_or, list_all}
 use Rattle.std.specs.Option.{IfSome}
 use Rattle.c_tokens.specs.Bytes.{line_feed}
@@ -13,8 +12,8 @@ use Rattle.tangle_lexer.specs.declared.tokens.Token.TheVariants as token
 use Rattle.tangle_scan.specs.Rules.{may_touch, next_item, ends_line}
 use Rattle.tangle_scan.specs.ReadAsMeant.{with_written, written_tokens}
 use Rattle.tangle_c_tokens.specs.Edges.{begins_as, ends_as, number_goes_on_with}
-use Rattle.tangle_c_tokens.specs.Kinds.{item_kind, is_range, IsAlone, IsQuotedText}
-use Rattle.tangle_c_tokens.specs.Kinds.{AreTexts}
+use Rattle.tangle_c_tokens.specs.Kinds.{item_kind, is_range, AreTexts}
+use Rattle.tangle_c_tokens.proofs.kind_lemmas.Texts.{texts-by}
 use Rattle.tangle_c_tokens.specs.Groups.{Group, group_before, groups_after, group_text}
 use Rattle.tangle_c_tokens.specs.Macros.{text_of, stay_apart, IsReadAlone}
 use Rattle.c_lines.proofs.JoinedLemmas.{IsOneLine}
@@ -37,21 +36,10 @@ module _ (texts : List (List ℕ)) where
   of-ranges [] all es more = more
   of-ranges (e ∷ part) all es more = grind (arith, nat_tests, of-ranges part)
 
-  of-part : (part : List Token) → IsAlone texts part ⊎ IsQuotedText texts part → (es : List Token)
-      → HaveEdges es → HaveEdges (part ++ es)
-  of-part [] (inl alone) es more = absurd alone
-  of-part (e ∷ []) (inl alone) es more = ((search rules), more)
-  of-part (e ∷ f ∷ part) (inl alone) es more = absurd alone
-  of-part part (inr quoted) es more = of-ranges part quoted.ranges es more
-
-  of-parts : (parts : List (List Token))
-      → AllByRecursion (λ part. IsAlone texts part ⊎ IsQuotedText texts part) parts →
-      HaveEdges (flat_map (λ part. part) parts)
-  of-parts [] all = tt
-  of-parts (part ∷ parts) all = grind (arith, nat_tests, of-part, of-parts parts all.1)
-
   of-texts : (es : List Token) → AreTexts texts es → HaveEdges es
-  of-texts es are = subst HaveEdges (sym are.1) (of-parts are.0 are.2)
+  of-texts =
+      texts-by texts HaveEdges tt (λ t ts alone kind all made. ((search rules), made))
+      (λ part ts quoted all made. of-ranges part quoted.ranges ts made)
 
   of-written : (es : List Token) → HaveEdges es → HaveEdges (written_tokens texts es)
   of-written [] all = tt
@@ -74,10 +62,8 @@ module _ (texts : List (List ℕ)) where
   pub record IsApart (group : Group) : Type 0 where
     pub whole : is_whole (group_text texts group.items) ≡ true
     pub apart : ends_line group.rest ≡ true
-        → are_apart_at_edges (group_text texts group.items) (last_or None group.items)
-        (next_item group.rest) ≡ true
-    pub ended : next_item group.rest ≡ None
-        → keep_lines (group_text texts group.items) (line_feed ∷ []) ≡ true
+        → are_apart_at_edges (group_text texts group.items) (last_or None group.items) (next_item group.rest) ≡ true
+    pub ended : next_item group.rest ≡ None → keep_lines (group_text texts group.items) (line_feed ∷ []) ≡ true
     pub one : IsOneLine (group_text texts group.items)
 
   -- a group that is read alone, on one line
@@ -95,9 +81,7 @@ module _ (texts : List (List ℕ)) where
 
   next-edges : (es : List Token) → HaveEdges es → IfSome (next_item es) HasItsEdges
   next-edges [] all = tt
-  next-edges (token.White ∷ es) all = next-edges es all.1
-  next-edges (token.LineEnd line ∷ es) all = next-edges es all.1
-  next-edges (e ∷ es) all = all.0
+  next-edges (e ∷ es) all = search (rules, next-edges es)
 
   before-apart : (items rest : List Token) (gs : List Group) → HaveEdges items → HaveEdges rest →
       (AllByRecursion IsAloneOnLine gs → AllByRecursion IsApart gs) →
@@ -105,18 +89,15 @@ module _ (texts : List (List ℕ)) where
       → AllByRecursion IsApart (group_before rest items ++ gs)
   before-apart items rest gs of_items of_rest next alone = search (rules, apart-edges, last-edges, next-edges)
 
-  more-edges : (items : List Token) (e : Token) → HaveEdges items → HasItsEdges e
-      → HaveEdges (items ++ e ∷ [])
+  more-edges : (items : List Token) (e : Token) → HaveEdges items → HasItsEdges e → HaveEdges (items ++ e ∷ [])
   more-edges [] e all of_e = (of_e, tt)
   more-edges (x ∷ items) e all of_e = (all.0, more-edges items e all.1 of_e)
 
   groups-apart : (items es : List Token) → HaveEdges items → HaveEdges es →
-      AllByRecursion IsAloneOnLine (groups_after items es)
-      → AllByRecursion IsApart (groups_after items es)
+      AllByRecursion IsAloneOnLine (groups_after items es) → AllByRecursion IsApart (groups_after items es)
   groups-apart items [] of_items all alone = grind (arith, nat_tests)
   groups-apart items (token.White ∷ es) of_items all alone =
-      before-apart items (token.White ∷ es) (groups_after [] es) of_items all
-      (groups-apart [] es tt all.1) alone
+      before-apart items (token.White ∷ es) (groups_after [] es) of_items all (groups-apart [] es tt all.1) alone
   groups-apart items (token.LineEnd line ∷ es) of_items all alone =
       before-apart items (token.LineEnd line ∷ es) (groups_after [] es) of_items all
       (groups-apart [] es tt all.1) alone

@@ -10,10 +10,8 @@ use Rattle.c_tokens.specs.Bytes.{line_feed}
 use Rattle.tangle_files.specs.declared.marks.MarkMode.{MarkMode}
 use Rattle.tangle_lines.specs.declared.origin.Origin.{Origin}
 use Rattle.tangle_lines.specs.Reading.{SourceRead}
-use Rattle.tangle_lexer.specs.Steps.{all_tokens}
 use Rattle.tangle_scan.specs.Rules.{texts_of}
-use Rattle.tangle_scan.specs.ReadAsMeant.{all_macro_tokens}
-use Rattle.tangle_scan.specs.Web.{WebRead, web_of, blocks}
+use Rattle.tangle_scan.specs.Web.{WebRead, web_of}
 use Rattle.tangle_names.specs.NameTable.{TableRead, table_of}
 use Rattle.tangle_bodies.specs.Shapes.{Title, Named, Shapes, shape_names}
 use Rattle.tangle_bodies.specs.Flat.{Symbol, flat, pieces_flat}
@@ -25,18 +23,16 @@ use Rattle.tangle_expansion.specs.Numbers.{NumbersRead, numbers_of, expansion_by
 use Rattle.tangle_expansion.specs.PieceBytes.{bytes_after_mark, piece_bytes, used_bytes}
 use Rattle.tangle_expansion.proofs.SameShapes.{flat_by_uses}
 use Rattle.tangle_c_tokens.specs.Reading.{IsReadAsTexts}
-use Rattle.tangle_c_tokens.specs.Kinds.{AreTexts}
-use Rattle.tangle_c_tokens.proofs.kind_lemmas.WebTexts.{macros-texts, pieces-texts}
 use Rattle.tangle_c_tokens.specs.Pieces.{passage_text}
 use Rattle.tangle_c_tokens.specs.Files.{FilesAreReadByParts, SourceHasNoLineFeed, IsWholePassage, MacrosAreReadAlone}
 use Rattle.tangle_c_tokens.specs.Files.{NodesAreReadByParts, ReachesWholePieces, numbers_in}
 use Rattle.tangle_c_tokens.specs.Files.{shapes_in, texts_of_node, row_of_node}
-use Rattle.tangle_c_tokens.proofs.ListLemmas.{all-both, each}
+use Rattle.tangle_c_tokens.proofs.ListLemmas.{each}
 use Rattle.c_lines.specs.JoinedLines.{LinesAreWhole}
 use Rattle.digraph.specs.Reach.{here, on}
 use Rattle.tangle_c_tokens.proofs.TextLemmas.{no-text, feed-front, with-nothing}
 use Rattle.tangle_c_tokens.proofs.FeedLemmas.{KeepsFeed, line-of}
-use Rattle.tangle_c_tokens.proofs.AllMacroLemmas.{macros-keep, IsAlone, macros-whole}
+use Rattle.tangle_c_tokens.proofs.AllMacroLemmas.{macros-keep, macros-whole}
 use Rattle.tangle_c_tokens.proofs.OneLineLemmas.{texts-on_line}
 use Rattle.tangle_c_tokens.proofs.NodeLemmas.{pieces-keep, node-read}
 
@@ -44,12 +40,10 @@ use Rattle.tangle_c_tokens.proofs.NodeLemmas.{pieces-keep, node-read}
 -- has it
 abbrev pub AreWrittenByPieces : Type 0
 AreWrittenByPieces =
-    (web : WebRead) (table : TableRead) (marks : MarkMode) (used : List ℕ → List Symbol)
-    (node : Title)
+    (web : WebRead) (table : TableRead) (marks : MarkMode) (used : List ℕ → List Symbol) (node : Title)
     → ResolvesInside table
     → expansion_bytes (numbers_of web table marks) (pieces_flat used node 0 (shapes web table node))
-    ≡ flat_map (piece_bytes (numbers_of web table marks) table used web.texts)
-    (pieces_of web table node)
+    ≡ flat_map (piece_bytes (numbers_of web table marks) table used web.texts) (pieces_of web table node)
 
 module _ (pieces : AreWrittenByPieces) (source : SourceRead) (modes : MarkMode)
     (feeds : SourceHasNoLineFeed source) where
@@ -71,22 +65,17 @@ module _ (pieces : AreWrittenByPieces) (source : SourceRead) (modes : MarkMode)
   mark-lines : (origin : Origin) → IsMarkText (bytes_after_mark numbers origin)
   mark-lines origin = search (rules, mark_end-at, mark-is_line, name-at)
 
-  macros-alone : MacrosAreReadAlone source → AllByRecursion (IsAlone source.lines [] [] no-text feeds.lines) (all_macro_tokens source.lines)
-  macros-alone whole = all-both (AreTexts (texts_of source.lines)) _ _ (macros-texts source.lines feeds.lines) whole
-
   macros-line : MacrosAreReadAlone source → IsWholeLine numbers.macros
   macros-line whole =
-      let all =
-      macros-whole source.lines [] [] no-text feeds.lines
-      (blocks 0 (all_tokens source.lines)) (macros-alone whole) in
-      line-of numbers.macros (subst LinesAreWhole (append-nil numbers.macros) all.lines) (search (rules, macros-keep))
+      line-of numbers.macros
+      (subst LinesAreWhole (append-nil numbers.macros) (macros-whole source.lines [] [] no-text feeds.lines whole).lines)
+      (search (rules, macros-keep))
 
   abbrev texts_by : (List ℕ → List Symbol) → Title → List (List ℕ)
   texts_by used node =
       map
       (passage_text (texts_of source.lines) (λ occurrence. used_bytes numbers table used occurrence) numbers.macros
-      (λ origin. bytes_after_mark numbers origin))
-      (row_of_node source node)
+      (λ origin. bytes_after_mark numbers origin)) (row_of_node source node)
 
   -- what is written for the names that a node uses is whole
   abbrev AreWholeNames : (List ℕ → List Symbol) → Title → Type 0
@@ -99,16 +88,14 @@ module _ (pieces : AreWrittenByPieces) (source : SourceRead) (modes : MarkMode)
       IsReadAsTexts (texts_by used node ++ us)
       (expansion_bytes numbers (pieces_flat used node 0 (all_shapes node)) ++ tail)
   node-by-parts used node whole names tail us read =
-      subst (λ bytes. IsReadAsTexts (texts_by used node ++ us) (bytes ++ tail))
-      (sym (written used node))
+      subst (λ bytes. IsReadAsTexts (texts_by used node ++ us) (bytes ++ tail)) (sym (written used node))
       (node-read source numbers table used mark-lines macros-line (texts-on_line source.lines feeds.lines) node tail us read
-      (blocks 0 (all_tokens source.lines)) (pieces-texts source.lines feeds.lines) (whole, names))
+      feeds.lines (whole, names))
 
   node-keeps : (used : List ℕ → List Symbol) (node : Title)
       → KeepsFeed (expansion_bytes numbers (pieces_flat used node 0 (all_shapes node)))
   node-keeps used node =
-      subst KeepsFeed
-      (sym (written used node))
+      subst KeepsFeed (sym (written used node))
       (pieces-keep source numbers table used mark-lines macros-line (texts-on_line source.lines feeds.lines)
       (pieces_of (web_of source) table node))
 
@@ -138,8 +125,7 @@ module _ (pieces : AreWrittenByPieces) (source : SourceRead) (modes : MarkMode)
   node-then node expandable reaches tail us read =
       let used : List ℕ → List Symbol = λ name. flat_of all_shapes (Named name) in
       subst (λ symbols. IsReadAsTexts (texts_by used node ++ us)
-      (expansion_bytes numbers symbols ++ tail))
-      (sym (flat_by_uses levels all_shapes node expandable.shallow))
+      (expansion_bytes numbers symbols ++ tail)) (sym (flat_by_uses levels all_shapes node expandable.shallow))
       (node-by-parts used node (reaches node here) (names-by used node reaches (name-line levels)) tail us read)
 
   pub node-is_read : NodesAreReadByParts source modes
@@ -161,8 +147,7 @@ module _ (pieces : AreWrittenByPieces) (source : SourceRead) (modes : MarkMode)
       IsReadAsTexts (if has_piece then texts_of_node source modes node else []) (bytes_in_file has_piece node)
   node-in-file false node ready = no-text
   node-in-file true node ready =
-      subst (λ us. IsReadAsTexts us (bytes_in_file true node))
-      (append-nil (texts_of_node source modes node))
+      subst (λ us. IsReadAsTexts us (bytes_in_file true node)) (append-nil (texts_of_node source modes node))
       (node-then node (ready refl).0 (ready refl).1 (line_feed ∷ []) []
       (with-nothing [] (line_feed ∷ []) [] (feed-front []) no-text))
 
@@ -170,5 +155,4 @@ module _ (pieces : AreWrittenByPieces) (source : SourceRead) (modes : MarkMode)
   file-is_read false has_piece node whole ready = node-in-file has_piece node ready
   file-is_read true has_piece node whole ready =
       macros-whole source.lines (bytes_in_file has_piece node) (if has_piece then texts_of_node source modes node else [])
-      (node-in-file has_piece node ready) feeds.lines
-      (blocks 0 (all_tokens source.lines)) (macros-alone (whole refl))
+      (node-in-file has_piece node ready) feeds.lines (whole refl)

@@ -4,8 +4,7 @@ use Rattle.std.specs.List.{last_or}
 use Rattle.tangle_lexer.specs.declared.tokens.Token.{Token}
 use Rattle.tangle_c_tokens.specs.Groups.{group_before}
 
-pub last-item : (o : Option Token) (items : List Token) (e : Token)
-    → last_or o (items ++ e ∷ []) ≡ Some e
+pub last-item : (o : Option Token) (items : List Token) (e : Token) → last_or o (items ++ e ∷ []) ≡ Some e
 last-item o [] e = refl
 last-item o (x ∷ items) e = last-item (Some x) items e
 

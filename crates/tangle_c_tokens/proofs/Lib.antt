@@ -7,6 +7,7 @@ pub mod OneLineLemmas
 pub mod EdgeLemmas
 pub mod MacroLemmas
 pub mod WebLemmas
+pub mod LayoutLemmas
 pub mod PieceLemmas
 pub mod WorkedMacros
 pub mod WorkedPieces

@@ -44,17 +44,10 @@ module _ (texts : List (List ℕ)) (tail : List ℕ) (ts : List (List ℕ))
   -- tokens are those of the rule
   abbrev bytes_from : Bool → Option Token → Bool → List Token → List ℕ
   bytes_from in_name before white es =
-      flat_map (macro_item_bytes texts)
-      (items_from texts in_name before white es) ++ line_feed ∷ tail
-
-  item-text : (e : Token) (es : List Token) → is_front_gap e ≡ false
-      → flat_map (macro_item_bytes texts) (unmarked_items (e ∷ es))
-      ≡ text_of texts e ++ flat_map (macro_item_bytes texts) (unmarked_items es)
-  item-text e es item = search rules
+      flat_map (macro_item_bytes texts) (items_from texts in_name before white es) ++ line_feed ∷ tail
 
   item-bytes : (e : Token) (es : List Token) → is_front_gap e ≡ false
-      → flat_map (macro_item_bytes texts) (unmarked_items (e ∷ es)) ++ line_feed ∷ tail
-      ≡ text_of texts e
+      → flat_map (macro_item_bytes texts) (unmarked_items (e ∷ es)) ++ line_feed ∷ tail ≡ text_of texts e
       ++ (flat_map (macro_item_bytes texts) (unmarked_items es) ++ line_feed ∷ tail)
   item-bytes e es item = search (rules, append_assoc)
 
@@ -111,20 +104,17 @@ module _ (texts : List (List ℕ)) (tail : List ℕ) (ts : List (List ℕ))
 
   -- at the front of a line
   abbrev ReadsFront : List Token → Type 0
-  ReadsFront es = (in_name white : Bool)
-      → ReadsAs (groups_after [] es) (bytes_from in_name None white es)
+  ReadsFront es = (in_name white : Bool) → ReadsAs (groups_after [] es) (bytes_from in_name None white es)
 
   -- directly after an item
   abbrev ReadsWithin : List Token → Type 0
-  ReadsWithin es = (in_name : Bool) (items : List Token) (e : Token) →
-      ReadsAs (groups_after (items ++ e ∷ []) es)
+  ReadsWithin es = (in_name : Bool) (items : List Token) (e : Token) → ReadsAs (groups_after (items ++ e ∷ []) es)
       (group_text texts (items ++ e ∷ []) ++ bytes_from in_name (Some e) false es)
 
   -- after a group
   abbrev ReadsAfter : Bool → Bool → List Token → Type 0
   ReadsAfter in_name white es = (items : List Token) (e : Token)
-      → IsApart texts (record { items = items ++ e ∷ []; rest = es })
-      → AreReadAlone (groups_after [] es)
+      → IsApart texts (record { items = items ++ e ∷ []; rest = es }) → AreReadAlone (groups_after [] es)
       → IsReadAsTexts (group_text texts (items ++ e ∷ []) ∷ texts_in (groups_after [] es) ++ ts)
       (group_text texts (items ++ e ∷ []) ++ bytes_from in_name (Some e) white es)
 
@@ -151,8 +141,7 @@ module _ (texts : List (List ℕ)) (tail : List ℕ) (ts : List (List ℕ))
   at-line_end line es front in_name white items e alone rest =
       by (has_blank_at_line_end texts in_name (Some e) (next_item es)) refl
     where
-      apart : are_apart_at_edges texts (group_text texts (items ++ e ∷ [])) (Some e)
-          (next_item es) ≡ true
+      apart : are_apart_at_edges texts (group_text texts (items ++ e ∷ [])) (Some e) (next_item es) ≡ true
       apart = ap
           (λ last. are_apart_at_edges texts (group_text texts (items ++ e ∷ [])) last
           (next_item es)) (sym (last-item None items e)) ∙ alone.apart refl
@@ -174,21 +163,17 @@ module _ (texts : List (List ℕ)) (tail : List ℕ) (ts : List (List ℕ))
       by false is =
           let t = group_text texts (items ++ e ∷ []) in
           let after = bytes_from false None false es in
-          with-text t after (t ++ backslash ∷ line_feed ∷ after)
-          (texts_in (groups_after [] es) ++ ts)
+          with-text t after (t ++ backslash ∷ line_feed ∷ after) (texts_in (groups_after [] es) ++ ts)
           (taken-between t after alone.whole alone.one
           (front-border (spliced t) false false es
-          (meets-if_no_blank in_name items e (next_item es) is apart)))
-          (front false false rest)
+          (meets-if_no_blank in_name items e (next_item es) is apart))) (front false false rest)
 
   at-item : (e : Token) (es : List Token) → is_front_gap e ≡ false →
       ((items : List Token) → groups_after items (e ∷ es) ≡ groups_after (items ++ e ∷ []) es)
       → ReadsWithin es → Reads (e ∷ es)
   at-item e es item more within = record {
-    front = λ in_name white alone.
-        subst (IsReadAsTexts (texts_in (groups_after [] (e ∷ es)) ++ ts))
-        (sym (front-item in_name white e es item))
-        (first (in_name && not white && is_name_part e) alone);
+    front = λ in_name white alone. subst (IsReadAsTexts (texts_in (groups_after [] (e ∷ es)) ++ ts))
+        (sym (front-item in_name white e es item)) (first (in_name && not white && is_name_part e) alone);
     within = λ in_name items before alone.
         let after : List ℕ = bytes_from (in_name && true && is_name_part e) (Some e) false es in
         let t : List ℕ = group_text texts (items ++ before ∷ []) in
@@ -207,12 +192,10 @@ module _ (texts : List (List ℕ)) (tail : List ℕ) (ts : List (List ℕ))
         (first (in_name && false && is_name_part e) rest));
   }
     where
-      first : (in_name : Bool)
-          → ReadsAs (groups_after [] (e ∷ es))
+      first : (in_name : Bool) → ReadsAs (groups_after [] (e ∷ es))
           (text_of texts e ++ bytes_from in_name (Some e) false es)
       first in_name =
-          subst (λ gs. ReadsAs gs (text_of texts e ++ bytes_from in_name (Some e) false es))
-          (sym (more []))
+          subst (λ gs. ReadsAs gs (text_of texts e ++ bytes_from in_name (Some e) false es)) (sym (more []))
           (subst (λ t. ReadsAs (groups_after (e ∷ []) es)
           (t ++ bytes_from in_name (Some e) false es)) (append-nil (text_of texts e))
           (within in_name [] e))
@@ -226,10 +209,8 @@ module _ (texts : List (List ℕ)) (tail : List ℕ) (ts : List (List ℕ))
   reads : (es : List Token) → Reads es
   reads [] = record {
     front = λ in_name white alone. with-nothing tail (line_feed ∷ tail) ts (feed-front tail) read;
-    within = λ in_name items e.
-        subst (λ gs. ReadsAs gs (group_text texts (items ++ e ∷ []) ++ line_feed ∷ tail))
-        (sym (group-one items e []))
-        (λ alone. at-end in_name false items e alone.0 alone.1);
+    within = λ in_name items e. subst (λ gs. ReadsAs gs (group_text texts (items ++ e ∷ []) ++ line_feed ∷ tail))
+        (sym (group-one items e [])) (λ alone. at-end in_name false items e alone.0 alone.1);
     after_white = λ in_name. at-end in_name true;
   }
   reads (token.White ∷ es) =
@@ -237,11 +218,9 @@ module _ (texts : List (List ℕ)) (tail : List ℕ) (ts : List (List ℕ))
       record {
         front = λ in_name white. next.front in_name true;
         within = λ in_name items e. closed items e (token.White ∷ es)
-            (group_text texts (items ++ e ∷ []) ++ bytes_from in_name (Some e) true es)
-            (groups_after [] es)
+            (group_text texts (items ++ e ∷ []) ++ bytes_from in_name (Some e) true es) (groups_after [] es)
             (λ alone. next.after_white in_name items e (same-group (items ++ e ∷ []) es alone));
-        after_white =
-            grind (arith, nat_tests, same-group);
+        after_white = grind (arith, nat_tests, same-group);
       }
   reads (token.LineEnd line ∷ es) =
       let next = reads es in
@@ -252,8 +231,7 @@ module _ (texts : List (List ℕ)) (tail : List ℕ) (ts : List (List ℕ))
             (taken-between [] after refl refl refl) (next.front false false alone);
         within = λ in_name items e. closed items e (token.LineEnd line ∷ es)
             (group_text texts (items ++ e ∷ []) ++ bytes_from in_name (Some e) false
-            (token.LineEnd line ∷ es)) (groups_after [] es)
-            (at-line_end line es next.front in_name false items e);
+            (token.LineEnd line ∷ es)) (groups_after [] es) (at-line_end line es next.front in_name false items e);
         after_white = λ in_name. at-line_end line es next.front in_name true;
       }
   reads (e ∷ es) = let next = reads es in at-item e es refl (λ items. refl) next.within
@@ -269,24 +247,20 @@ module _ (texts : List (List ℕ)) (tail : List ℕ) (ts : List (List ℕ))
       (macro_bytes texts (unmarked_items (macro_blanks texts true None false es)) ++ tail)
   macro-by-groups es are alone one =
       let written = written_tokens texts es in
-      let text = flat_map (macro_item_bytes texts)
-      (items_from texts true None false written) in
+      let text = flat_map (macro_item_bytes texts) (items_from texts true None false written) in
       subst (IsReadAsTexts (codes "#define" ∷ texts_in (groups written) ++ ts))
       (search (rules, end-items, append_assoc))
       (with-text (codes "#define") (bytes_from true None false written)
-      (codes "#define " ++ bytes_from true None false written)
-      (texts_in (groups written) ++ ts)
+      (codes "#define " ++ bytes_from true None false written) (texts_in (groups written) ++ ts)
       (space-between (codes "#define") (bytes_from true None false written) define-whole refl)
       ((reads written).front true false (apart-groups texts es are alone one)))
 
 -- the bytes of a macro alone
 pub one-macro : (texts : List (List ℕ)) (es : List Token) → AreTexts texts es →
     AllByRecursion (IsGroupOnLine texts) (groups (written_tokens texts es)) →
-    IsReadByGroups texts es
-    (macro_bytes texts (unmarked_items (macro_blanks texts true None false es)))
+    IsReadByGroups texts es (macro_bytes texts (unmarked_items (macro_blanks texts true None false es)))
 one-macro texts es are one alone =
-    let text = macro_bytes texts
-    (unmarked_items (macro_blanks texts true None false es)) in
+    let text = macro_bytes texts (unmarked_items (macro_blanks texts true None false es)) in
     let of_groups = map (λ (g : Group). group_text texts g.items) (groups (written_tokens texts es)) in
     subst (λ ts. IsReadAsTexts ts text) (append-nil (codes "#define" ∷ of_groups))
     (subst (IsReadAsTexts (codes "#define" ∷ of_groups ++ [])) (append-nil text)

@@ -28,21 +28,17 @@ use Rattle.std.proofs.lemmas.Bool.Decides.{nat_tests}
 
 -- a name between quotes
 
-string-whole : (t : List ℕ) → ends_quoted double_quote t ≡ true → IsInLine t
-    → is_whole (double_quote ∷ t) ≡ true
+string-whole : (t : List ℕ) → ends_quoted double_quote t ≡ true → IsInLine t → is_whole (double_quote ∷ t) ≡ true
 string-whole t ends line = search (rules, spliced-line, one-element, plain-element)
 
-pub name-line : (name more : List ℕ) → TextHasNoLineFeed name → IsInLine more
-    → IsInLine (escaped name ++ more)
+pub name-line : (name more : List ℕ) → TextHasNoLineFeed name → IsInLine more → IsInLine (escaped name ++ more)
 name-line [] more none line = line
-name-line (b ∷ name) more none line =
-    grind (arith, nat_tests, name-line name more)
+name-line (b ∷ name) more none line = grind (arith, nat_tests, name-line name more)
 
 pub name-quoted : (name : List ℕ) → TextHasNoLineFeed name
     → ends_quoted double_quote (escaped name ++ double_quote ∷ []) ≡ true
 name-quoted [] none = refl
-name-quoted (b ∷ name) none =
-    grind (arith, nat_tests, name-quoted name)
+name-quoted (b ∷ name) none = grind (arith, nat_tests, name-quoted name)
 
 -- the whole mark
 

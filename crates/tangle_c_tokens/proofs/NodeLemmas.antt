@@ -16,9 +16,11 @@ use Rattle.tangle_lines.specs.declared.origin.Origin.{Origin}
 use Rattle.tangle_lines.specs.Reading.{SourceLine, SourceRead, origin_at}
 use Rattle.tangle_lexer.specs.declared.tokens.Token.{Token}
 use Rattle.tangle_scan.specs.Rules.{texts_of, part_tokens, part_items}
-use Rattle.tangle_scan.specs.Web.{PieceRead, Block, BlockKind, piece_of}
-use Rattle.tangle_scan.specs.Web.{kind_piece}
-use Rattle.tangle_scan.specs.Web.BlockKind.{OfMacro, OfPiece}
+use Rattle.tangle_scan.specs.Web.{PieceRead, Block, blocks, piece_of}
+use Rattle.tangle_scan.specs.ReadAsMeant.{all_piece_tokens}
+use Rattle.tangle_lexer.specs.Steps.{all_tokens}
+use Rattle.tangle_c_tokens.specs.LineFeeds.{SourceLinesHaveNoLineFeed}
+use Rattle.tangle_c_tokens.proofs.kind_lemmas.WebTexts.{piece_at, pieces-by, blocks-have}
 use Rattle.tangle_names.specs.NameTable.{TableRead}
 use Rattle.tangle_bodies.specs.Shapes.{Title, shape_names}
 use Rattle.tangle_bodies.specs.Flat.{Symbol}
@@ -50,8 +52,7 @@ grouped : (o m i c rest : List ℕ) → (o ++ m ++ i ++ c) ++ rest ≡ o ++ (m +
 grouped o m i c rest = simp append_assoc
 
 module _ (source : SourceRead) (numbers : NumbersRead) (table : TableRead)
-    (used : List ℕ → List Symbol)
-    (marks : (origin : Origin) → IsMarkText (bytes_after_mark numbers origin))
+    (used : List ℕ → List Symbol) (marks : (origin : Origin) → IsMarkText (bytes_after_mark numbers origin))
     (macros_whole : MacrosAreReadAlone source → IsWholeLine numbers.macros)
     (on_line : (es : List Token) → AreTexts (texts_of source.lines) es → AreOnLine (texts_of source.lines) false es) where
   abbrev lines : List SourceLine
@@ -150,58 +151,42 @@ module _ (source : SourceRead) (numbers : NumbersRead) (table : TableRead)
         (shape_names (shape_of (texts_of lines) table (filter (is_piece_of table node) pieces)))
 
     abbrev pub IsRead : List PieceRead → List (List Token) → Type 0
-    IsRead pieces tokens = AllByRecursion (AreTexts (texts_of lines)) tokens → AreReady pieces tokens
-        → IsReadAsTexts (texts_in (row_in pieces tokens) ++ us) (node_bytes pieces)
+    IsRead pieces tokens = AreReady pieces tokens → IsReadAsTexts (texts_in (row_in pieces tokens) ++ us) (node_bytes pieces)
 
-    pub node-read : (bs : List Block) →
-        IsRead (flat_map (piece_of lines) bs)
-        (flat_map (λ b. map (λ p. part_tokens (texts_of lines) b.tokens) (piece_of lines b)) bs)
-    node-read [] are ready = tail_read
-    node-read (b ∷ bs) are ready = by b.kind (node-read bs) are ready
+    one-more : (b : Block) (occurrence : Option ℕ) (line : ℕ) (all : List PieceRead) (each : List (List Token))
+        → AreTexts (texts_of lines) (part_tokens (texts_of lines) b.tokens) → IsRead all each
+        → IsRead (piece_at lines b occurrence line ∷ all) (part_tokens (texts_of lines) b.tokens ∷ each)
+    one-more b occurrence line all each are next ready = chosen (is_piece_of table node piece) ready.0 ready.1
       where
-        all : List PieceRead
-        all = flat_map (piece_of lines) bs
+        piece : PieceRead
+        piece = piece_at lines b occurrence line
 
-        each : List (List Token)
-        each = flat_map
-            (λ b. map (λ p. part_tokens (texts_of lines) b.tokens) (piece_of lines b)) bs
+        row : List Passage
+        row = row_of_piece (texts_of lines) piece (part_tokens (texts_of lines) b.tokens)
 
-        es : List Token
-        es = part_tokens (texts_of lines) b.tokens
+        IsName : List ℕ → Type 0
+        IsName = IsWholeName lines numbers table used
 
-        chosen : (line : ℕ) (occurrence : Option ℕ) (is : Bool)
-            → let piece : PieceRead = part_piece b.section occurrence line b.tokens in
-            AreTexts (texts_of lines) es
-            → (AreReady all each → IsReadAsTexts (texts_in (row_in all each) ++ us) (node_bytes all))
-            → AreWhole ((if is then row_of_piece (texts_of lines) piece es else []) ++ row_in all each)
-            → AllByRecursion (IsWholeName lines numbers table used)
-            (shape_names (shape_of (texts_of lines) table
-            (cond is (piece ∷ filter (is_piece_of table node) all) (filter (is_piece_of table node) all))))
-            → IsReadAsTexts
-            (texts_in ((if is then row_of_piece (texts_of lines) piece es else []) ++ row_in all each) ++ us)
-            (flat_map bytes_of
-            (cond is (piece ∷ filter (is_piece_of table node) all)
-            (filter (is_piece_of table node) all)) ++ tail)
-        chosen line occurrence true are next whole names =
-            let piece : PieceRead = part_piece b.section occurrence line b.tokens in
-            let row = row_of_piece (texts_of lines) piece es in
+        pieces : List PieceRead
+        pieces = filter (is_piece_of table node) all
+
+        chosen : (is : Bool) → AreWhole ((if is then row else []) ++ row_in all each)
+            → AllByRecursion IsName (shape_names (shape_of (texts_of lines) table (cond is (piece ∷ pieces) pieces)))
+            → IsReadAsTexts (texts_in ((if is then row else []) ++ row_in all each) ++ us)
+            (flat_map bytes_of (cond is (piece ∷ pieces) pieces) ++ tail)
+        chosen true whole names =
             let own = names_in lines numbers table used piece.items in
-            let others = shape_names (shape_of (texts_of lines) table (filter (is_piece_of table node) all)) in
-            let IsName = IsWholeName lines numbers table used in
+            let others = shape_names (shape_of (texts_of lines) table pieces) in
             let ts = texts_in (row_in all each) in
-            let later = flat_map bytes_of (filter (is_piece_of table node) all) in
+            let later = flat_map bytes_of pieces in
             subst (λ us. IsReadAsTexts us ((bytes_of piece ++ later) ++ tail))
             (sym (ap (λ ws. ws ++ us) (map-append (passage_text (texts_of lines) written numbers.macros mark) row (row_in all each)) ∙ append_assoc (texts_in row) ts us))
             (subst (IsReadAsTexts (texts_in row ++ (ts ++ us))) (sym (append_assoc (bytes_of piece) later tail))
             (piece-read b.section line occurrence b.tokens (later ++ tail) (ts ++ us) are
             (all-front (IsWholePassage source) row (row_in all each) whole) (all-front IsName own others names)
             (next (all-back (IsWholePassage source) row (row_in all each) whole, all-back IsName own others names))))
-        chosen line occurrence false are next whole names = next (whole, names)
+        chosen false whole names = next (whole, names)
 
-        by : (kind : BlockKind) → IsRead all each →
-            IsRead (kind_piece lines kind b ++ all)
-            (map (λ p. part_tokens (texts_of lines) b.tokens) (kind_piece lines kind b) ++ each)
-        by (OfMacro line) next are ready = next are ready
-        by (OfPiece occurrence line) next are ready =
-            chosen line occurrence (is_piece_of table node (part_piece b.section occurrence line b.tokens)) are.0
-            (next are.1) ready.0 ready.1
+    pub node-read : SourceLinesHaveNoLineFeed lines
+        → IsRead (flat_map (piece_of lines) (blocks 0 (all_tokens lines))) (all_piece_tokens lines)
+    node-read none = pieces-by lines IsRead (λ ready. tail_read) one-more (blocks 0 (all_tokens lines)) (blocks-have lines none)

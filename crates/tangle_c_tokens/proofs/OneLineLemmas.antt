@@ -5,7 +5,7 @@ use Rattle.std.proofs.Common.{arith}
 use Rattle.std.proofs.Common.{◌≡◌, ℕ, zero, suc, ◌+◌, ◌-◌, nat_le, Bool, true, false, List, [], ◌∷◌, ◌++◌}
 use Rattle.std.proofs.Common.{take, drop, get_or}
 use Rattle.std.proofs.Common.{Some, refl, ap, sym, ◌∙◌, subst, append-nil}
-use Rattle.std.specs.Prelude.{◌==◌, decimal, if◌then◌else◌}
+use Rattle.std.specs.Prelude.{◌==◌, if◌then◌else◌}
 use Rattle.std.specs.List.{AllByRecursion, list_all, list_any}
 use Rattle.std.proofs.lemmas.Bool.{and_parts, and_from, or_parts, false≢true, leb-false}
 use Rattle.std.proofs.lemmas.List.Concat.{flat_map-append}
@@ -29,6 +29,7 @@ use Rattle.tangle_c_tokens.specs.Groups.{Group, group_before, groups_after, grou
 use Rattle.tangle_c_tokens.specs.Macros.{text_of}
 use Rattle.tangle_c_tokens.proofs.DecimalLemmas.{decimal-digits}
 use Rattle.tangle_c_tokens.proofs.kind_lemmas.Texts.{texts-by}
+use Rattle.tangle_c_tokens.proofs.kind_lemmas.RuleTexts.{range-by}
 use Rattle.std.proofs.lemmas.Bool.Decides.{nat_tests}
 
 -- the bytes of spans
@@ -56,8 +57,7 @@ range-back start n [] back = grind (arith, nat_tests)
 range-back zero zero (b ∷ t) back = back
 range-back zero (suc n) (b ∷ t) back =
     back-more (b == backslash) (take (suc n) t) (range-back zero n t (grind (arith, nat_tests)))
-range-back (suc start) n (b ∷ t) back =
-    range-back start n t (grind (arith, nat_tests))
+range-back (suc start) n (b ∷ t) back = range-back start n t (grind (arith, nat_tests))
 
 module _ (texts : List (List ℕ)) where
   -- the line feeds of an item are directly after backslashes, and an item that continues its line
@@ -105,20 +105,12 @@ module _ (texts : List (List ℕ)) where
       let more = range_bytes texts part in
       let both = and_parts (feeds_taken after t) (feeds_taken (ends_back after t) more)
       (sym (taken-append after t more) ∙ taken) in
-      by e range.0 both.0
+      range-by (λ e. feeds_taken after (text_of texts e) ≡ true → AreOnLine (ends_back after (text_of texts e)) (part ++ ts)
+      → AreOnLine after (e ∷ part ++ ts))
+      (λ s taken rest. (record { taken = taken; back = λ back. absurd (false≢true back) }, rest))
+      (λ n taken rest. (record { taken = taken; back = λ back. absurd (false≢true back) }, rest)) e range.0 both.0
       (part-on_line part (ends_back after t) ts range.1 both.1
       (subst (λ b. AreOnLine b ts) (back-append after t more) rest))
-    where
-      by : (e : Token) → is_range e ≡ true → feeds_taken after (text_of texts e) ≡ true
-          → AreOnLine (ends_back after (text_of texts e)) (part ++ ts) → AreOnLine after (e ∷ part ++ ts)
-      by (token.Span span_kind.Quoted s) range taken rest =
-          (record { taken = taken; back = λ back. absurd (false≢true back) }, rest)
-      by (token.QuoteBreak line) range taken rest =
-          (record { taken = taken; back = λ back. absurd (false≢true back) }, rest)
-      by (token.Span span_kind.Word s) range taken rest = absurd (false≢true range)
-      by (token.Span span_kind.Sign s) range taken rest = absurd (false≢true range)
-      by (token.Span span_kind.Verbatim s) range taken rest = absurd (false≢true range)
-      by e range taken rest = absurd (false≢true range)
 
   -- the groups of a macro
 
@@ -131,14 +123,12 @@ module _ (texts : List (List ℕ)) where
 
   before-on_line : (items rest : List Token) (gs : List Group) → IsOneLine (group_text texts items)
       → AllByRecursion IsGroupOnLine gs → AllByRecursion IsGroupOnLine (group_before rest items ++ gs)
-  before-on_line [] rest gs one all = all
-  before-on_line (e ∷ items) rest gs one all = (one, all)
+  before-on_line items rest gs one all = search rules
 
   more-one : (items : List Token) (e : Token) → IsOneLine (group_text texts items)
       → IsOnLine (ends_back false (group_text texts items)) e → IsOneLine (group_text texts (items ++ e ∷ []))
   more-one items e one of_e =
-      ap (feeds_taken false) (text-more items e)
-      ∙ taken-append false (group_text texts items) (text_of texts e)
+      ap (feeds_taken false) (text-more items e) ∙ taken-append false (group_text texts items) (text_of texts e)
       ∙ and_from _ _ one of_e.taken
 
   more-back : (items : List Token) (e : Token) (es : List Token)
@@ -155,8 +145,7 @@ module _ (texts : List (List ℕ)) where
       (sym (text-more items e ∙ ap (λ t. group_text texts items ++ t) none ∙ append-nil (group_text texts items))) one
 
   groups-on_line : (items es : List Token) → IsOneLine (group_text texts items)
-      → AreOnLine (ends_back false (group_text texts items)) es
-      → AllByRecursion IsGroupOnLine (groups_after items es)
+      → AreOnLine (ends_back false (group_text texts items)) es → AllByRecursion IsGroupOnLine (groups_after items es)
   groups-on_line [] [] one all = tt
   groups-on_line (e ∷ items) [] one all = (one, tt)
   groups-on_line items (token.White ∷ es) one all =
@@ -198,8 +187,7 @@ module _ (lines : List SourceLine) (none : SourceLinesHaveNoLineFeed lines) wher
 
   sign-back : (s : Span) → HasItsKind texts (token.Span span_kind.Sign s) → (first_byte texts s == backslash) ≡ true
       → ends_back false (span_text texts s) ≡ true
-  sign-back s kind back =
-      search (rules, kind.1)
+  sign-back s kind back = search (rules, kind.1)
 
   verbatim-back : (s : Span) → (last_byte texts s == backslash) ≡ true → ends_back false (span_text texts s) ≡ true
   verbatim-back s back = by (nat_le s.end s.start) refl back
@@ -220,17 +208,7 @@ module _ (lines : List SourceLine) (none : SourceLinesHaveNoLineFeed lines) wher
           ∙ range-back s.start n t (ap (λ k. get_or t k 0 == backslash) (sym at) ∙ last)
 
   item-on_line : (after : Bool) (e : Token) → is_range e ≡ false → HasItsKind texts e → IsOnLine texts after e
-  item-on_line after (token.Span span_kind.Word s) alone kind =
-      record { taken = span-taken after s; back = λ back. absurd (false≢true back) }
-  item-on_line after (token.Span span_kind.Quoted s) alone kind = absurd (false≢true (sym alone))
-  item-on_line after (token.Span span_kind.Sign s) alone kind =
-      record { taken = span-taken after s; back = sign-back s kind }
-  item-on_line after (token.Span span_kind.Verbatim s) alone kind =
-      record { taken = span-taken after s; back = verbatim-back s }
-  item-on_line after (token.QuoteBreak line) alone kind = absurd (false≢true (sym alone))
-  item-on_line after (token.AsciiConstant value line) alone kind =
-      record { taken = in-line-taken after (decimal value) (digits-line (decimal value) (decimal-digits value)); back = λ back. absurd (false≢true back) }
-  item-on_line after e alone kind = record { taken = refl; back = λ back. absurd (false≢true back) }
+  item-on_line after e alone kind = search (rules, span-taken, sign-back, verbatim-back, in-line-taken, digits-line, decimal-digits)
 
   first-on_line : (e : Token) (es : List Token) → is_range e ≡ false → HasItsKind texts e → AreOnLine texts false es
       → AreOnLine texts false (e ∷ es)
@@ -242,8 +220,7 @@ module _ (lines : List SourceLine) (none : SourceLinesHaveNoLineFeed lines) wher
 
   pub texts-on_line : (es : List Token) → AreTexts texts es → AreOnLine texts false es
   texts-on_line =
-      texts-by texts (AreOnLine texts false) tt
-      (λ e es alone kind all rest. first-on_line e es alone kind rest)
+      texts-by texts (AreOnLine texts false) tt (λ e es alone kind all rest. first-on_line e es alone kind rest)
       (λ part es quoted all rest.
       part-on_line texts part false es quoted.ranges (spliced-taken (range_bytes texts part) quoted.one_line)
       (more-on_line texts es _ rest))

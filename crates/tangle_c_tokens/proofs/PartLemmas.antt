@@ -61,8 +61,7 @@ module _ (source : SourceRead) (used : ℕ → List ℕ) (macros : List ℕ)
   pub uses-whole : (es : List Token) → AllByRecursion (λ o. IsWholeLine (used o)) (flat_map token_uses es)
       → AllByRecursion IsWholeUse es
   uses-whole [] uses = tt
-  uses-whole (token.UseOf line occurrence ∷ es) uses = (uses.0, uses-whole es uses.1)
-  uses-whole (e ∷ es) uses = assumption (tt, uses-whole es uses)
+  uses-whole (e ∷ es) uses = search (rules, uses-whole es)
 
   abbrev AreBare : List Passage → Type 0
   AreBare row = AllByRecursion (IsWholePassage source) row
@@ -72,11 +71,6 @@ module _ (source : SourceRead) (used : ℕ → List ℕ) (macros : List ℕ)
 
   abbrev AreItems : List Token → Type 0
   AreItems items = list_all (λ e. not (is_use e)) items ≡ true
-
-  same-item : (e : Token) → not (is_use e) ≡ true →
-      token_bytes texts (written_for texts (λ occurrence. []) []) e ≡ token_bytes texts
-      (written_for texts used macros) e
-  same-item e item = search rules
 
   same-text : (items : List Token) → AreItems items
       → part_text texts (λ occurrence. []) [] items ≡ part_text texts used macros items
@@ -112,8 +106,7 @@ module _ (source : SourceRead) (used : ℕ → List ℕ) (macros : List ℕ)
   use-line : (t : List ℕ) → IsWholeLine t → IsWholeLine (t ++ [])
   use-line t line = subst IsWholeLine (sym (append-nil t)) line
 
-  more-items : (items : List Token) (e : Token) → AreItems items → not (is_use e) ≡ true
-      → AreItems (items ++ e ∷ [])
+  more-items : (items : List Token) (e : Token) → AreItems items → not (is_use e) ≡ true → AreItems (items ++ e ∷ [])
   more-items [] e are item = and_from (not (is_use e)) true item refl
   more-items (x ∷ items) e are item = grind (arith, nat_tests, more-items items)
 
@@ -151,8 +144,7 @@ module _ (source : SourceRead) (used : ℕ → List ℕ) (macros : List ℕ)
       → (let t = token_bytes texts (written_for texts used macros) e in
       (feeds_taken (ends_back false (text items)) t ≡ true)
       × ((is_continued texts (Some e) ≡ true → ends_back false t ≡ true)
-      × AreOnLine texts (ends_back (ends_back false (text items)) t) es))
-      → AreReady (items ++ e ∷ []) es
+      × AreOnLine texts (ends_back (ends_back false (text items)) t) es)) → AreReady (items ++ e ∷ []) es
   item-ready items e es before item of_e =
       let t = token_bytes texts (written_for texts used macros) e in
       let ends = ap (ends_back false) (text-more items e) ∙ back-append false (text items) t in
@@ -187,8 +179,7 @@ module _ (source : SourceRead) (used : ℕ → List ℕ) (macros : List ℕ)
       by (is_continued texts (last_or None items) && ends_line es)
       (row-whole items places es
       (record { are = before.are; one = before.one; back = before.back; later = more-on_line texts es _ before.later })
-      uses.1)
-      (row-whole [] places es (ready es before.later) uses.1) bare
+      uses.1) (row-whole [] places es (ready es before.later) uses.1) bare
     where
       own : List Passage
       own = row_after texts items places es

@@ -2,10 +2,9 @@
 use Rattle.std.proofs.Common.{rules}
 use Rattle.std.proofs.Common.{arith}
 use Rattle.std.proofs.lemmas.Bool.Decides.{nat_tests}
-use Rattle.std.proofs.Common.{◌≡◌, ℕ, Bool, true, false, List, [], ◌∷◌, ◌++◌, Option, None, Some, refl, map, cond}
+use Rattle.std.proofs.Common.{◌≡◌, ℕ, true, List, [], ◌∷◌, ◌++◌, Option, None, Some, map}
 use Rattle.std.specs.List.{AllByRecursion}
 use Rattle.std.specs.Map.{remove_entry, set_value}
-use Rattle.std.specs.Option.{option_map_or}
 use Rattle.std.specs.Str.{bytes_eq}
 use Rattle.tangle_files.specs.Adding.{add_refusal, is_name, name_refusal, with_file}
 use Rattle.tangle_files.specs.Edited.{edited, spliced, with_lines_edited}
@@ -46,46 +45,24 @@ value-set : (name : List ℕ) (files : FileTable) (lines : List (List ℕ)) → 
     → FilesHaveNoLineFeed files → FilesHaveNoLineFeed (set_value (bytes_eq name) files lines)
 value-set name [] lines of_lines h = h
 value-set name (f ∷ files) lines of_lines h =
-    by (bytes_eq name f.0) (value-set name files lines of_lines (record { names = h.names.1; lines = h.lines.1 }))
-  where
-    by : (b : Bool) → FilesHaveNoLineFeed (set_value (bytes_eq name) files lines)
-        → FilesHaveNoLineFeed (cond b ((f.0, lines) ∷ files) (f ∷ set_value (bytes_eq name) files lines))
-    by true rest = record { names = h.names; lines = (of_lines, h.lines.1) }
-    by false rest = record { names = (h.names.0, rest.names); lines = (h.lines.0, rest.lines) }
+    let rest = value-set name files lines of_lines (record { names = h.names.1; lines = h.lines.1 }) in grind (arith, nat_tests)
 
 found-have : (name : List ℕ) (files : FileTable) (lines : List (List ℕ)) → lines_of files name ≡ Some lines
     → FilesHaveNoLineFeed files → AllByRecursion TextHasNoLineFeed lines
 found-have name [] lines is h = absurd (cc)
-found-have name (f ∷ files) lines is h =
-    by (bytes_eq name f.0) is (λ later. found-have name files lines later (record { names = h.names.1; lines = h.lines.1 }))
-  where
-    by : (b : Bool) → cond b (Some f.1) (lines_of files name) ≡ Some lines
-        → (lines_of files name ≡ Some lines → AllByRecursion TextHasNoLineFeed lines) → AllByRecursion TextHasNoLineFeed lines
-    by true same next = grind (arith, same, h.lines.0)
-    by false same next = next same
+found-have name (f ∷ files) lines is h = grind (arith, nat_tests, found-have name files lines)
 
 lines-edited : (files : FileTable) (name : List ℕ) (splice : List (List ℕ) → List (List ℕ))
     (refused : List (List ℕ) → Option Refusal) → refusal_in files name refused ≡ None
     → ((lines : List (List ℕ)) → refused lines ≡ None → AllByRecursion TextHasNoLineFeed lines
     → AllByRecursion TextHasNoLineFeed (splice lines))
     → FilesHaveNoLineFeed files → FilesHaveNoLineFeed (with_lines_edited files name splice)
-lines-edited files name splice refused none keeps h = by (lines_of files name) refl
-  where
-    by : (found : Option (List (List ℕ))) → lines_of files name ≡ found
-        → FilesHaveNoLineFeed (option_map_or (λ lines. set_value (bytes_eq name) files (splice lines)) found files)
-    by None is = h
-    by (Some lines) is =
-        value-set name files (splice lines) (keeps lines (grind (arith, nat_tests, is, none)) (found-have name files lines is h)) h
+lines-edited files name splice refused none keeps h = search (rules, value-set, found-have)
 
 entry-removed : (name : List ℕ) (files : FileTable) → FilesHaveNoLineFeed files
     → FilesHaveNoLineFeed (remove_entry (bytes_eq name) files)
 entry-removed name [] h = h
-entry-removed name (f ∷ files) h = by (bytes_eq name f.0) (entry-removed name files (record { names = h.names.1; lines = h.lines.1 }))
-  where
-    by : (b : Bool) → FilesHaveNoLineFeed (remove_entry (bytes_eq name) files)
-        → FilesHaveNoLineFeed (cond b files (f ∷ remove_entry (bytes_eq name) files))
-    by true rest = record { names = h.names.1; lines = h.lines.1 }
-    by false rest = record { names = (h.names.0, rest.names); lines = (h.lines.0, rest.lines) }
+entry-removed name (f ∷ files) h = let rest = entry-removed name files (record { names = h.names.1; lines = h.lines.1 }) in search rules
 
 text-has : (text : List ℕ) → text_refusal text ≡ None → TextHasNoLineFeed text
 text-has text none = grind (arith, nat_tests)
@@ -94,8 +71,7 @@ pub edited-have : (files : FileTable) (edit : Edit) → edit_refusal files edit 
     → FilesHaveNoLineFeed files → FilesHaveNoLineFeed (edited files edit)
 edited-have files (edits.Insert file at text) none h =
     search (rules, lines-edited, spliced-have, trimmed-has, text-has, nat_tests)
-edited-have files (edits.Remove file at) none h =
-    search (rules, lines-edited, spliced-have)
+edited-have files (edits.Remove file at) none h = search (rules, lines-edited, spliced-have)
 edited-have files (edits.Replace file at text) none h =
     search (rules, lines-edited, spliced-have, trimmed-has, text-has, nat_tests)
 edited-have files (edits.Create file) none h = file-more files file.items [] (new-name files file.items none) tt h

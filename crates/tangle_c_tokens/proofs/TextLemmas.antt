@@ -61,8 +61,7 @@ operator-border : (element : List ℕ) (d c : ℕ) → (is_number element && num
 operator-border element d c none at = search (rules, or_right, not_from_false)
 
 -- a slash after another byte than a slash
-pub slash-border : (a b : List ℕ) → last_byte_passes (λ d. d == slash) a ≡ false
-    → have_border a (slash ∷ b) ≡ true
+pub slash-border : (a b : List ℕ) → last_byte_passes (λ d. d == slash) a ≡ false → have_border a (slash ∷ b) ≡ true
 slash-border a b ends = search rules
 
 -- A border is where two texts may touch by their kinds, unless a number is before an operator or
@@ -84,12 +83,6 @@ operator-next a b none ends begins = search (rules, or_right)
 
 -- the bytes at the edges of a text without its taken-out line ends
 
-begins-front : (test : ℕ → Bool) → test backslash ≡ false → (t more : List ℕ)
-    → first_byte_passes test t ≡ true →
-    first_byte_passes test (spliced (t ++ more)) ≡ true
-begins-front test none [] more begins = absurd (false≢true begins)
-begins-front test none (b ∷ t) more begins = grind (arith, nat_tests)
-
 ends-after : (test : ℕ → Bool) (b : ℕ) (bs : List ℕ) → last_byte_passes test bs ≡ true
     → last_byte_passes test (b ∷ bs) ≡ true
 ends-after test b bs ends = search rules
@@ -103,21 +96,8 @@ ends-spliced : (test : ℕ → Bool) → test line_feed ≡ false → (t : List 
     → last_byte_passes test (spliced t) ≡ true
 ends-spliced test none [] ends = ends
 ends-spliced test none (b ∷ []) ends = ends
-ends-spliced test none (b ∷ c ∷ bs) ends =
-    by (b == backslash && c == line_feed) refl (ends-spliced test none (c ∷ bs) ends)
-    (λ feed. ends-spliced test none bs (rest bs ends feed))
-  where
-    rest : (bs : List ℕ) → last_byte_passes test (c ∷ bs) ≡ true → (c == line_feed) ≡ true
-        → last_byte_passes test bs ≡ true
-    rest [] ends feed = search rules
-    rest (d ∷ bs) ends feed = cc ends
-
-    by : (taken : Bool) → (b == backslash && c == line_feed) ≡ taken
-        → last_byte_passes test (spliced (c ∷ bs)) ≡ true →
-        ((c == line_feed) ≡ true → last_byte_passes test (spliced bs) ≡ true) →
-        last_byte_passes test (if taken then spliced bs else b ∷ spliced (c ∷ bs)) ≡ true
-    by true is left later = search rules
-    by false is left later = search (rules, ends-after)
+ends-spliced test none (b ∷ c ∷ []) ends = grind (arith, nat_tests)
+ends-spliced test none (b ∷ c ∷ d ∷ bs) ends = grind (arith, nat_tests, ends-spliced test none (d ∷ bs), ends-spliced test none (c ∷ d ∷ bs), ends-after test b)
 
 -- what a number goes on with does not depend on what is after the second text
 same-next : (test : ℕ → Bool) → test backslash ≡ false → (a t more : List ℕ)
@@ -125,15 +105,13 @@ same-next : (test : ℕ → Bool) → test backslash ≡ false → (a t more : L
 same-next test none a [] more begins = absurd (false≢true begins)
 same-next test none a (b ∷ t) more begins = grind (arith, nat_tests)
 
-pub ends-as : (k : TextKind) (a t : List ℕ) → ends_as k t ≡ true
-    → ends_as k (spliced (a ++ t)) ≡ true
+pub ends-as : (k : TextKind) (a t : List ℕ) → ends_as k t ≡ true → ends_as k (spliced (a ++ t)) ≡ true
 ends-as k a t ends = search (rules, ends-spliced, ends-append)
 
 pub kinds-border : (k g : TextKind) (a t more : List ℕ) → kinds_may_touch k g ≡ true
     → ends_as k a ≡ true → begins_as g t ≡ true → last_number_goes_on a t ≡ false
     → have_border a (spliced (t ++ more)) ≡ true
-kinds-border k g a t more may ends begins none =
-    by k g may ends begins (search rules)
+kinds-border k g a t more may ends begins none = by k g may ends begins (search rules)
   where
     b : List ℕ
     b = spliced (t ++ more)
@@ -161,16 +139,14 @@ kinds-border k g a t more may ends begins none =
 keep-first : (w : ℕ) (rest : List ℕ) → (w == backslash) ≡ false → keep_lines (w ∷ []) rest ≡ true
 keep-first w rest other = search rules
 
-pub keep-other : (a : List ℕ) (w : ℕ) (rest : List ℕ) → (w == line_feed) ≡ false
-    → keep_lines a (w ∷ rest) ≡ true
+pub keep-other : (a : List ℕ) (w : ℕ) (rest : List ℕ) → (w == line_feed) ≡ false → keep_lines a (w ∷ rest) ≡ true
 keep-other a w rest other = search rules
 
 pub space-front : (rest : List ℕ) → Follows [] rest (space ∷ rest)
 unfolding is_element is_token is_punctuator
 space-front rest =
     let apart =
-    apart-from (space ∷ []) rest refl refl (keep-first space rest refl)
-    (white-before space (spliced rest) refl) in
+    apart-from (space ∷ []) rest refl refl (keep-first space rest refl) (white-before space (spliced rest) refl) in
     record { read = apart.read; lines = apart.lines }
 
 pub feed-front : (rest : List ℕ) → Follows [] rest (line_feed ∷ rest)
@@ -182,11 +158,11 @@ feed-front rest =
       lines = λ lines. (refl, lines);
     }
 
+pub space-apart : (a rest : List ℕ) → is_whole a ≡ true → IsOneLine a → Follows a (space ∷ rest) (a ++ space ∷ rest)
+space-apart a rest whole one = search (rules, apart-from, keep-other, spliced-other, white-next)
+
 pub space-between : (a rest : List ℕ) → is_whole a ≡ true → IsOneLine a → Follows a rest (a ++ space ∷ rest)
-space-between a rest whole one =
-    follows-more a (space ∷ rest) rest (a ++ space ∷ rest)
-    (search (rules, apart-from, keep-other, spliced-other, white-next))
-    (space-front rest)
+space-between a rest whole one = follows-more a (space ∷ rest) rest _ (space-apart a rest whole one) (space-front rest)
 
 -- the last byte takes out no line feed after it
 abbrev pub keeps_line_feed : List ℕ → Bool
@@ -197,12 +173,13 @@ feed-tokens : (a rest : List ℕ) → is_whole a ≡ true → keeps_line_feed a 
 feed-tokens a rest whole kept = search (rules, tokens-apart, keep-feed, spliced-other, white-next)
 
 -- a line feed after a text that may have more than one line
-pub feed-between : (a rest : List ℕ) → LinesAreWhole a → keeps_line_feed a ≡ true
-    → Follows a rest (a ++ line_feed ∷ rest)
-feed-between a rest lines kept = record {
-  read = feed-tokens a rest (lines-whole a lines) kept ∙ ap (λ ts. tokens a ++ ts) (feed-front rest).read;
-  lines = lines-feed a rest kept lines;
-}
+
+pub feed-apart : (a rest : List ℕ) → LinesAreWhole a → keeps_line_feed a ≡ true → Follows a (line_feed ∷ rest) (a ++ line_feed ∷ rest)
+feed-apart a rest lines kept =
+    record { read = feed-tokens a rest (lines-whole a lines) kept; lines = λ more. lines-feed a rest kept lines more.1 }
+
+pub feed-between : (a rest : List ℕ) → LinesAreWhole a → keeps_line_feed a ≡ true → Follows a rest (a ++ line_feed ∷ rest)
+feed-between a rest lines kept = follows-more a (line_feed ∷ rest) rest _ (feed-apart a rest lines kept) (feed-front rest)
 
 -- a line end that is taken out
 
@@ -242,8 +219,7 @@ pub record IsWholeLine (text : List ℕ) : Type 0 where
   pub kept : keep_lines text (line_feed ∷ []) ≡ true
 
 abbrev pub IsMarkText : List ℕ → Type 0
-IsMarkText text =
-    (text ≡ []) ⊎ ((line : List ℕ) × (text ≡ line ++ line_feed ∷ []) × IsWholeLine line)
+IsMarkText text = (text ≡ []) ⊎ ((line : List ℕ) × (text ≡ line ++ line_feed ∷ []) × IsWholeLine line)
 
 pub mark-between : (m rest : List ℕ) → IsMarkText m → Follows m rest (m ++ rest)
 mark-between m rest (inl none) = rw none (record { read = refl; lines = λ lines. lines })

@@ -8,7 +8,6 @@ use Rattle.tangle_lines.specs.Reading.{SourceLine}
 use Rattle.tangle_lexer.specs.declared.tokens.Token.{Token}
 use Rattle.tangle_lexer.specs.declared.tokens.Token.TheVariants as token
 use Rattle.tangle_scan.specs.declared.items.Item.{Item}
-use Rattle.tangle_scan.specs.declared.items.Item.TheVariants as item
 use Rattle.tangle_scan.specs.Rules.{at_line_front, blanks, is_continued, part_items, part_tokens, texts_of}
 use Rattle.tangle_scan.specs.Passes.{TurnSoFar, counted_after_token, items_at, items_by_origin, line_item, turn_after, turn_after_line_end}
 use Rattle.tangle_scan.specs.LineTruth.{counted_after_line_end}
@@ -16,11 +15,10 @@ use Rattle.tangle_scan.specs.Passes.{is_whole}
 use Rattle.tangle_scan.specs.Texts.{item_uses}
 use Rattle.tangle_scan.proofs.lemmas.ItemsByOrigin.{by-line_item, part_items-by_origin}
 use Rattle.tangle_names.specs.declared.Resolved.{Resolved}
-use Rattle.tangle_names.specs.declared.Resolved.TheVariants as resolved
 use Rattle.tangle_names.specs.NameTable.{TableRead}
 use Rattle.tangle_bodies.specs.Flat.{Symbol}
 use Rattle.tangle_bodies.specs.Shapes.{item_names}
-use Rattle.tangle_bodies.specs.WebShapes.{resolved_at, shape_item, use_of}
+use Rattle.tangle_bodies.specs.WebShapes.{shape_item, use_of}
 use Rattle.tangle_expansion.specs.Numbers.{NumbersRead, expansion_bytes}
 use Rattle.tangle_expansion.specs.PieceBytes.{resolved_bytes, used_bytes}
 use Rattle.tangle_c_tokens.proofs.TextLemmas.{IsWholeLine}
@@ -42,11 +40,6 @@ module _ (lines : List SourceLine) where
       flat_map-append item_uses (items_at lines e) rest
       ∙ grind (arith, of-items (Some e) (turn_after (texts_of lines) at e) (counted_after_token lines counted e) es)
 
-  blank-uses : (b : Bool) (es : List Token) →
-      flat_map token_uses ((if b then token.White ∷ [] else []) ++ es) ≡ flat_map token_uses es
-  blank-uses true es = refl
-  blank-uses false es = refl
-
   of-blanks : (before : Option Token) (white : Bool) (es : List Token)
       → flat_map token_uses (blanks (texts_of lines) before white es) ≡ flat_map token_uses es
   of-blanks before white [] = grind arith
@@ -57,8 +50,7 @@ module _ (lines : List SourceLine) where
   by-origin : (at : TurnSoFar) (counted : Origin) (es : List Token)
       → flat_map item_uses (items_by_origin lines None at counted (blanks (texts_of lines) None false es))
       ≡ flat_map token_uses es
-  by-origin at counted es =
-      of-items None at counted (blanks (texts_of lines) None false es) ∙ of-blanks None false es
+  by-origin at counted es = of-items None at counted (blanks (texts_of lines) None false es) ∙ of-blanks None false es
 
   -- the items of a part have the uses of its tokens
   part-uses : (line : ℕ) (es : List Token)
@@ -77,17 +69,12 @@ module _ (lines : List SourceLine) where
 
     use-whole : (rest : List (List ℕ)) (r : Resolved) → AllByRecursion IsWholeName (item_names (use_of table r) ++ rest)
         → IsWholeLine (resolved_bytes numbers table used r) × AllByRecursion IsWholeName rest
-    use-whole rest (resolved.Name id) names = names
-    use-whole rest resolved.NoFullName names = (record { lines = (refl, tt); kept = refl }, names)
-    use-whole rest resolved.Ambiguous names = (record { lines = (refl, tt); kept = refl }, names)
+    use-whole rest r names = search rules
 
     names-whole : (items : List Item) → AllByRecursion IsWholeName (names_in items)
         → AllByRecursion IsWholeUse (flat_map item_uses items)
     names-whole [] names = tt
-    names-whole (item.UseOf occurrence ∷ items) names =
-        let both = use-whole (names_in items) (resolved_at table occurrence) names in
-        (both.0, names-whole items both.1)
-    names-whole (x ∷ items) names = assumption (names-whole items names)
+    names-whole (x ∷ items) names = search (rules, use-whole, names-whole items)
 
     -- what is written for the uses of a part is whole, if that of the names of its shape is
     pub part-uses-whole : (line : ℕ) (es : List Token) → AllByRecursion IsWholeName (names_in (part_items lines line es))

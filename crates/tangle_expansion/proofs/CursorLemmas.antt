@@ -77,17 +77,9 @@ module _ (numbers : NumbersRead) (body : NodeBody) (at next : Cursor) (t : ItemT
       ∙ ap (λ l. l ++ expansion_bytes numbers rest)
       (between_more body.bytes.items start at.start t.size next.start (bytes_fit body) low after.start)
 
-  alone : (k : ItemKind) → has_bytes_alone k ≡ true → (used : List (List Symbol)) (rest : List (List Symbol) → List Symbol)
-      → with_used k (own k) used rest ≡ rest used
-  alone k e used rest = search rules
-
   -- bytes alone
   pub passes_bytes : has_bytes_alone t.kind ≡ true → Passes (λ k. symbols_from body next)
   passes_bytes e used = search (rules, passes)
-
-  no_use : (k : ItemKind) → (k ≡ tag.Use → ⊥) → (used : List (List Symbol)) (rest : List (List Symbol) → List Symbol)
-      → with_used k (own k) used rest ≡ own k ++ rest used
-  no_use k none used rest = search rules
 
   -- symbols of the tag's own
   pub passes_symbols : (t.kind ≡ tag.Use → ⊥) → (used : List (List Symbol))

@@ -1,5 +1,4 @@
 -- In a whole output, each byte of an item is at its own origin.
-use Rattle.std.proofs.Common.{rules}
 use Rattle.std.proofs.Common.{◌∙◌, drop-drop, get_or, sym, arith}
 use Rattle.std.proofs.Common.{◌≡◌, ℕ, ◌+◌, zero, suc, Bool, true, false, List, [], ◌∷◌, ◌++◌, map, drop, get_or}
 use Rattle.std.proofs.Common.{Option, None, Some, ap, subst, arith}
@@ -21,13 +20,11 @@ use Rattle.tangle_names.specs.declared.Resolved.TheVariants.{Name}
 use Rattle.std.proofs.Common.{refl}
 use Rattle.tangle_names.specs.NameTable.{table_of}
 use Rattle.tangle_bodies.specs.Shapes.{Title, Named, ShapeItem}
-use Rattle.tangle_bodies.specs.Flat.{Symbol, Byte, Opening, MarkOf, items_flat, pieces_flat, flat}
+use Rattle.tangle_bodies.specs.Flat.{Symbol, Byte, items_flat, pieces_flat, flat}
 use Rattle.tangle_bodies.specs.WebShapes.{is_piece_of, use_of, resolved_at, shape_item, shape_of, shapes}
 use Rattle.tangle_bodies.proofs.InsideLemmas.{table_inside}
-use Rattle.tangle_expansion.specs.Limits.{flat_of}
 use Rattle.tangle_expansion.proofs.NumberLemmas.{node_numbers_of}
 use Rattle.tangle_expansion.specs.Numbers.{NumbersRead, no_origin, no_numbers, numbers_of}
-use Rattle.tangle_expansion.specs.Numbers.{expansion_bytes}
 use Rattle.tangle_expansion.specs.Numbers.{node_numbers, numbers_at, numbers_of_piece}
 use Rattle.tangle_scan.specs.Texts.{item_origins}
 use Rattle.tangle_expansion.specs.Location.{ByteClass, OfItem, Other, border_of, origin_after, AreAtTheirOrigins}
@@ -144,28 +141,6 @@ module _ (web : WebRead) (lines : List SourceLine)
   abbrev of_node : Title → List PieceRead → List PieceRead
   of_node node pieces = filter (is_piece_of (table_of web) node) pieces
 
-  -- one piece, before others
-  piece_is_located : (node : Title) (piece : ℕ) (p : PieceRead) (ss : List Location)
-      (ys : List Symbol) (ds : List ByteClass)
-      → get_or (numbers_at numbers node piece).origins 0 no_origin ≡ p.origin
-      → drop 1 (numbers_at numbers node piece).origins ≡ flat_map item_origins p.items
-      → IsAtItsLine lines p.origin p.items ss
-      → ((now : Bool) (r : Option Origin) → AreAtTheirOrigins numbers now r ys ds)
-      → (read : Bool) (q : Option Origin)
-      → AreAtTheirOrigins numbers read q
-      (Opening node piece ∷ MarkOf node piece 0
-      ∷ items_flat used node piece 0 (map (shape_item web.texts (table_of web)) p.items) ++ ys)
-      (Other SameRegion ∷ Other SameRegion
-      ∷ items_classes (table_of web) used_classes web.texts lines [] ss p.items ++ ds)
-  piece_is_located node piece p ss ys ds first origins own more read q = (
-    tt,
-    (
-      tt,
-      located-append numbers read _ _ _ ys ds
-          (items_are_located node piece 0 read _ [] p.items ss origins (own read _ (λ is. rw (is, first) refl))) more,
-    ),
-  )
-
   -- the pieces of a node, from the one with this number on
   pieces_are_located : (node : Title) (piece : ℕ) (pieces : List PieceRead) (locations : List (List Location))
       → drop piece (node_numbers numbers node) ≡ map numbers_of_piece (of_node node pieces)
@@ -197,9 +172,15 @@ module _ (web : WebRead) (lines : List SourceLine)
       by true is more =
           let next =
           next_of no_numbers (node_numbers numbers node) piece (numbers_of_piece p) (map numbers_of_piece (of_node node pieces)) is in
-          piece_is_located node piece p e _ _
-          (ap (λ n. get_or n.origins 0 no_origin) next.0) (ap (λ n. drop 1 n.origins) next.0) own.0 (more (piece + 1) next.1)
-          read q
+          let first : get_or (numbers_at numbers node piece).origins 0 no_origin ≡ p.origin =
+          ap (λ n. get_or n.origins 0 no_origin) next.0 in (
+            tt,
+            (
+              tt,
+              located-append numbers read _ _ _ _ _ (items_are_located node piece 0 read _ [] p.items e
+                  (ap (λ n. drop 1 n.origins) next.0) (own.0 read _ (λ now. rw (now, first) refl))) (more (piece + 1) next.1),
+            ),
+          )
       by false is more = more piece is read q
 
 -- the expansion of a node, with any fuel and from any counted origin on

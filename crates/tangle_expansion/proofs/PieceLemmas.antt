@@ -16,8 +16,7 @@ use Rattle.tangle_names.specs.NameTable.{TableRead}
 use Rattle.tangle_bodies.specs.Shapes.{Title, ShapeItem}
 use Rattle.tangle_bodies.specs.Flat.{Symbol, MarkOf, items_flat, pieces_flat}
 use Rattle.tangle_bodies.specs.WebShapes.{resolved_at, shape_item, shape_of, use_of}
-use Rattle.tangle_files.specs.declared.marks.MarkMode.{MarkMode}
-use Rattle.tangle_expansion.specs.Numbers.{NumbersRead, symbol_bytes, closing_bytes, expansion_bytes, mark_bytes}
+use Rattle.tangle_expansion.specs.Numbers.{NumbersRead, symbol_bytes, closing_bytes, expansion_bytes}
 use Rattle.tangle_scan.specs.Texts.{item_origins}
 use Rattle.tangle_expansion.specs.Numbers.{mark_bytes_at, no_origin, no_numbers, node_numbers, numbers_at, numbers_of_piece}
 use Rattle.tangle_expansion.specs.Numbers.{PieceNumbersRead, opening_bytes, origin_of_mark}
@@ -33,10 +32,6 @@ piece_then : (opening mark inner after whole items closing rest : List ℕ)
     → whole ≡ inner ++ after → inner ≡ items ++ closing → after ≡ rest
     → opening ++ (mark ++ whole) ≡ opening ++ mark ++ items ++ closing ++ rest
 piece_then opening mark inner after whole items closing rest e f g = rw (e, f, g) (simp append_assoc)
-
-line_feed_first : (marks : MarkMode) (file : List ℕ) (line : ℕ)
-    → mark_bytes marks file line ≡ line_feed ∷ drop 1 (mark_bytes marks file line)
-line_feed_first marks file line = search rules
 
 module _ (numbers : NumbersRead) where
   mark_then : (node : Title) (piece mark : ℕ) (origin : Origin) (rest : List Symbol)

@@ -1,7 +1,8 @@
 -- What a list contains, after a map or a filter, too.
+use Rattle.std.proofs.lemmas.Bool.{cond_both}
 use Rattle.std.proofs.Common.{rules}
 use Rattle.std.proofs.lemmas.Bool.Decides.{nat_tests}
-use Rattle.std.proofs.Common.{◌≡◌, ◌⊎◌, Bool, true, false, cond, List, [], ◌∷◌, map, filter, refl}
+use Rattle.std.proofs.Common.{◌≡◌, ◌⊎◌, Bool, true, List, [], ◌∷◌, map, filter, refl}
 use Rattle.std.proofs.Common.{inl, inr, arith, Contains}
 use Rattle.std.proofs.lemmas.List.{get_or-map, length-map}
 use Rattle.std.proofs.lemmas.List.Elements.{Contains-append_right}
@@ -24,12 +25,10 @@ pub into_filter : {X : Type 0} (q : X → Bool) (xs : List X) (t : X)
 into_filter q [] t c h = c
 into_filter q (x ∷ xs) t c h = elim (cons_cases x xs t c) [
   | inl e ↦ search rules
-  | inr d ↦ keep (q x) (into_filter q xs t d h)
+  | inr d ↦
+      let m = into_filter q xs t d h in
+      cond_both (q x) (x ∷ filter q xs) (filter q xs) (λ l. Contains l t) (λ _. there x (filter q xs) t m) (λ _. m)
 ]
-  where
-    keep : (b : Bool) → Contains (filter q xs) t → Contains (cond b (x ∷ filter q xs) (filter q xs)) t
-    keep true m = search (rules, there)
-    keep false m = search rules
 
 pub out_of_filter : {X : Type 0} (q : X → Bool) (xs : List X) (t : X)
     → Contains (filter q xs) t → Contains xs t × (q t ≡ true)

@@ -64,10 +64,6 @@ first_law os id h =
     let found = some_of (find (resolves_to os name) os) (occur os name (Contains-get_or (names_in_order os) id [] h)) in
     grind (arith, nat_tests, find_at, resolves_as os id found.0 h, found_passes, resolves_not os id, none_before)
 
-second : (a b : Bool) → (a && b) ≡ false → a ≡ true → b ≡ false
-second true b h is = h
-second false b h is = absurd (cc)
-
 pub file_law : (os : List OccurrenceRead) (id : ℕ) → id < length (names_in_order os)
     → IsFirstAsFileIfAny os id (first_file_number os (get_or (names_in_order os) id []))
 file_law os id h = by (nat_lt (position_or_len as_file os) (length os)) refl

@@ -30,39 +30,18 @@ use Rattle.tangle_names.proofs.TableLemmas.{any-same, begins-known}
 -- one more item at the front
 numbers-cons : {X : Type 0} (q : X → Bool) (k : ℕ) (x : X) (xs : List X)
     → numbers_from q k (x ∷ xs) ≡ cond (q x) (k ∷ numbers_from q (k + 1) xs) (numbers_from q (k + 1) xs)
-numbers-cons {X} q k x xs = by (q x)
-  where
-    rest : List (ℕ × X)
-    rest = filter (λ (e : ℕ × X). q e.1) (enumerate_from (k + 1) xs)
-
-    by : (b : Bool)
-        → map (λ (e : ℕ × X). e.0) (cond b ((k, x) ∷ rest) rest)
-        ≡ cond b (k ∷ map (λ (e : ℕ × X). e.0) rest) (map (λ (e : ℕ × X). e.0) rest)
-    by true = refl
-    by false = refl
+numbers-cons q k x xs = grind (arith, nat_tests)
 
 -- one more item at the end
 numbers-push : {X : Type 0} (q : X → Bool) (k : ℕ) (xs : List X) (x : X)
     → numbers_from q k (xs ++ x ∷ []) ≡ numbers_from q k xs ++ cond (q x) ((k + length xs) ∷ []) []
 numbers-push q k [] x = numbers-cons q k x [] ∙ ap {B = List ℕ} (λ n. cond (q x) (n ∷ []) []) (sym (add-zero k))
-numbers-push q k (y ∷ ys) x =
-    let moved : k + 1 + length ys ≡ k + suc (length ys) = omega arith in
-    let rest = numbers-push q (k + 1) ys x ∙ ap (λ n. numbers_from q (k + 1) ys ++ cond (q x) (n ∷ []) []) moved in
-    search rules
-  where
-    by : (b : Bool)
-        → cond b (k ∷ (numbers_from q (k + 1) ys ++ cond (q x) ((k + suc (length ys)) ∷ []) []))
-        (numbers_from q (k + 1) ys ++ cond (q x) ((k + suc (length ys)) ∷ []) [])
-        ≡ cond b (k ∷ numbers_from q (k + 1) ys) (numbers_from q (k + 1) ys)
-        ++ cond (q x) ((k + suc (length ys)) ∷ []) []
-    by true = search rules
-    by false = search rules
+numbers-push q k (y ∷ ys) x = grind (arith, nat_tests, numbers-cons, numbers-push q (k + 1) ys x)
 
 -- one more item
 pub numbers-more : {X : Type 0} (q : X → Bool) (xs : List X) (i : ℕ) (d : X) → i < length xs
     → numbers_from q 0 (take (i + 1) xs) ≡ numbers_from q 0 (take i xs) ++ cond (q (get_or xs i d)) (i ∷ []) []
-numbers-more q xs i d h =
-    ap (numbers_from q 0) (take_more xs i d h) ∙ (search (rules, numbers-push))
+numbers-more q xs i d h = ap (numbers_from q 0) (take_more xs i d h) ∙ (search (rules, numbers-push))
 
 pub listed-step : {X : Type 0} (q : X → Bool) (xs : List X) (i : ℕ) (d : X) (b : Bool) (before after : List ℕ)
     → i < length xs → b ≡ q (get_or xs i d)
@@ -75,20 +54,17 @@ numbers-agree : {X Y : Type 0} (q : X → Bool) (p : Y → Bool) (k : ℕ) (xs :
     → length xs ≡ length ys
     → ((i : ℕ) → i < length ys → q (get_or xs i d) ≡ p (get_or ys i e)) → numbers_from q k xs ≡ numbers_from p k ys
 numbers-agree q p k [] [] d e long at = refl
-numbers-agree q p k [] (y ∷ ys) d e long at = absurd (omega arith)
-numbers-agree q p k (x ∷ xs) [] d e long at = absurd (omega arith)
 numbers-agree q p k (x ∷ xs) (y ∷ ys) d e long at =
     let short : length xs ≡ length ys = omega arith in
     let first : q x ≡ p y = at 0 (omega arith) in
     let rest = numbers-agree q p (k + 1) xs ys d e short (λ i h. at (suc i) (omega arith)) in
     numbers-cons q k x xs ∙ ((λ i. cond (first i) (k ∷ rest i) (rest i)) ∙ sym (numbers-cons p k y ys))
+numbers-agree q p k xs ys d e long at = absurd (omega arith)
 
 numbers-map : {X Y : Type 0} (q : Y → Bool) (f : X → Y) (k : ℕ) (xs : List X)
     → numbers_from q k (map f xs) ≡ numbers_from (λ x. q (f x)) k xs
 numbers-map q f k [] = refl
-numbers-map q f k (x ∷ xs) =
-    numbers-cons q k (f x) (map f xs)
-    ∙ (ap (λ r. cond (q (f x)) (k ∷ r) r) (numbers-map q f (k + 1) xs) ∙ sym (numbers-cons (λ x. q (f x)) k x xs))
+numbers-map q f k (x ∷ xs) = grind (arith, nat_tests, numbers-cons, numbers-map q f (k + 1) xs)
 
 -- each number is that of an item
 pub numbers_inside : {X : Type 0} (q : X → Bool) (xs : List X) → All (λ n. n < length xs) (numbers_from q 0 xs)

@@ -1,7 +1,7 @@
 -- Positions in a list, and the number of a name.
 use Rattle.std.proofs.Common.{rules}
-use Rattle.std.proofs.Common.{◌≡◌, ◌≤◌, ◌+◌, ℕ, Bool, cond, not, ltb, List, [], ◌∷◌}
-use Rattle.std.proofs.Common.{length, map, refl, ap, position, Option, Some, None}
+use Rattle.std.proofs.Common.{◌≡◌, ◌≤◌, ◌+◌, ℕ, Bool, cond, not, List, [], ◌∷◌}
+use Rattle.std.proofs.Common.{length, map, refl, ap, position, Option}
 use Rattle.std.specs.Prelude.{unwrap_or}
 use Rattle.std.specs.List.{position_or_len}
 use Rattle.std.specs.Str.{bytes_eq}
@@ -17,9 +17,6 @@ position_or_len-map q f (x ∷ xs) = ap (λ n. cond (not (q (f x))) (1 + n) 0) (
 pub position-map : {X Y : Type 0} (q : Y → Bool) (f : X → Y) (xs : List X)
     → position q (map f xs) ≡ position (λ x. q (f x)) xs
 position-map q f xs = cc (position_or_len-map q f xs, length-map xs f)
-
-chosen : (n size : ℕ) → n ≤ size → unwrap_or (cond (ltb n size) (Some n) None) size ≡ n
-chosen n size most = search rules
 
 pub number_is : (names : List NameText) (text : NameText) (found : Option ℕ) (len : ℕ)
     → found ≡ position (bytes_eq text) names → len ≡ length names

@@ -28,8 +28,7 @@ use Rattle.tangle_names.proofs.TableLemmas.{Distinct, distinct_names, from_fold,
 each_other : (t : NameText) (ts : List NameText)
     → list_any (bytes_eq t) ts ≡ false → AllByRecursion (λ u. bytes_eq t u ≡ false) ts
 each_other t [] h = tt
-each_other t (u ∷ us) h =
-    grind (arith, nat_tests, each_other t us)
+each_other t (u ∷ us) h = grind (arith, nat_tests, each_other t us)
 
 is_distinct : (ts : List NameText) → Distinct ts → IsDistinct bytes_eq ts
 unfolding IsDistinct

@@ -1,22 +1,14 @@
 -- One more occurrence, and one more name.
 use Rattle.std.proofs.Common.{rules}
 use Rattle.std.proofs.Common.{◌≡◌, ◌<◌, ◌≤◌, ◌∙◌, ℕ, Bool, true, false, ◌||◌, ◌&&◌}
-use Rattle.std.proofs.Common.{List, [], length, map, get_or, refl, sym}
-use Rattle.std.proofs.lemmas.List.{get_or-map}
+use Rattle.std.proofs.Common.{List, [], length, get_or, refl, sym}
 use Rattle.std.proofs.lemmas.Option.{slice_get_past}
 use Rattle.tangle_names.specs.declared.Resolved.{Resolved}
 use Rattle.tangle_scan.specs.Web.{WebRead}
-use Rattle.tangle_lexer.specs.Occurrences.{OccurrenceRead}
 use Rattle.std.proofs.Math.Bool.{or-false}
 use Rattle.tangle_names.specs.Names.{NameText}
 use Rattle.tangle_names.specs.Numbers.{is_number, Flags, fault_of_number}
 use Rattle.tangle_names.specs.Numbers.{warning}
-
-resolved_at : (f : OccurrenceRead → Resolved) (os : List OccurrenceRead)
-    (rs : List Resolved) (i : ℕ) (o : OccurrenceRead) (r : Resolved)
-    → i < length os → o ≡ get_or os i o
-    → rs ≡ map f os → r ≡ get_or rs i r → r ≡ f o
-resolved_at f os rs i o r h read all at = search (rules, get_or-map)
 
 pub flags-made : (old new : List Bool) (r s : Resolved) (b : Bool)
     → Flags old new true r → b ≡ true → r ≡ s → Flags old new b s

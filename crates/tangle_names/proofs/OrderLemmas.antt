@@ -21,7 +21,5 @@ begins-above (c ∷ p) (b ∷ t) begun = step_above b c (slice_cmp nat_cmp t p) 
 pub begins-between : (p t u : NameText) → is_lt (slice_cmp nat_cmp t p) ≡ false → is_gt (slice_cmp nat_cmp t u) ≡ false
     → begins_with p u ≡ true → begins_with p t ≡ true
 begins-between [] t u low high begun = refl
-begins-between (c ∷ p) [] u low high begun = absurd (cc)
-begins-between (c ∷ p) (b ∷ t) [] low high begun = absurd (cc)
-begins-between (c ∷ p) (b ∷ t) (a ∷ u) low high begun =
-    grind (arith, nat_tests, begins-between p t u)
+begins-between (c ∷ p) (b ∷ t) (a ∷ u) low high begun = grind (arith, nat_tests, begins-between p t u)
+begins-between p t u low high begun = absurd (cc)

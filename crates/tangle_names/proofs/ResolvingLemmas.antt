@@ -1,6 +1,6 @@
 -- The name that is meant is among the names, and keeps its number.
 use Rattle.std.proofs.Common.{rules}
-use Rattle.std.proofs.Common.{◌≡◌, ◌+◌, ◌∙◌, ◌||◌, ℕ, Bool, true, false, cond, List, [], ◌∷◌, ◌++◌, length, map}
+use Rattle.std.proofs.Common.{◌≡◌, ◌+◌, ◌∙◌, ◌||◌, ℕ, Bool, true, cond, List, [], ◌∷◌, ◌++◌, length, map}
 use Rattle.std.proofs.Common.{take, fold, get_or, eqb, refl, ap, arith, ◌<◌, Contains}
 use Rattle.std.specs.List.{list_any, position_or_len}
 use Rattle.std.specs.Str.{bytes_eq}
@@ -11,7 +11,7 @@ use Rattle.std.proofs.lemmas.List.Folds.{list_any-append, position_or_len_push}
 use Rattle.std.proofs.lemmas.List.Sums.{fold-append}
 use Rattle.tangle_names.specs.declared.Resolved.{Resolved}
 use Rattle.tangle_names.specs.declared.Resolved.TheVariants.{Name}
-use Rattle.tangle_names.specs.Names.{NameText, Meaning, Nothing, One, Several}
+use Rattle.tangle_names.specs.Names.{NameText, Meaning, One}
 use Rattle.tangle_names.specs.Resolving.{names_of, resolved_meaning, with_name}
 use Rattle.tangle_names.specs.Sorted.{meaning_of}
 use Rattle.tangle_names.specs.declared.sorted.Meaning.{Meaning as Found}
@@ -28,11 +28,6 @@ kept-fold : (q : NameText → Bool) (ms : List Meaning) (ts : List NameText)
     → list_any q ts ≡ true → list_any q (fold with_name ts ms) ≡ true
 kept-fold q [] ts h = h
 kept-fold q (m ∷ ms) ts h = kept-fold q ms (with_name ts m) (kept-with q ts m h)
-
-last_or : (a b : Bool) → b ≡ true → (a || (b || false)) ≡ true
-last_or true b h = refl
-last_or false true h = refl
-last_or false false h = absurd (cc)
 
 added : (ts : List NameText) (t : NameText) → list_any (bytes_eq t) (with_name ts (One t)) ≡ true
 added ts t = search (rules, list_any-append)
@@ -70,9 +65,8 @@ resolved_meaning-own ts m = search (rules, number-own)
 
 resolved_meaning-kept : (ms : List Meaning) (m n : Meaning)
     → Contains ms n → resolved_meaning (with_name (names_of ms) m) n ≡ resolved_meaning (names_of ms) n
-resolved_meaning-kept ms m Nothing c = refl
 resolved_meaning-kept ms m (One t) c = ap Name (number-with (names_of ms) m t (meant-fold t ms [] c))
-resolved_meaning-kept ms m Several c = refl
+resolved_meaning-kept ms m n c = refl
 
 map-agree : (f g : Meaning → Resolved) (ms : List Meaning)
     → ((m : Meaning) → Contains ms m → f m ≡ g m) → map f ms ≡ map g ms

@@ -5,7 +5,7 @@ use Rattle.std.proofs.Common.{◌≡◌, ◌≢◌, ◌≤◌, ◌<◌, ◌+◌,
 use Rattle.std.proofs.Common.{◌∷◌, length, get_or, filter, refl, ap, sym, subst, inl, inr, arith, Contains}
 use Rattle.std.specs.Borrow.{Bor}
 use Rattle.std.specs.List.{dedup, dedup_from}
-use Rattle.std.specs.Ordering.{nat_cmp, is_lt, is_le, is_gt, ordering_reverse}
+use Rattle.std.specs.Ordering.{nat_cmp, is_lt, is_le, is_gt}
 use Rattle.std.specs.declared.cmp.Ordering.{Ordering}
 use Rattle.std.specs.declared.cmp.Ordering.TheVariants.{Less, Equal, Greater}
 use Rattle.std.specs.Cmp.Lexicographic.{slice_cmp, texts_ties}
@@ -37,25 +37,15 @@ at_text sorted k d h = get_or-map (λ (b : Bor NameText). b.now) sorted k d [] h
 -- of two names the first is below the second
 pub rising : (texts : List NameText) → IsInOrder texts → (i j : ℕ)
     → i < j → j < length texts → slice_cmp nat_cmp (get_or texts i []) (get_or texts j []) ≡ Less
-rising [] up i j low high = absurd (omega arith)
-rising (t ∷ ts) up zero zero low high = absurd (omega arith)
 rising (t ∷ ts) up zero (suc j) low high =
     let inside : j < length ts = omega arith in
     All-contains (λ u. slice_cmp nat_cmp t u ≡ Less) ts (get_or ts j [])
     (All-after_first (slice_cmp nat_cmp) t ts up) (Contains-get_or ts j [] inside)
-rising (t ∷ ts) up (suc i) zero low high = absurd (omega arith)
-rising (t ∷ ts) up (suc i) (suc j) low high =
-    grind (arith, nat_tests, rising ts, sorted_tail)
+rising (t ∷ ts) up (suc i) (suc j) low high = grind (arith, nat_tests, rising ts, sorted_tail)
+rising texts up i j low high = absurd (omega arith)
 
 alike : (t : NameText) → slice_cmp nat_cmp t t ≡ Equal
-alike t = by (slice_cmp nat_cmp t t) refl
-  where
-    by : (r : Ordering) → slice_cmp nat_cmp t t ≡ r → slice_cmp nat_cmp t t ≡ Equal
-    by Less is =
-        absurd (let clash : Less ≡ Greater = sym is ∙ (nat_list_cmp_total.antisymm t t ∙ ap ordering_reverse is) in cc)
-    by Equal is = is
-    by Greater is =
-        absurd (let clash : Greater ≡ Less = sym is ∙ (nat_list_cmp_total.antisymm t t ∙ ap ordering_reverse is) in cc)
+alike t = grind (arith, nat_tests, nat_list_cmp_total.antisymm t t)
 
 -- in an ordered list no text is above a later one, nor above itself
 pub no_higher : (texts : List NameText) → IsInOrder texts → (i j : ℕ)
@@ -121,13 +111,7 @@ several_found full texts p first same up begun more =
 gathers_at : (texts : List NameText) (i : ℕ) → IsInOrder texts → i < length texts → Gathers texts (get_or texts i []) i
 gathers_at texts i up inside = gathers texts (get_or texts i []) i up
     (λ k low h. ap is_lt (rising texts up k i low inside))
-    (λ k low h. turned (slice_cmp nat_cmp (get_or texts i []) (get_or texts k [])) _
-    (nat_list_cmp_total.antisymm (get_or texts k []) (get_or texts i [])) (no_higher texts up i k low h))
-  where
-    turned : (r s : Ordering) → s ≡ ordering_reverse r → is_gt r ≡ false → is_lt s ≡ false
-    turned Less s e h = ap is_lt e
-    turned Equal s e h = ap is_lt e
-    turned Greater s e h = absurd (cc)
+    (λ k low h. grind (arith, nat_tests, nat_list_cmp_total.antisymm (get_or texts k []), no_higher texts up i k low h))
 
 pub begins-next : (texts : List NameText) (i : ℕ)
     → IsInOrder texts → i < length texts → BeginsAt texts (get_or texts i []) (i + 1)
@@ -218,14 +202,8 @@ is_parted sorted p up i j d low high is =
     search (rules, nat_list_cmp_total)
   where
     at_most : (r : Ordering) → is_gt r ≡ false → is_le r ≡ true
-    at_most Less h = refl
-    at_most Equal h = refl
     at_most Greater h = absurd (cc)
-
-    less : (r : Ordering) → is_lt r ≡ true → r ≡ Less
-    less Less h = refl
-    less Equal h = absurd (cc)
-    less Greater h = absurd (cc)
+    at_most r h = refl
 
 pub gathers_from : (sorted : List (Bor NameText)) (p : NameText) (first : ℕ) (d : Bor NameText)
     → IsInOrder (borrowed_names sorted)

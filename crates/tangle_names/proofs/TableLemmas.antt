@@ -17,7 +17,7 @@ use Rattle.std.proofs.lemmas.Simd.{map-map}
 use Rattle.tangle_names.specs.declared.first_numbers.Counted.TheVariants.{All, Files}
 use Rattle.tangle_names.specs.declared.Resolved.{Resolved}
 use Rattle.tangle_lexer.specs.Occurrences.{OccurrenceRead}
-use Rattle.tangle_names.specs.Names.{NameText, Meaning, Nothing, One, Several, full_names, meaning, means, only_with}
+use Rattle.tangle_names.specs.Names.{NameText, Meaning, One, full_names, meaning, means, only_with}
 use Rattle.tangle_names.specs.Names.{prefix, begins_with}
 use Rattle.tangle_names.specs.Resolving.{meanings, names_of, names_in_order, resolve, resolved_meaning, resolves_to}
 use Rattle.tangle_names.specs.Resolving.{with_name, first_file_number, first_number}
@@ -53,11 +53,6 @@ distinct-fold (m ∷ ms) ts d = distinct-fold ms (with_name ts m) (distinct-with
 pub distinct_names : (ms : List Meaning) → Distinct (names_of ms)
 distinct_names ms = distinct-fold ms [] tt
 
-later : (b : Bool) (n j : ℕ) (c : Bool)
-    → (b ≡ true → c ≡ false) → (b ≡ false → (n == j) ≡ c) → (cond (not b) (1 + n) 0 == suc j) ≡ c
-later true n j c first rest = search rules
-later false n j c first rest = search rules
-
 other_text : (n u : NameText) (xs : List NameText) (j : ℕ)
     → j < length xs → bytes_eq u n ≡ true → list_any (bytes_eq n) xs ≡ false → bytes_eq (get_or xs j []) u ≡ false
 other_text n u xs j inside same none = false_from_ne_true _ (λ found.
@@ -71,8 +66,7 @@ other_text n u xs j inside same none = false_from_ne_true _ (λ found.
 is_number-resolved_meaning : (names : List NameText) (u : NameText) (id : ℕ) → Distinct names → id < length names
     → is_number id (resolved_meaning names (One u)) ≡ bytes_eq (get_or names id []) u
 is_number-resolved_meaning [] u id d h = absurd (omega arith)
-is_number-resolved_meaning (n ∷ ns) u zero d h =
-    search rules
+is_number-resolved_meaning (n ∷ ns) u zero d h = search rules
 is_number-resolved_meaning (n ∷ ns) u (suc j) d h =
     grind (arith, nat_tests, other_text n u ns j, is_number-resolved_meaning ns u j d.1)
 
@@ -101,7 +95,6 @@ meant_name os o t c is = by o.is_abbreviation refl
 
 from_with : (P : NameText → Type 0) (ts : List NameText) (m : Meaning) → ((t : NameText) → Contains ts t → P t)
     → ((t : NameText) → m ≡ One t → P t) → (t : NameText) → Contains (with_name ts m) t → P t
-from_with P ts Nothing old new t c = old t c
 from_with P ts (One u) old new t c = by (list_any (bytes_eq u) ts) c
   where
     by : (b : Bool) → Contains (cond b ts (ts ++ u ∷ [])) t → P t
@@ -110,7 +103,7 @@ from_with P ts (One u) old new t c = by (list_any (bytes_eq u) ts) c
       | inl e ↦ old t e
       | inr e ↦ elim (cons_cases u [] t e) [ inl same ↦ subst P same (new u refl) | inr gone ↦ absurd (no_item t gone) ]
     ]
-from_with P ts Several old new t c = old t c
+from_with P ts m old new t c = old t c
 
 pub from_fold : (P : NameText → Type 0) (ms : List Meaning) (ts : List NameText)
     → ((t : NameText) → Contains ts t → P t) → ((m : Meaning) (t : NameText) → Contains ms m → m ≡ One t → P t)

@@ -11,6 +11,7 @@ pub mod TextLemmas
 pub mod GatheredLemmas
 pub mod MadeLemmas
 pub mod RunTags
+pub mod LeftLemmas
 pub mod RuleLemmas
 pub mod RunItems
 pub mod ScanLemmas

@@ -1,17 +1,15 @@
 -- The web and the change file are there after an edit that is not refused.
 use Rattle.std.proofs.Common.{rules}
 use Rattle.std.proofs.lemmas.Bool.Decides.{nat_tests}
-use Rattle.std.proofs.Common.{◌+◌, ◌≡◌, ◌∙◌, ℕ, Bool, true, false, List, [], ◌∷◌, Option}
+use Rattle.std.proofs.Common.{◌+◌, ◌≡◌, ◌∙◌, ℕ, true, false, List, [], ◌∷◌, Option}
 use Rattle.std.proofs.Common.{None}
-use Rattle.std.proofs.Common.{Some, refl, ap, sym, arith}
+use Rattle.std.proofs.Common.{Some, refl, ap, arith}
 use Rattle.std.specs.Map.{remove_entry}
-use Rattle.std.specs.Option.{option_map, option_map_or}
+use Rattle.std.specs.Option.{option_map}
 use Rattle.std.specs.Str.{bytes_eq}
-use Rattle.std.proofs.lemmas.Bool.{or_parts}
 use Rattle.std.proofs.lemmas.Map.{keys-set_value}
 use Rattle.std.proofs.lemmas.Map.Made.{is_some-lookup}
 use Rattle.tangle_files.specs.Edited.{edited, edited_all, with_lines_edited}
-use Rattle.tangle_files.specs.Edits.{refusal_if}
 use Rattle.tangle_files.specs.Lines.{FileTable}
 use Rattle.tangle_files.specs.Adding.{has_file}
 use Rattle.tangle_files.specs.Roles.{RolesRead, fits}
@@ -20,14 +18,9 @@ use Rattle.tangle_files.specs.declared.edits.Edit.TheVariants.{Discard}
 use Rattle.tangle_files.proofs.TableLemmas.{has_file-append}
 use Rattle.tangle_files.specs.declared.marks.MarkMode.{MarkMode}
 use Rattle.tangle_files.specs.declared.refusal.Refusal.{Refusal}
-use Rattle.tangle_files.specs.declared.refusal.Refusal.TheVariants.{RoleFile}
-use Rattle.tangle_session.specs.Edits.{first_refused, has_role, list_refusal, of_first}
-use Rattle.tangle_session.specs.Edits.{role_refusal, session_refusal}
+use Rattle.tangle_session.specs.Edits.{first_refused, list_refusal, of_first}
+use Rattle.tangle_session.specs.Edits.{session_refusal}
 use Rattle.tangle_session.specs.declared.refusing.ListRefusal.{ListRefusal}
-
-not_refused : (b : Bool) (e : Refusal) → None ≡ refusal_if b e → b ≡ false
-not_refused true e h = absurd (cc)
-not_refused false e h = refl
 
 -- no file is removed where lines change
 stays_edited : (files : FileTable) (name other : List ℕ) (change : List (List ℕ) → List (List ℕ))
@@ -54,16 +47,6 @@ Spares edit other = Unit {0}
 stays_there : (files : FileTable) (edit : Edit) (other : List ℕ)
     → has_file files other ≡ true → Spares edit other → has_file (edited files edit) other ≡ true
 stays_there files edit other h s = search (rules, stays_edited, has_file-append, kept_apart)
-
-abbrev SparesRoles : Edit → RolesRead → Type 0
-SparesRoles edit roles = Spares edit roles.web × ((name : List ℕ) → roles.change ≡ Some name → Spares edit name)
-
-spares_roles : (roles : RolesRead) (edit : Edit) → None ≡ role_refusal roles edit → SparesRoles edit roles
-spares_roles roles (Discard file) h =
-    let parts = or_parts (bytes_eq file.items roles.web) (option_map_or (bytes_eq file.items) roles.change false)
-    (not_refused (has_role roles file.items) RoleFile h) in
-    (parts.0, λ name e. sym (ap (λ o. option_map_or (bytes_eq file.items) o false) e) ∙ parts.1)
-spares_roles roles edit h = (tt, λ name e. tt)
 
 pub fits_edited : (files : FileTable) (roles : RolesRead) (edit : Edit)
     → fits files roles ≡ true → None ≡ session_refusal files roles edit → fits (edited files edit) roles ≡ true

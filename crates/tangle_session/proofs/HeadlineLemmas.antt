@@ -50,12 +50,7 @@ module _ (files : FileTable) (roles : RolesRead) (lists : List (List Edit)) (bef
       λ i. web_at (so_far.files_are i) (so_far.roles_are i) in
       let web_now : web_at after.files after.roles ≡ web_after files roles (lists ++ edits ∷ []) =
       λ i. web_at (files_now i) (roles_now i) in
-      record {
-        files_are = files_now;
-        roles_are = roles_now;
-        work = ByLast lists edits
-            (search rules);
-      }
+      record { files_are = files_now; roles_are = roles_now; work = ByLast lists edits (search rules) }
 
   unmade : after ≡ before → HasMade files roles (lists ++ []) after
   unmade same = search rules

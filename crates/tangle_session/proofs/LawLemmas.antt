@@ -1,13 +1,11 @@
 -- The laws of the headline: one tangling, no cycle below an output, and each cycle reported.
 use Rattle.std.proofs.Common.{rules}
 use Rattle.std.proofs.Common.{◌≡◌, ◌∙◌, ◌<◌, ◌++◌, ℕ, zero, suc, Bool, true, false, List, [], ◌∷◌, length}
-use Rattle.std.proofs.Common.{flat_map, get_or, refl, ap, sym, subst, arith, zero-add}
+use Rattle.std.proofs.Common.{flat_map, get_or, refl, ap, sym, subst, arith}
 use Rattle.std.specs.Prelude.{Some, Contains, slice_get}
-use Rattle.std.specs.List.{range_with_len}
 use Rattle.std.proofs.lemmas.List.{get_or-map, get_or_default}
 use Rattle.std.proofs.lemmas.List.Elements.{Contains-append_left, Contains-append_right}
 use Rattle.std.proofs.lemmas.List.Folds.{find_at}
-use Rattle.std.proofs.lemmas.List.FromFn.{length-range_with_len, get_or-range_with_len}
 use Rattle.tangle_faults.specs.Faults.{FaultRead, fault_about}
 use Rattle.tangle_files.specs.Lines.{FileTable}
 use Rattle.tangle_files.specs.Roles.{RolesRead}
@@ -35,6 +33,7 @@ use Rattle.tangle_session.specs.Headline.{EachCycleIsReported, IsPlainTangling, 
 use Rattle.tangle_session.specs.Headline.{source_at, web_at}
 use Rattle.tangle_session.specs.Sessions.{shapes_of}
 use Rattle.tangle_names.proofs.FirstLemmas.{some_of}
+use Rattle.tangle_session.proofs.NameLemmas.{in_range}
 
 pub one_tangling : (files : FileTable) (roles : RolesRead)
     (one other : List (List ℕ × List ℕ)) (faults others : List FaultRead)
@@ -76,9 +75,6 @@ no_cycle files roles output other listed =
 
 -- each cycle is reported
 
-in_range : (n k : ℕ) → k < n → Contains (range_with_len 0 n) k
-in_range n k h = (k, omega (arith, length-range_with_len 0 n), get_or-range_with_len 0 n k k h ∙ zero-add k)
-
 in_mapped : (g : ℕ → List FaultRead) (ns : List ℕ) (k : ℕ) (x : FaultRead)
     → Contains ns k → Contains (g k) x → Contains (flat_map g ns) x
 in_mapped g [] k x c d = absurd (omega arith)
@@ -111,11 +107,7 @@ module _ (web : WebRead) (out : List ℕ) (faults : List FaultRead)
 
   among : Contains (faults_of_names web (table_of web) out are.contains_itself are.reaches_cycle
       kind.SelfContaining) fault
-  among =
-      in_mapped (λ k. fault_of web (table_of web) kind.SelfContaining k
-      (fault_occurrence web (table_of web) out are.contains_itself are.reaches_cycle kind.SelfContaining k))
-      (range_with_len 0 (length (table_of web).names)) id fault
-      (in_range (length (table_of web).names) id low)
+  among = in_mapped _ _ id fault (in_range _ id low)
       (subst (λ l. Contains l fault) (sym one_fault) (0, omega arith, refl))
 
   pub reported : Contains faults fault

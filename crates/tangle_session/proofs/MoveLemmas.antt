@@ -101,13 +101,5 @@ shapes_same : (web : WebRead) (node : Title)
 shapes_same web node = search (rules, shape_same, names_same, resolved_same)
 
 pub moved_same : (old new : WebRead) → IsMoved old new → HaveSameShapes old new
-moved_same old new moved node =
-    shapes_same new node
-    ∙ ap
-    (λ ss. shapes_said (table_with (names_said ss) (resolved_said ss)) (map (piece_form new.texts) new.pieces) node)
-    moved.occurrences
-    ∙ ap
-    (λ ps. shapes_said
-    (table_with (names_said (map occurrence_form old.occurrences))
-    (resolved_said (map occurrence_form old.occurrences))) ps node) moved.pieces
-    ∙ sym (shapes_same old node)
+moved_same old new moved node = shapes_same new node ∙ (λ i. shapes_said (table_with (names_said (moved.occurrences i))
+    (resolved_said (moved.occurrences i))) (moved.pieces i) node) ∙ sym (shapes_same old node)

@@ -11,11 +11,12 @@ use Rattle.std.proofs.Math.Decide.{dec_lt}
 use Rattle.std.proofs.lemmas.Bool.{and_from, and_parts, or_parts}
 use Rattle.std.proofs.lemmas.Cmp.{nat_list_eq_equiv}
 use Rattle.std.proofs.lemmas.List.{get_or-map, length-map}
+use Rattle.std.proofs.lemmas.Simd.{map-map}
 use Rattle.std.proofs.lemmas.List.Elements.{All-append, All-nil, All-map, All-filter, filter_passes}
 use Rattle.std.proofs.lemmas.List.Folds.{list_any-from_Any}
 use Rattle.std.proofs.lemmas.List.FromFn.{get_or-range_with_len, length-range_with_len}
 use Rattle.std.proofs.lemmas.List.Kept.{AllPairs-cons, AllPairs-filter}
-use Rattle.std.proofs.lemmas.Map.Made.{IsDistinct-from_AllPairs}
+use Rattle.std.proofs.lemmas.Map.Made.{AllPairs-from_IsDistinct, IsDistinct-from_AllPairs}
 use Rattle.std.proofs.lemmas.Map.Views.{lookup-from_Contains}
 use Rattle.std.proofs.lemmas.Slice.Eq.{bytes_eq-Decides}
 use Rattle.tangle_files.specs.Lines.{FileTable}
@@ -35,8 +36,6 @@ use Rattle.tangle_graph.specs.Outputs.{file_names, first_file_name, first_file_o
 use Rattle.tangle_graph.specs.Outputs.{form_at, is_earlier_file, is_expandable, is_file, is_main_file, is_named_file}
 use Rattle.tangle_graph.specs.Outputs.{is_written, named_file, outputs, shape_has_piece}
 use Rattle.tangle_graph.specs.PlainForms.{plain_form}
-use Rattle.tangle_bodies.proofs.InsideLemmas.{table_inside}
-use Rattle.tangle_graph.proofs.OutputLemmas.{names_below}
 use Rattle.tangle_session.specs.Headline.{output_at, output_bytes, output_files, table_at, web_at}
 use Rattle.tangle_session.proofs.OutputLemmas.{names_written}
 
@@ -73,7 +72,7 @@ module _ (table : TableRead) where
           grind (arith, nat_tests, are 0 x (omega arith), later (a + 1) n i d h))) rest
       by (x ∷ y ∷ ids) are few rest = search rules
 
-in_range : (n k : ℕ) → k < n → Contains (range_with_len 0 n) k
+pub in_range : (n k : ℕ) → k < n → Contains (range_with_len 0 n) k
 in_range n k h = (k, omega (arith, length-range_with_len 0 n), get_or-range_with_len 0 n k k h ∙ zero-add k)
 
 of_not : (b : Bool) → not b ≡ true → b ≡ false
@@ -91,11 +90,6 @@ module _ (web : WebRead) (out : List ℕ) where
 
   ids : List ℕ
   ids = filter (is_written web table out) (file_names web table)
-
-  ids_below : All (λ id. id < length table.names) ids
-  unfolding ids
-  ids_below = All-filter (is_written web table out) (λ id. id < length table.names)
-      (file_names web table) (names_below web table (table_inside web))
 
   ids_once : AllPairs (λ a b. a ≢ b) ids
   unfolding ids
@@ -147,9 +141,8 @@ module _ (web : WebRead) (out : List ℕ) where
       let passes : test a ≡ true = and_from (is_named_file (shapes web table) table out a)
       (bytes_eq (form_at table b) (form_at table a)) x.named
       ((bytes_eq-Decides (form_at table b) (form_at table a)).1 same) in
-      let seen = list_any-from_Any test (range_with_len 0 b) (found.0, a, found.1, found.2, passes) in
       true≢false (sym (and_from (is_named_file (shapes web table) table out b) (list_any test (range_with_len 0 b))
-      y.named seen) ∙ y.first)
+      y.named (list_any-from_Any test (range_with_len 0 b) (found.0, a, found.1, found.2, passes))) ∙ y.first)
 
   forms_apart : (a b : ℕ) → a ≢ b → IsOwn a → IsOwn b → form_at table a ≢ form_at table b
   forms_apart a b other x y same = elim (dec_lt a b) [
@@ -157,32 +150,16 @@ module _ (web : WebRead) (out : List ℕ) where
     | no high ↦ only_first b a (omega arith) y x same
   ]
 
-  body_at : (i : ℕ) (d : List ℕ)
-      → i < length ids → get_or (map name_of (map (named_file table) ids)) i d ≡ name_at table (get_or ids i 0)
-  body_at i d h =
-      get_or-map name_of (map (named_file table) ids) i (named_file table 0)
-      d (omega (arith, length-map ids (named_file table)))
-      ∙ ap name_of (get_or-map (named_file table) ids i 0 (named_file table 0) h)
-
-  form_of_named : (i : ℕ) (d : List ℕ) → i < length ids
-      → get_or (map plain_form (map name_of (map (named_file table) ids))) i d ≡ form_at table (get_or ids i 0)
-  form_of_named i d h =
-      get_or-map plain_form (map name_of (map (named_file table) ids)) i [] d
-      (omega (arith, length-map (map (named_file table) ids) name_of, length-map ids (named_file table)))
-      ∙ ap plain_form (body_at i [] h)
+  named_forms : map plain_form (map name_of (map (named_file table) ids)) ≡ map (form_at table) ids
+  named_forms = map-map plain_form name_of (map (named_file table) ids)
+      ∙ map-map (λ o. plain_form (name_of o)) (named_file table) ids
 
   named_once : AllPairs (λ a b. a ≢ b) (map plain_form (map name_of (map (named_file table) ids)))
-  named_once i j d less h same =
-      let high : j < length ids =
-      omega (
-        arith,
-        length-map (map name_of (map (named_file table) ids)) plain_form,
-        length-map (map (named_file table) ids) name_of,
-        length-map ids (named_file table),
-      ) in
+  named_once = subst (AllPairs (λ a b. a ≢ b)) (sym named_forms) (λ i j d less h same. (
+      let high : j < length ids = omega (arith, length-map ids (form_at table)) in
       let low : i < length ids = omega arith in
       forms_apart (get_or ids i 0) (get_or ids j 0) (ids_once i j 0 less high) (ids_own i 0 low) (ids_own j 0 high)
-      (sym (form_of_named i d low) ∙ same ∙ form_of_named j d high)
+      (sym (get_or-map (form_at table) ids i 0 d low) ∙ same ∙ get_or-map (form_at table) ids j 0 d high)))
 
   not_main : (id : ℕ) → IsOwn id → plain_form out ≢ form_at table id
   not_main id is same =
@@ -192,11 +169,8 @@ module _ (web : WebRead) (out : List ℕ) where
       true≢false (sym clash ∙ of_not (bytes_eq (form_at table id) (plain_form out)) both.1)
 
   main_apart : All (λ x. plain_form out ≢ x) (map plain_form (map name_of (map (named_file table) ids)))
-  main_apart =
-      All-map (λ x. plain_form out ≢ x) plain_form (map name_of (map (named_file table) ids))
-      (All-map (λ x. plain_form out ≢ plain_form x) name_of (map (named_file table) ids)
-      (All-map (λ o. plain_form out ≢ plain_form (name_of o)) (named_file table) ids
-      (λ i d h. not_main (get_or ids i d) (ids_own i d h))))
+  main_apart = subst (All (λ x. plain_form out ≢ x)) (sym named_forms) (All-map (λ x. plain_form out ≢ x) (form_at table)
+      ids (λ i d h. not_main (get_or ids i d) (ids_own i d h)))
 
   pub forms_once : AllPairs (λ a b. a ≢ b) (map plain_form (map name_of (outputs web table out)))
   unfolding ids
@@ -217,11 +191,8 @@ forms_distinct files roles =
 
 pub names_distinct : (files : FileTable) (roles : RolesRead)
     → IsDistinct bytes_eq (map (λ f. f.0) (output_files files roles))
-names_distinct files roles =
-    subst (IsDistinct bytes_eq)
-    (names_written (output_bytes files roles) (outputs (web_at files roles) (table_at files roles) roles.out))
-    (IsDistinct-from_AllPairs bytes_eq-Decides _
-    (apart_from plain_form _ (forms_once (web_at files roles) roles.out)))
+names_distinct files roles = IsDistinct-from_AllPairs bytes_eq-Decides _
+    (apart_from plain_form _ (AllPairs-from_IsDistinct bytes_eq-Decides _ (forms_distinct files roles)))
 
 pub found_by_name : (files : FileTable) (roles : RolesRead) (name bytes : List ℕ)
     → Contains (output_files files roles) (name, bytes) → output_at files roles name ≡ Some bytes

@@ -10,13 +10,13 @@ use Rattle.std.specs.Str.{bytes_eq}
 use Rattle.std.proofs.lemmas.Map.Keys.{IsDistinct-head, IsDistinct-tail}
 use Rattle.std.proofs.lemmas.Slice.Eq.{bytes_eq-Decides}
 use Rattle.std.proofs.lemmas.Grind.{common_steps}
+use Rattle.std.proofs.lemmas.Simd.{map-map}
 use Rattle.tangle_files.specs.Lines.{FileTable}
 use Rattle.tangle_files.specs.Roles.{RolesRead}
 use Rattle.tangle_scan.specs.Web.{WebRead}
 use Rattle.tangle_names.specs.NameTable.{table_of}
-use Rattle.tangle_bodies.specs.Flat.{Symbol}
 use Rattle.tangle_expansion.specs.Numbers.{numbers_of}
-use Rattle.tangle_expansion.specs.Outputs.{OutputRead, output_file_bytes, kept_output_bytes}
+use Rattle.tangle_expansion.specs.Outputs.{OutputRead, kept_output_bytes}
 use Rattle.tangle_expansion.specs.declared.kept.Kept.{Kept}
 use Rattle.tangle_graph.specs.Stores.{StoreRead, IsStoreOf}
 use Rattle.tangle_graph.proofs.OutputLemmas.{IsFit}
@@ -31,9 +31,6 @@ module _ (files : FileTable) (roles : RolesRead) (store : StoreRead) (kept : Kep
     (output : OutputRead) (fit : IsFit (shapes_of (web_at files roles)) store.names output) where
   abbrev web : WebRead
   web = web_at files roles
-
-  abbrev bytes_with : Bool → List Symbol → List ℕ
-  bytes_with = output_file_bytes (numbers_of web (table_of web) roles.marks) output.has_macros
 
   pub same_bytes : kept_output_bytes (numbers_of web (table_of web) roles.marks) kept output
       ≡ output_bytes files roles output
@@ -59,8 +56,7 @@ found_in p (y ∷ xs) x e = by (p y) e (found_in p xs x)
 -- the names of the outputs are the names of the output files
 pub names_written : (bytes_of : OutputRead → List ℕ) (os : List OutputRead)
     → map (λ o. o.name) os ≡ map (λ (f : List ℕ × List ℕ). f.0) (map (λ o. (o.name, bytes_of o)) os)
-names_written bytes_of [] = refl
-names_written bytes_of (o ∷ os) = ap (λ l. o.name ∷ l) (names_written bytes_of os)
+names_written bytes_of os = sym (map-map (λ f. f.0) (λ o. (o.name, bytes_of o)) os)
 
 -- what holds of all output names holds of the one at an index
 name_at_index : (P : List ℕ → Type 0) (os : List OutputRead) (i : ℕ) (o : OutputRead)

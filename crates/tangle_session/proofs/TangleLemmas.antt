@@ -18,8 +18,7 @@ use Rattle.tangle_files.specs.declared.marks.MarkMode.{MarkMode}
 use Rattle.tangle_files.specs.declared.marks.MarkMode.TheVariants.{Full}
 use Rattle.tangle_scan.specs.Web.{WebRead}
 use Rattle.tangle_names.specs.NameTable.{table_of}
-use Rattle.tangle_expansion.specs.Affected.{IsAffected}
-use Rattle.tangle_expansion.specs.Limits.{levels, heaviest, flat_of, IsExpandableNode}
+use Rattle.tangle_expansion.specs.Limits.{levels, flat_of, IsExpandableNode}
 use Rattle.tangle_expansion.specs.Numbers.{numbers_of}
 use Rattle.tangle_expansion.specs.Outputs.{OutputRead, IsReady, kept_output_bytes}
 use Rattle.digraph.specs.Nodes.{Node}
@@ -63,15 +62,7 @@ lists_nodes web store nodes is names_are lists = record {
 pub lists_titles : (old new : WebRead) (store : StoreRead) (nodes : List Node)
     → IsStoreOf (shapes_of new) store → store.names ≡ (table_of new).names
     → affected.ListsAffected (shapes_of old) (shapes_of new) store nodes → ListsAffectedOfWebs old new nodes
-lists_titles old new store nodes is names_are lists = record {
-  once = lists.once;
-  just = subst
-      (λ names. (node : Node) → Contains nodes node
-      ↔ (IsNodeOf names node × IsAffected levels heaviest (shapes_of old) (shapes_of new)
-      (title_at names node)))
-      names_are
-      lists.just;
-}
+lists_titles old new store nodes is names_are lists = record { once = lists.once; just = rw names_are at lists.just }
 
 -- the web does not depend on the setting for line marks
 pub same_web : (files : FileTable) (roles : RolesRead) (marks : MarkMode)

@@ -40,8 +40,7 @@ text_from-line lines n h = grind (arith, nat_tests, drop-cons)
 
 module _ (lines : List SourceLine) (bytes : List ℕ) (line column : ℕ) where
   -- at a byte
-  pub rest_of-byte : column < length bytes
-      → rest_of lines bytes line column false
+  pub rest_of-byte : column < length bytes → rest_of lines bytes line column false
       ≡ record { line = line; column = column; byte = slice_get bytes column }
       ∷ rest_of lines bytes line (column + 1) false
   rest_of-byte h =
@@ -49,8 +48,7 @@ module _ (lines : List SourceLine) (bytes : List ℕ) (line column : ℕ) where
       rw (drop-cons bytes column 0 h, slice_get-get_or bytes column 0 h, next) refl
 
   -- at a line end
-  rest_of-line_end : length bytes ≤ column
-      → rest_of lines bytes line column false
+  rest_of-line_end : length bytes ≤ column → rest_of lines bytes line column false
       ≡ record { line = line; column = column; byte = None } ∷ text_from (line + 1) (drop (line + 1) lines)
   rest_of-line_end h = rw (drop_of_length-le bytes h) refl
 
@@ -73,8 +71,7 @@ module _ (lines : List SourceLine) (bytes : List ℕ) (line column : ℕ) where
 
 -- the front at a byte
 pub front-byte : (lines : List SourceLine) (bytes : List ℕ) (line column : ℕ) (done : Bool)
-    → done ≡ false → column < length bytes
-    → IsFront (rest_of lines bytes line column done)
+    → done ≡ false → column < length bytes → IsFront (rest_of lines bytes line column done)
     (record { byte = slice_get bytes column; next = slice_get bytes (column + 1) })
 front-byte lines bytes line column done is h = grind (arith, nat_tests, rest_of-byte, rest_of-cell)
 
@@ -84,9 +81,6 @@ pub record IsAtByte (r : Inside) (text : List Cell) : Type 0 where
   pub inside : r.column < length r.bytes.now
   pub ahead : text ≡ record { line = r.line; column = r.column; byte = slice_get r.bytes.now r.column }
       ∷ rest_of r.source.now.lines r.bytes.now r.line (r.column + 1) false
-
-none-some : IsSome {T = ℕ} None → ⊥
-none-some h = cc
 
 pub at-byte : (r : Inside) (text : List Cell)
     → rest_of r.source.now.lines r.bytes.now r.line r.column r.is_done ≡ text → IsSome (byte_at 0 text)

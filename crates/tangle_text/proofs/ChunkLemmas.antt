@@ -37,8 +37,7 @@ units-line line column (b ∷ bs) rest (suc n) h other =
     let cs = line_text line (column + 1) bs ++ rest in
     let c : Cell = record { line = line; column = column; byte = Some b } in
     ap (λ u. unless_stop u (name_bytes_of u c (byte_at 0 cs) ++ from_units name_bytes_of region.Name (more_by u) cs))
-    (in-name b (byte_at 0 cs) (ne_eqb b 64 (other 0 (omega arith))))
-    ∙ ap (λ l. b ∷ l)
+    (in-name b (byte_at 0 cs) (ne_eqb b 64 (other 0 (omega arith)))) ∙ ap (λ l. b ∷ l)
     (units-line line (column + 1) bs rest n (omega arith) (λ k lt. other (suc k) (omega arith)))
 
 end-line : (r : Region) → PassesAll r → (line column : ℕ) (bs : List ℕ) (rest : List Cell) (n : ℕ)

@@ -1,8 +1,8 @@
 -- Ordinary bytes, which have no meaning, are skipped one by one.
-use Rattle.std.proofs.Common.{rules}
 use Rattle.std.proofs.lemmas.Bool.Decides.{nat_tests}
 use Rattle.std.proofs.Common.{◌≡◌, ℕ, ◌+◌, zero, suc, Bool, true, false, not, ◌||◌, List, [], ◌∷◌, ◌++◌}
-use Rattle.std.proofs.Common.{drop, refl, arith}
+use Rattle.std.proofs.Common.{drop, refl, arith, inl, inr}
+use Rattle.std.proofs.lemmas.Bool.{cases_Bool}
 use Rattle.std.specs.List.{prefix_len}
 use Rattle.tangle_text.specs.declared.regions.Region.{Region}
 use Rattle.tangle_text.specs.Text.{Cell, line_text}
@@ -23,11 +23,10 @@ region_end-ordinary r is (suc n) (c ∷ cs) h =
 pub run-ordinary : (line column : ℕ) (bytes : List ℕ) (rest : List Cell)
     → AreOrdinary (prefix_len is_ordinary bytes) (line_text line column bytes ++ rest)
 run-ordinary line column [] rest = tt
-run-ordinary line column (b ∷ bs) rest = go (is_ordinary b) refl (run-ordinary line (column + 1) bs rest)
-  where
-    go : (t : Bool)
-        → is_ordinary b ≡ t → AreOrdinary (prefix_len is_ordinary bs) (line_text line (column + 1) bs ++ rest)
-        → AreOrdinary (prefix_len is_ordinary (b ∷ bs)) (line_text line column (b ∷ bs) ++ rest)
-    go true h more =
-        let n : prefix_len is_ordinary (b ∷ bs) ≡ suc (prefix_len is_ordinary bs) = rw h (omega arith) in rw n (h, more)
-    go false h more = search rules
+run-ordinary line column (b ∷ bs) rest =
+    elim (cases_Bool (is_ordinary b)) [
+      | inl h ↦
+          let n : prefix_len is_ordinary (b ∷ bs) ≡ suc (prefix_len is_ordinary bs) = rw h (omega arith) in
+          rw n (h, run-ordinary line (column + 1) bs rest)
+      | inr h ↦ rw h tt
+    ]

@@ -5,7 +5,8 @@ use Rattle.std.proofs.lemmas.Bool.Decides.{nat_tests}
 use Rattle.std.proofs.Common.{◌≡◌, ℕ, ◌+◌, ◌-◌, Bool, true, false, ◌&&◌, ◌==◌, List, [], ◌∷◌, ◌++◌, length, drop}
 use Rattle.std.proofs.Common.{get_or, slice_get, refl, ap, ◌∙◌, append_assoc, drop-drop}
 use Rattle.std.specs.List.{AllByRecursion}
-use Rattle.std.proofs.lemmas.Bool.{and_parts}
+use Rattle.std.proofs.lemmas.Bool.{and_parts, cases_Bool}
+use Rattle.std.proofs.Common.{inl, inr}
 use Rattle.std.proofs.lemmas.List.{take-append-drop}
 use Rattle.std.proofs.Math.Seq.{drop-append_seam}
 use Rattle.tangle_files.specs.Bytes.{space}
@@ -50,12 +51,8 @@ record IsWithFront (b : ℕ) (cs : List (List ℕ)) : Type 0 where
       → chunks (drop (first_size (with_front_byte b cs)) (b ∷ bs)) ≡ drop 1 (with_front_byte b cs)
 
 front_on : (b c : ℕ) (bs : List ℕ) (cs : List (List ℕ)) → IsWithFront b ((c ∷ bs) ∷ cs)
-front_on b c bs cs = go (is_word_byte b && is_word_byte c) refl
-  where
-    go : (t : Bool) → (is_word_byte b && is_word_byte c) ≡ t → IsWithFront b ((c ∷ bs) ∷ cs)
-    go true h =
-        search (rules, and_parts)
-    go false h = search rules
+front_on b c bs cs =
+    elim (cases_Bool (is_word_byte b && is_word_byte c)) [ inl h ↦ search (rules, and_parts) | inr h ↦ search rules ]
 
 front : (b : ℕ) (cs : List (List ℕ)) → IsWithFront b cs
 front b cs = grind (arith, nat_tests, front_on)
@@ -76,8 +73,7 @@ chunks_after (b ∷ bs) = (front b (chunks bs)).after bs refl (chunks_after bs)
 -- the bytes of a line after those of a chunk
 pub chunk_passed : (column : ℕ) (bytes c : List ℕ) (cs : List (List ℕ)) (rest : List ℕ)
     → drop column bytes ≡ joined (c ∷ cs) ++ rest → drop (column + length c) bytes ≡ joined cs ++ rest
-chunk_passed column bytes c cs rest is =
-    grind (arith, nat_tests, drop-drop, append_assoc c, drop-append_seam c)
+chunk_passed column bytes c cs rest is = grind (arith, nat_tests, drop-drop, append_assoc c, drop-append_seam c)
 
 -- the bytes of a line from a range on are those of the chunks of the range, and more
 pub span_chunks : (texts : List (List ℕ)) (s : Span)
@@ -92,20 +88,17 @@ pub alone-chunk : (b : ℕ) (more : List (List ℕ)) → is_word_byte b ≡ fals
 alone-chunk b more h = grind (arith, nat_tests)
 
 -- the first chunk begins with the first byte
-pub front-chunk : (b : ℕ) (bs : List ℕ)
-    → (ys : List ℕ) × (more : List (List ℕ)) × (chunks (b ∷ bs) ≡ (b ∷ ys) ∷ more)
+pub front-chunk : (b : ℕ) (bs : List ℕ) → (ys : List ℕ) × (more : List (List ℕ)) × (chunks (b ∷ bs) ≡ (b ∷ ys) ∷ more)
 front-chunk b bs = by (chunks bs)
   where
-    by : (all : List (List ℕ))
-        → (ys : List ℕ) × (more : List (List ℕ)) × (with_front_byte b all ≡ (b ∷ ys) ∷ more)
+    by : (all : List (List ℕ)) → (ys : List ℕ) × (more : List (List ℕ)) × (with_front_byte b all ≡ (b ∷ ys) ∷ more)
     by [] = ([], [], refl)
     by ([] ∷ all) = ([], [] ∷ all, refl)
-    by ((c ∷ cs) ∷ all) = joins (is_word_byte b && is_word_byte c) refl
-      where
-        joins : (t : Bool) → (is_word_byte b && is_word_byte c) ≡ t
-            → (ys : List ℕ) × (more : List (List ℕ)) × (with_front_byte b ((c ∷ cs) ∷ all) ≡ (b ∷ ys) ∷ more)
-        joins true h = (c ∷ cs, all, rw h refl)
-        joins false h = ([], (c ∷ cs) ∷ all, rw h refl)
+    by ((c ∷ cs) ∷ all) =
+        elim (cases_Bool (is_word_byte b && is_word_byte c)) [
+          | inl h ↦ (c ∷ cs, all, rw h refl)
+          | inr h ↦ ([], (c ∷ cs) ∷ all, rw h refl)
+        ]
 
 -- a word byte before a byte that is none, or before nothing, is a chunk of its own
 pub alone-before : (b : ℕ) (bs : List ℕ) → is_word_byte b ≡ true → holds_word_byte (slice_get bs 0) ≡ false
@@ -123,7 +116,6 @@ pub part-by : (P : RunPart → Type 0) (line column b : ℕ) (bs : List ℕ) →
     → ((b == space) ≡ false → is_word_byte b ≡ false → P (part.Sign s)) → P (part_of line column (b ∷ bs))
 part-by P line column b bs blank word sign = search rules
 
-pub part-word : (line column b : ℕ) (bs : List ℕ) → is_word_byte b ≡ true
-    → part_of line column (b ∷ bs)
+pub part-word : (line column b : ℕ) (bs : List ℕ) → is_word_byte b ≡ true → part_of line column (b ∷ bs)
     ≡ part.Word (record { line = line; start = column; end = column + length (b ∷ bs) })
 part-word line column b bs word = rw (differs is_word_byte b space word refl, word) refl

@@ -34,8 +34,7 @@ white-run = record { ends = λ x. refl; is = λ b x. refl }
 pub counted-run : (r : Region) (test : ℕ → Bool) → IsRunOf r test → (line column : ℕ) (bytes : List ℕ) (rest : List Cell) →
     counted r 0 (line_text line column bytes ++ rest) ≡ prefix_len test bytes
 counted-run r test run line column [] rest = rw (run.ends (byte_at 0 rest)) refl
-counted-run r test run line column (b ∷ bs) rest =
-    grind (arith, counted-run r test run line (column + 1) bs rest)
+counted-run r test run line column (b ∷ bs) rest = grind (arith, counted-run r test run line (column + 1) bs rest)
 
 -- the number of cells of a run
 pub count-run : (r : Region) (test : ℕ → Bool)
@@ -60,8 +59,7 @@ bytes-line line column (suc n) (b ∷ bs) rest h = grind (arith, nat_tests, byte
 pub rest_of-further : (lines : List SourceLine) (bytes : List ℕ) (line column n : ℕ) (done : Bool)
     → column + n ≤ length bytes
     → rest_of lines bytes line (column + n) done ≡ drop n (rest_of lines bytes line column done)
-rest_of-further lines bytes line column n done h =
-    search (rules, drop-line, length-drop, drop-drop)
+rest_of-further lines bytes line column n done h = search (rules, drop-line, length-drop, drop-drop)
 
 -- the bytes of a run
 pub run-bytes : (lines : List SourceLine) (bytes : List ℕ) (line column n : ℕ) → column + n ≤ length bytes →

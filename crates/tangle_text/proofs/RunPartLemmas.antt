@@ -1,9 +1,13 @@
 -- Runs: how many cells they have, and their words, signs and spaces.
 use Rattle.std.proofs.Common.{rules}
 use Rattle.std.proofs.lemmas.Bool.Decides.{nat_tests}
-use Rattle.std.proofs.Common.{◌≡◌, ℕ, ◌+◌, ◌<◌, ◌≤◌, ◌==◌, zero, suc, Bool, true, false, List, [], ◌∷◌, ◌++◌}
-use Rattle.std.proofs.Common.{Option, cond, length, take, drop, get_or, slice_get, refl, ap, ◌∙◌, arith, drop-cons, drop-drop}
+use Rattle.std.proofs.Common.{◌≡◌, ℕ, ◌+◌, ◌<◌, ◌≤◌, zero, suc, Bool, true, false, List, [], ◌∷◌, ◌++◌}
+use Rattle.std.proofs.Common.{cond, length, take, drop, get_or, slice_get, refl, ap, ◌∙◌, arith, drop-cons, drop-drop}
 use Rattle.std.specs.List.{prefix_len}
+use Rattle.std.proofs.Math.Numerals.{one-add}
+use Rattle.std.proofs.lemmas.Bool.{cases_Bool, ne_eqb}
+use Rattle.std.proofs.lemmas.List.{at_drop_more}
+use Rattle.std.proofs.Common.{inl, inr}
 use Rattle.std.proofs.lemmas.List.Sums.{prefix_len-le-length}
 use Rattle.tangle_lines.specs.Reading.{SourceLine}
 use Rattle.tangle_text.proofs.RunChunks.{alone-chunk}
@@ -49,18 +53,10 @@ get-drop-next (b ∷ bs) (suc column) =
     let next : suc (column + 1) ≡ suc column + 1 = omega arith in
     get-drop-next bs column ∙ ap (slice_get (b ∷ bs)) next
 
-step-by : (b : ℕ) (next : Option ℕ) (bs : List ℕ) → slice_get bs 0 ≡ next
-    → longest_run (b ∷ bs) ≡ cond (is_run_byte b next) (1 + longest_run bs) 0
-step-by b next bs e = rw (← e) refl
-
-pub longest_run_step : (bytes : List ℕ) (column : ℕ) → column < length bytes
-    → longest_run (drop column bytes)
+pub longest_run_step : (bytes : List ℕ) (column : ℕ) → column < length bytes → longest_run (drop column bytes)
     ≡ cond (is_run_byte (get_or bytes column 0) (slice_get bytes (column + 1))) (1 + longest_run (drop (column + 1) bytes)) 0
 longest_run_step bytes column h =
-    let next : column + 1 ≡ suc column = omega arith in
-    ap longest_run (drop-cons bytes column 0 h)
-    ∙ rw next (step-by (get_or bytes column 0) (slice_get bytes (suc column)) (drop (suc column) bytes)
-    (get-drop bytes (suc column)))
+    at_drop_more longest_run bytes column 0 h ∙ rw (get-drop bytes (column + 1)) refl
 
 pub longest_run-over : (bytes : List ℕ) (column next : ℕ) → column < length bytes → next ≡ column + 1
     → is_run_byte (get_or bytes column 0) (slice_get bytes (column + 1)) ≡ true
@@ -68,33 +64,20 @@ pub longest_run-over : (bytes : List ℕ) (column next : ℕ) → column < lengt
 longest_run-over bytes column next h after is = rw (longest_run_step bytes column h, is, after) refl
 
 pub longest_run-end : (bytes : List ℕ) (column : ℕ) → column < length bytes
-    → is_run_byte (get_or bytes column 0) (slice_get bytes (column + 1)) ≡ false
-    → longest_run (drop column bytes) ≡ 0
+    → is_run_byte (get_or bytes column 0) (slice_get bytes (column + 1)) ≡ false → longest_run (drop column bytes) ≡ 0
 longest_run-end bytes column h is = rw (longest_run_step bytes column h, is) refl
 
 -- the word bytes at the front are a chunk
 pub chunks-word : (b : ℕ) (bs : List ℕ) → is_word_byte b ≡ true
     → chunks (b ∷ bs) ≡ (b ∷ take (prefix_len is_word_byte bs) bs) ∷ chunks (drop (prefix_len is_word_byte bs) bs)
 chunks-word b [] h = refl
-chunks-word b (c ∷ cs) h = go (is_word_byte c) refl (chunks-word c cs)
-  where
-    go : (t : Bool) → is_word_byte c ≡ t
-        → (is_word_byte c ≡ true
-        → chunks (c ∷ cs)
-        ≡ (c ∷ take (prefix_len is_word_byte cs) cs) ∷ chunks (drop (prefix_len is_word_byte cs) cs))
-        → chunks (b ∷ c ∷ cs)
-        ≡ (b ∷ take (prefix_len is_word_byte (c ∷ cs)) (c ∷ cs))
-        ∷ chunks (drop (prefix_len is_word_byte (c ∷ cs)) (c ∷ cs))
-    go true e more =
-        let n : 1 + prefix_len is_word_byte cs ≡ suc (prefix_len is_word_byte cs) = omega arith in
-        ap (with_front_byte b) (more e) ∙ rw (h, e, n) refl
-    go false e more =
-        search rules
+chunks-word b (c ∷ cs) h =
+    elim (cases_Bool (is_word_byte c)) [
+      | inl e ↦ ap (with_front_byte b) (chunks-word c cs e) ∙ rw (h, e, one-add (prefix_len is_word_byte cs)) refl
+      | inr e ↦ search rules
+    ]
 
 -- the parts of a run at a column of a line, by the byte there
-
-not-space : (b : ℕ) → (b ≡ space → ⊥) → (b == space) ≡ false
-not-space b h = grind (arith, nat_tests)
 
 pub sign-next : (line column : ℕ) (bytes : List ℕ) → column < length bytes
     → (get_or bytes column 0 ≡ space → ⊥) → is_word_byte (get_or bytes column 0) ≡ false
@@ -109,7 +92,7 @@ pub word-next : (line column : ℕ) (bytes : List ℕ) → column < length bytes
     → parts_of line column (chunks (drop column bytes))
     ≡ part.Word (record { line = line; start = column; end = end }) ∷ parts_of line end (chunks (drop end bytes))
 word-next line column bytes h differs is end e =
-    let other = not-space (get_or bytes column 0) differs in
+    let other = ne_eqb (get_or bytes column 0) space differs in
     let b = get_or bytes column 0 in
     let bs = drop (suc column) bytes in
     let n = prefix_len is_word_byte bs in

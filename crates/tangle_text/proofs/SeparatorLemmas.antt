@@ -3,7 +3,9 @@ use Rattle.std.proofs.lemmas.Bool.Decides.{nat_tests}
 use Rattle.std.proofs.Common.{◌≡◌, ℕ, ◌+◌, ◌<◌, ◌≤◌, ◌==◌, ◌&&◌, ◌||◌, not, zero, suc, Bool, true, false, List, [], ◌∷◌}
 use Rattle.std.proofs.Common.{Option, Some, None, cond, drop, get_or, slice_get, refl, ap, sym, ◌∙◌, arith, ◌-◌, drop-drop}
 use Rattle.std.proofs.lemmas.List.{get_or-drop}
-use Rattle.std.proofs.lemmas.Bool.{false≢true, and_parts}
+use Rattle.std.proofs.lemmas.Bool.{false≢true, and_right, cases_Bool, cond_both, false_from_ne_true}
+use Rattle.std.proofs.Math.Numerals.{one-add}
+use Rattle.std.proofs.Common.{◌⊎◌, inl, inr}
 use Rattle.tangle_files.specs.Bytes.{space}
 use Rattle.tangle_text.specs.Bytes.{is_word_byte}
 use Rattle.tangle_text.specs.Regions.{is_separator}
@@ -25,23 +27,19 @@ plain-no_space b h = grind (arith, nat_tests)
 
 -- the sizes of runs, byte by byte
 
-one-more : (n : ℕ) → 1 + n ≡ suc n
-one-more n = omega arith
-
 longest-over : (b : ℕ) (bs : List ℕ) → is_run_byte b (slice_get bs 0) ≡ true
     → longest_run (b ∷ bs) ≡ suc (longest_run bs)
-longest-over b bs h = rw h (one-more (longest_run bs))
+longest-over b bs h = rw h (one-add (longest_run bs))
 
 longest-end : (b : ℕ) (bs : List ℕ) → is_run_byte b (slice_get bs 0) ≡ false → longest_run (b ∷ bs) ≡ 0
 longest-end b bs h = rw h refl
 
+first-by : (t : Bool) (n k : ℕ) → k < cond t (1 + n) 0 → t ≡ true
+first-by t n k h = grind arith
+
 -- the longest run goes over the first byte, if it has any
 longest-first : (b : ℕ) (bs : List ℕ) (k : ℕ) → k < longest_run (b ∷ bs) → is_run_byte b (slice_get bs 0) ≡ true
-longest-first b bs k h = by (is_run_byte b (slice_get bs 0)) refl
-  where
-    by : (t : Bool) → is_run_byte b (slice_get bs 0) ≡ t → t ≡ true
-    by true e = refl
-    by false e = absurd (omega (arith, longest-end b bs e))
+longest-first b bs k h = first-by (is_run_byte b (slice_get bs 0)) (longest_run bs) k h
 
 -- before a word byte, and before any other byte
 
@@ -56,16 +54,10 @@ before-other b bs h = rw h refl
 
 run_size-over : (b : ℕ) (bs : List ℕ) → is_run_byte b (slice_get bs 0) ≡ true → is_before_separator (b ∷ bs) ≡ false
     → ((b == space) && is_before_separator bs) ≡ false → run_size (b ∷ bs) ≡ suc (run_size bs)
-run_size-over b bs run apart after = grow (is_in_run b bs) (in_run _ _ _ run apart after)
+run_size-over b bs run apart after = by _ _ _ (run_size bs) run apart after
   where
-    in_run : (r w s : Bool) → r ≡ true → w ≡ false → s ≡ false → (r && not (w || s)) ≡ true
-    in_run r w s e f g = rw (e, f, g) refl
-
-    grow : (t : Bool) → t ≡ true → cond t (1 + run_size bs) 0 ≡ suc (run_size bs)
-    grow t e = rw e (one-more (run_size bs))
-
-run_size-end : (b : ℕ) (bs : List ℕ) → is_run_byte b (slice_get bs 0) ≡ false → run_size (b ∷ bs) ≡ 0
-run_size-end b bs h = rw h refl
+    by : (r w s : Bool) (n : ℕ) → r ≡ true → w ≡ false → s ≡ false → cond (r && not (w || s)) (1 + n) 0 ≡ suc n
+    by r w s n e f g = rw (e, f, g) (one-add n)
 
 -- a byte that is in a run
 pub record IsInRun (b : ℕ) (bs : List ℕ) : Type 0 where
@@ -75,24 +67,17 @@ pub record IsInRun (b : ℕ) (bs : List ℕ) : Type 0 where
 
 pub in_run-is : (b : ℕ) (bs : List ℕ) → is_in_run b bs ≡ true → IsInRun b bs
 in_run-is b bs h =
-    let both = and_parts (is_run_byte b (slice_get bs 0)) _ h in
-    let none = neither (is_before_separator (b ∷ bs)) ((b == space) && is_before_separator bs) both.1 in
-    record { byte = both.0; apart = none.0; after = none.1 }
+    let all = by (is_run_byte b (slice_get bs 0)) (is_before_separator (b ∷ bs)) _ h in
+    record { byte = all.0; apart = all.1; after = all.2 }
   where
-    neither : (w s : Bool) → not (w || s) ≡ true → (w ≡ false) × (s ≡ false)
-    neither true s e = cc
-    neither false true e = cc
-    neither false false e = (refl, refl)
+    by : (r w s : Bool) → (r && not (w || s)) ≡ true → (r ≡ true) × (w ≡ false) × (s ≡ false)
+    by r w s e = grind arith
 
 pub run_size-in : (b : ℕ) (bs : List ℕ) → IsInRun b bs → run_size (b ∷ bs) ≡ suc (run_size bs)
 run_size-in b bs h = run_size-over b bs h.byte h.apart h.after
 
 pub run_size-first : (b : ℕ) (bs : List ℕ) → 0 < run_size (b ∷ bs) → is_in_run b bs ≡ true
-run_size-first b bs h = by (is_in_run b bs) h
-  where
-    by : (t : Bool) → 0 < cond t (1 + run_size bs) 0 → t ≡ true
-    by true k = refl
-    by false k = absurd (omega arith)
+run_size-first b bs h = first-by (is_in_run b bs) (run_size bs) 0 h
 
 -- a plain byte, and so a word byte, is in a run unless it belongs to a word before a separator
 pub plain-in_run : (b : ℕ) (bs : List ℕ) → is_plain b ≡ true → is_before_separator (b ∷ bs) ≡ false → IsInRun b bs
@@ -102,30 +87,18 @@ plain-in_run b bs plain apart = record {
   after = rw (plain-no_space b plain) refl;
 }
 
+run_size-out : (r w s : Bool) (n : ℕ) → (w ≡ true) ⊎ (s ≡ true) → cond (r && not (w || s)) (1 + n) 0 ≡ 0
+run_size-out r w s n h = grind arith
+
 pub run_size-none : (bs : List ℕ) → is_before_separator bs ≡ true → run_size bs ≡ 0
 run_size-none [] h = refl
-run_size-none (b ∷ bs) h = stop (is_in_run b bs) (out _ _ _ h)
-  where
-    out : (r w s : Bool) → w ≡ true → (r && not (w || s)) ≡ false
-    out true w s e = rw e refl
-    out false w s e = refl
-
-    stop : (t : Bool) → t ≡ false → cond t (1 + run_size bs) 0 ≡ 0
-    stop t e = rw e refl
+run_size-none (b ∷ bs) h =
+    run_size-out (is_run_byte b (slice_get bs 0)) (is_before_separator (b ∷ bs)) _ (run_size bs) (inl h)
 
 -- before a space in front of the word
 run_size-space : (b : ℕ) (bs : List ℕ) → (b == space) ≡ true → is_before_separator bs ≡ true → run_size (b ∷ bs) ≡ 0
 run_size-space b bs is h =
-    let both : ((b == space) && is_before_separator bs) ≡ true = rw (is, h) refl in
-    stop (is_in_run b bs) (out _ _ _ both)
-  where
-    out : (r w s : Bool) → s ≡ true → (r && not (w || s)) ≡ false
-    out true true s e = refl
-    out true false s e = rw e refl
-    out false w s e = refl
-
-    stop : (t : Bool) → t ≡ false → cond t (1 + run_size bs) 0 ≡ 0
-    stop t e = rw e refl
+    run_size-out (is_run_byte b (slice_get bs 0)) (is_before_separator (b ∷ bs)) _ _ (inr (rw (is, h) refl))
 
 -- a separator is at the front of the rest of a line
 abbrev pub separates : List ℕ → Bool
@@ -133,55 +106,38 @@ separates bs = is_separator (slice_get bs 0) (slice_get bs 1)
 
 pub separator-ends : (bs : List ℕ) → separates bs ≡ true → is_before_separator bs ≡ true
 separator-ends [] h = cc
-separator-ends (b ∷ bs) h = by (is_word_byte b) refl
-  where
-    by : (w : Bool) → is_word_byte b ≡ w → is_before_separator (b ∷ bs) ≡ true
-    by true word = absurd (never b (slice_get bs 0) (word-plain b word) h)
-      where
-        never : (b : ℕ) (next : Option ℕ) → is_plain b ≡ true → is_separator (Some b) next ≡ true → ⊥
-        never b next plain is = grind (arith, nat_tests)
-    by false other = before-other b bs other ∙ h
+separator-ends (b ∷ bs) h =
+    cond_both (is_word_byte b) (is_before_separator bs) _ (λ t. t ≡ true)
+    (λ word. absurd (false≢true (sym (word-no_separator b (slice_get bs 0) word) ∙ h))) (λ other. h)
 
 -- if the longest run ends at no separator, it is the run
 
 at-separator : (bs : List ℕ) → is_before_separator bs ≡ true → separates (drop (longest_run bs) bs) ≡ true
 at-separator [] h = cc
-at-separator (b ∷ bs) h = by (is_word_byte b) refl (is_run_byte b (slice_get bs 0)) refl (at-separator bs)
-  where
-    by : (w : Bool) → is_word_byte b ≡ w → (r : Bool) → is_run_byte b (slice_get bs 0) ≡ r
-        → (is_before_separator bs ≡ true → separates (drop (longest_run bs) bs) ≡ true)
-        → separates (drop (longest_run (b ∷ bs)) (b ∷ bs)) ≡ true
-    by true word true run more = rw (longest-over b bs run) (more (sym (before-word b bs word) ∙ h))
-    by true word false run more = absurd (false≢true (sym run ∙ rw (word-plain b word) refl))
-    by false other true run more =
-        absurd (false≢true (sym (no-separator b (slice_get bs 0) (slice_get bs 0) run) ∙ (sym (before-other b bs other) ∙ h)))
-    by false other false run more = rw (longest-end b bs run) (sym (before-other b bs other) ∙ h)
+at-separator (b ∷ bs) h =
+    elim (cases_Bool (is_word_byte b)) [
+      | inl word ↦
+          rw (longest-over b bs (rw (word-plain b word) refl)) (at-separator bs (sym (before-word b bs word) ∙ h))
+      | inr other ↦
+          let is = sym (before-other b bs other) ∙ h in
+          rw (longest-end b bs (false_from_ne_true (is_run_byte b (slice_get bs 0))
+          (λ run. false≢true (sym (no-separator b (slice_get bs 0) (slice_get bs 0) run) ∙ is)))) is
+    ]
 
 none-before : (bs : List ℕ) → separates (drop (longest_run bs) bs) ≡ false → is_before_separator bs ≡ false
-none-before bs h = by (is_before_separator bs) refl
-  where
-    by : (t : Bool) → is_before_separator bs ≡ t → t ≡ false
-    by false e = refl
-    by true e = absurd (false≢true (sym h ∙ at-separator bs e))
-
-and-false : (a b : Bool) → b ≡ false → (a && b) ≡ false
-and-false true b e = e
-and-false false b e = refl
+none-before bs h = false_from_ne_true (is_before_separator bs) (λ e. false≢true (sym h ∙ at-separator bs e))
 
 pub run_size-longest : (bs : List ℕ) → separates (drop (longest_run bs) bs) ≡ false → run_size bs ≡ longest_run bs
 run_size-longest [] h = refl
-run_size-longest (b ∷ bs) h = by (is_run_byte b (slice_get bs 0)) refl (run_size-longest bs)
-  where
-    by : (r : Bool) → is_run_byte b (slice_get bs 0) ≡ r
-        → (separates (drop (longest_run bs) bs) ≡ false → run_size bs ≡ longest_run bs)
-        → run_size (b ∷ bs) ≡ longest_run (b ∷ bs)
-    by true run more =
-        let size = longest-over b bs run in
-        let ends : separates (drop (longest_run bs) bs) ≡ false
-        = sym (ap (λ n. separates (drop n (b ∷ bs))) size) ∙ h in
-        run_size-over b bs run (none-before (b ∷ bs) h) (and-false _ _ (none-before bs ends))
-        ∙ (ap suc (more ends) ∙ sym size)
-    by false run more = run_size-end b bs run ∙ sym (longest-end b bs run)
+run_size-longest (b ∷ bs) h =
+    elim (cases_Bool (is_run_byte b (slice_get bs 0))) [
+      | inl run ↦
+          let size = longest-over b bs run in
+          let ends = sym (ap (λ n. separates (drop n (b ∷ bs))) size) ∙ h in
+          run_size-over b bs run (none-before (b ∷ bs) h) (and_right _ _ (none-before bs ends))
+          ∙ (ap suc (run_size-longest bs ends) ∙ sym size)
+      | inr stop ↦ rw stop refl
+    ]
 
 -- before a separator, where only word bytes are between
 
@@ -191,16 +147,11 @@ other-between : (bs : List ℕ) (k : ℕ) → k < longest_run bs → is_word_byt
 other-between [] k h other = refl
 other-between (b ∷ bs) zero h other =
     before-other b bs other ∙ no-separator b (slice_get bs 0) (slice_get bs 0) (longest-first b bs 0 h)
-other-between (b ∷ bs) (suc k) h other = by (is_word_byte b) refl (other-between bs k)
-  where
-    run : is_run_byte b (slice_get bs 0) ≡ true
-    run = longest-first b bs (suc k) h
-
-    by : (w : Bool) → is_word_byte b ≡ w
-        → (k < longest_run bs → is_word_byte (get_or bs k 0) ≡ false → is_before_separator bs ≡ false)
-        → is_before_separator (b ∷ bs) ≡ false
-    by true word more = before-word b bs word ∙ more (omega (arith, longest-over b bs run)) other
-    by false first more = before-other b bs first ∙ no-separator b (slice_get bs 0) (slice_get bs 0) run
+other-between (b ∷ bs) (suc k) h other =
+    let run = longest-first b bs (suc k) h in
+    cond_both (is_word_byte b) (is_before_separator bs) _ (λ t. t ≡ false)
+    (λ word. other-between bs k (omega (arith, longest-over b bs run)) other)
+    (λ first. no-separator b (slice_get bs 0) (slice_get bs 0) run)
 
 -- before a space in front of the word
 run_size-before_space : (bs : List ℕ) (k : ℕ) → is_before_separator (drop (suc k) bs) ≡ true → k < longest_run bs
@@ -212,8 +163,7 @@ run_size-before_space (b ∷ bs) (suc k) h inside is =
     let less : k < longest_run bs = omega (arith, longest-over b bs run) in
     let other : is_word_byte (get_or bs k 0) ≡ false = ap is_word_byte is in
     run_size-over b bs run (other-between (b ∷ bs) (suc k) inside other)
-    (and-false _ _ (other-between bs k less other))
-    ∙ ap suc (run_size-before_space bs k h less is)
+    (and_right _ _ (other-between bs k less other)) ∙ ap suc (run_size-before_space bs k h less is)
 
 -- before the word
 run_size-before_word : (bs : List ℕ) (k : ℕ) → is_before_separator (drop (suc k) bs) ≡ true → k < longest_run bs
@@ -227,8 +177,7 @@ run_size-before_word (b ∷ bs) (suc k) h inside other no_space =
     let run = longest-first b bs (suc k) inside in
     let less : k < longest_run bs = omega (arith, longest-over b bs run) in
     run_size-over b bs run (other-between (b ∷ bs) (suc k) inside other)
-    (and-false _ _ (other-between bs k less other))
-    ∙ ap suc (run_size-before_word bs k h less other no_space)
+    (and_right _ _ (other-between bs k less other)) ∙ ap suc (run_size-before_word bs k h less other no_space)
 
 -- The same at columns of a line, where only word bytes are from `start` up to a separator.
 
@@ -268,10 +217,7 @@ module _ (bytes : List ℕ) (from start : ℕ) (low : from < start)
 -- a separator at a column of a line, by the bytes that were found there
 pub separates-at : (bytes : List ℕ) (column : ℕ) (b next : Option ℕ) (t : Bool) → b ≡ slice_get bytes column
     → next ≡ slice_get bytes (column + 1) → is_separator b next ≡ t → separates (drop column bytes) ≡ t
-separates-at bytes column b next t e f h =
-    let front : slice_get (drop column bytes) 0 ≡ b = get-drop bytes column ∙ sym e in
-    let second : slice_get (drop column bytes) 1 ≡ next = get-drop-next bytes column ∙ sym f in
-    ap (λ x. is_separator x (slice_get (drop column bytes) 1)) front ∙ (ap (is_separator b) second ∙ h)
+separates-at bytes column b next t e f h = rw (get-drop bytes column, get-drop-next bytes column, ← e, ← f) h
 
 -- where the longest run ends at no separator
 pub column-longest : (bytes : List ℕ) (from end : ℕ) → end ≡ from + longest_run (drop from bytes)

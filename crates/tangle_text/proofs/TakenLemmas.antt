@@ -1,7 +1,9 @@
 -- A reader goes over bytes of its line.
-use Rattle.std.proofs.lemmas.Bool.Decides.{nat_tests}
-use Rattle.std.proofs.Common.{◌≡◌, ℕ, ◌+◌, ◌-◌, ◌<◌, ◌≤◌, false, List, None, Some, ◌==◌, if◌then◌else◌}
-use Rattle.std.proofs.Common.{Bool, true, false, length, take, drop, refl, ap, sym, ◌∙◌, arith}
+use Rattle.std.proofs.lemmas.Bool.Decides.{eqb_tells}
+use Rattle.std.proofs.lemmas.Option.{same_Some}
+use Rattle.std.proofs.Common.{inl, inr}
+use Rattle.std.proofs.Common.{◌≡◌, ℕ, ◌+◌, ◌-◌, ◌<◌, ◌≤◌, false, List, None, Some, ◌==◌}
+use Rattle.std.proofs.Common.{false, length, take, drop, refl, ap, sym, ◌∙◌, arith}
 use Rattle.tangle_text.specs.declared.reader.Reader.TheInside.{Inside}
 use Rattle.tangle_text.specs.declared.spans.Span.{Span}
 use Rattle.tangle_text.specs.Text.{Cell, bytes_of, span_at}
@@ -45,45 +47,24 @@ run_count-taken r text is at =
     ap run_count (sym (front-is r text is at)) ∙ run_count-rest r.source.now.lines r.bytes.now r.line r.column
 
 pub run_at-none : (text : List Cell) → run_count text ≡ 0 → run_at text ≡ None
-run_at-none text h = by (run_count text) h
-  where
-    by : (n : ℕ) → n ≡ 0 → (if n == 0 then None else Some (span_at n text)) ≡ None
-    by n e = rw e refl
+run_at-none text h = rw h refl
 
 pub run_at-some : (text : List Cell) → (run_count text == 0) ≡ false
     → run_at text ≡ Some (span_at (run_count text) text)
-run_at-some text h = by (run_count text) h
-  where
-    by : (n : ℕ) → (n == 0) ≡ false → (if n == 0 then None else Some (span_at n text)) ≡ Some (span_at n text)
-    by n e = rw e refl
+run_at-some text h = rw h refl
 
 -- the run at the front, by its span
 pub record IsRunAt (text : List Cell) (s : Span) : Type 0 where
   pub some : 0 < run_count text
   pub span : s ≡ span_at (run_count text) text
 
-same-some : (s t : Span) → Some s ≡ Some t → t ≡ s
-same-some s t h = cc
-
 pub run_at-is : (text : List Cell) (s : Span) → run_at text ≡ Some s → IsRunAt text s
-run_at-is text s h = by (run_count text == 0) refl h
-  where
-    more : (n : ℕ) → (n == 0) ≡ false → 0 < n
-    more n e = grind (arith, nat_tests)
-
-    by : (t : Bool) → (run_count text == 0) ≡ t
-        → (if t then None else Some (span_at (run_count text) text)) ≡ Some s → IsRunAt text s
-    by true e h = cc
-    by false e h =
-        record { some = more (run_count text) e; span = same-some (span_at (run_count text) text) s h }
+run_at-is text s h =
+    elim (eqb_tells (run_count text) 0) [
+      | inl none ↦ let never = rw none.0 at h in cc
+      | inr some ↦ record { some = omega (arith, some.1); span = sym (same_Some _ _ (rw some.0 at h)) }
+    ]
 
 pub run_at-empty : (text : List Cell) → run_at text ≡ None → run_count text ≡ 0
-run_at-empty text h = by (run_count text == 0) refl h
-  where
-    none : (n : ℕ) → (n == 0) ≡ true → n ≡ 0
-    none n e = grind (arith, nat_tests)
-
-    by : (t : Bool) → (run_count text == 0) ≡ t
-        → (if t then None else Some (span_at (run_count text) text)) ≡ None → run_count text ≡ 0
-    by true e h = none (run_count text) e
-    by false e h = cc
+run_at-empty text h =
+    elim (eqb_tells (run_count text) 0) [ inl none ↦ none.1 | inr some ↦ let never = rw some.0 at h in cc ]

@@ -1,7 +1,10 @@
 -- Words, which end in their line. Numbers go on over separators.
 use Rattle.std.proofs.Common.{◌≡◌, ℕ, ◌+◌, ◌<◌, ◌≤◌, Bool, true, false, List, [], ◌∷◌, ◌++◌, ◌&&◌, ◌||◌, ◌==◌, not}
-use Rattle.std.proofs.Common.{Option, Some, None, IsSome, cond, if◌then◌else◌, drop-cons, suc}
+use Rattle.std.proofs.Common.{Option, Some, None, IsSome, cond}
 use Rattle.std.specs.List.{prefix_len}
+use Rattle.std.proofs.lemmas.Bool.{cases_Bool, cond_both}
+use Rattle.std.proofs.lemmas.List.{at_drop_more}
+use Rattle.std.proofs.Common.{inl, inr, length-drop}
 use Rattle.std.proofs.Common.{◌-◌, length, take, drop, get_or, slice_get, refl, ap, sym, ◌∙◌, arith, append-nil, drop-drop}
 use Rattle.tangle_lines.specs.Reading.{SourceLine}
 use Rattle.tangle_text.specs.declared.regions.Region.TheVariants as region
@@ -31,8 +34,7 @@ size_by unit.Two after_one after_two = 1 + (1 + after_two)
 abbrev pub number_size : List ℕ → ℕ
 number_size [] = 0
 number_size (b ∷ []) = size_by (unit_by (not (is_word_byte b)) false) 0 0
-number_size (b ∷ c ∷ bs) =
-    size_by (unit_of region.Number (Some b) (Some c)) (number_size (c ∷ bs)) (number_size bs)
+number_size (b ∷ c ∷ bs) = size_by (unit_of region.Number (Some b) (Some c)) (number_size (c ∷ bs)) (number_size bs)
 
 -- the last byte of a line is no separator
 unit-last : (b : ℕ) → unit_of region.Number (Some b) None ≡ unit_by (not (is_word_byte b)) false
@@ -40,23 +42,13 @@ unit-last b = by (is_word_byte b) (b == apostrophe)
   where
     by : (word separates : Bool)
         → unit_by (not (word || separates && false)) (separates && false) ≡ unit_by (not word) false
-    by true true = refl
-    by true false = refl
-    by false true = refl
-    by false false = refl
+    by word separates = grind arith
 
 counted-number : (line column : ℕ) (bs : List ℕ) (rest : List Cell)
     → counted region.Number 0 (line_text line column bs ++ rest) ≡ number_size bs
 counted-number line column [] rest = refl
-counted-number line column (b ∷ []) rest = rw (unit-last b) (by (is_word_byte b))
-  where
-    end : List Cell
-    end = line_text line (column + 1) [] ++ rest
-
-    by : (word : Bool) → let u : Unit-of = unit_by (not word) false in
-        count_by u (counted region.Number (more_by u) end) ≡ size_by u 0 0
-    by true = refl
-    by false = refl
+counted-number line column (b ∷ []) rest =
+    rw (unit-last b) (elim (cases_Bool (is_word_byte b)) [ inl h ↦ rw h refl | inr h ↦ rw h refl ])
 counted-number line column (b ∷ c ∷ bs) rest =
     by (unit_of region.Number (Some b) (Some c)) (counted-number line (column + 1) (c ∷ bs) rest)
     (counted-number line (column + 1 + 1) bs rest)
@@ -100,14 +92,11 @@ number-one [] h = cc
 number-one (b ∷ []) h = rw (sym (unit-last b) ∙ h) refl
 number-one (b ∷ c ∷ bs) h = rw h refl
 
-pub record IsTwo (bs : List ℕ) : Type 0 where
-  pub size : number_size bs ≡ 1 + (1 + number_size (drop 2 bs))
-  pub inside : 2 ≤ length bs
-
-number-two : (bs : List ℕ) → unit_at_front bs ≡ unit.Two → IsTwo bs
+number-two : (bs : List ℕ) → unit_at_front bs ≡ unit.Two
+    → (number_size bs ≡ 1 + (1 + number_size (drop 2 bs))) × (2 ≤ length bs)
 number-two [] h = cc
 number-two (b ∷ []) h = absurd (last-by (is_word_byte b) (sym (unit-last b) ∙ h))
-number-two (b ∷ c ∷ bs) h = record { size = rw h refl; inside = omega arith }
+number-two (b ∷ c ∷ bs) h = (rw h refl, omega arith)
 
 -- at a column of a line
 
@@ -121,8 +110,7 @@ unit-column bytes column = rw (get-drop bytes column, get-drop-next bytes column
 pub unit-found : (bytes : List ℕ) (column : ℕ) (b next : Option ℕ) (u v : Unit-of) → b ≡ slice_get bytes column
     → next ≡ slice_get bytes (column + 1) → u ≡ unit_of region.Number b next → u ≡ v → unit_at_column bytes column ≡ v
 unit-found bytes column b next u v e f g h =
-    ap (λ x. unit_of region.Number x (slice_get bytes (column + 1))) (sym e)
-    ∙ (ap (unit_of region.Number b) (sym f) ∙ (sym g ∙ h))
+    rw (← e, ← f) (sym g ∙ h)
 
 pub column-stop : (bytes : List ℕ) (column : ℕ) → unit_at_column bytes column ≡ unit.Stop
     → number_size (drop column bytes) ≡ 0
@@ -134,9 +122,13 @@ column-one bytes column h =
     number-one (drop column bytes) (unit-column bytes column ∙ h)
     ∙ ap (λ l. 1 + number_size l) (drop-drop 1 column bytes)
 
-pub column-two : (bytes : List ℕ) (column : ℕ) → unit_at_column bytes column ≡ unit.Two
-    → IsTwo (drop column bytes)
-column-two bytes column h = number-two (drop column bytes) (unit-column bytes column ∙ h)
+pub column-two : (bytes : List ℕ) (at : ℕ) → unit_at_column bytes at ≡ unit.Two
+    → (number_size (drop at bytes) ≡ 1 + (1 + number_size (drop (at + 2) bytes))) × (at + 2 ≤ length bytes)
+column-two bytes at h =
+    let two = number-two (drop at bytes) (unit-column bytes at ∙ h) in (
+      two.0 ∙ ap (λ l. 1 + (1 + number_size l)) (drop-drop 2 at bytes),
+      omega (arith, two.1, length-drop at bytes),
+    )
 
 -- the number of bytes of a word after its first byte `b`
 abbrev pub word_size : ℕ → List ℕ → ℕ
@@ -150,55 +142,44 @@ word_size-other b bs h = rw h refl
 
 word_more-line : (line column b : ℕ) (bs : List ℕ) (rest : List Cell)
     → word_more (line_text line column (b ∷ bs) ++ rest) ≡ word_size b bs
-word_more-line line column b bs rest = by (is_digit b)
-  where
-    by : (digit : Bool)
-        → count_before (if digit then region.Number else region.Word) (line_text line (column + 1) bs ++ rest)
-        ≡ cond digit (number_size bs) (prefix_len is_word_byte bs)
-    by true = count-number line (column + 1) bs rest
-    by false =
-        count-is region.Word (line_text line (column + 1) bs ++ rest)
-        ∙ counted-run region.Word is_word_byte word-run line (column + 1) bs rest
+word_more-line line column b bs rest =
+    elim (cases_Bool (is_digit b)) [
+      | inl h ↦ rw h (count-number line (column + 1) bs rest)
+      | inr h ↦
+          rw h (count-is region.Word (line_text line (column + 1) bs ++ rest)
+          ∙ counted-run region.Word is_word_byte word-run line (column + 1) bs rest)
+    ]
 
 -- before no separator, a number is its word bytes
 number_size-word : (bs : List ℕ) → is_before_separator bs ≡ false → number_size bs ≡ prefix_len is_word_byte bs
 number_size-word [] h = refl
-number_size-word (b ∷ []) h = by (is_word_byte b)
-  where
-    by : (word : Bool) → size_by (unit_by (not word) false) 0 0 ≡ cond word (1 + 0) 0
-    by true = refl
-    by false = refl
-number_size-word (b ∷ c ∷ bs) h = by (is_word_byte b) refl (number_size-word (c ∷ bs))
+number_size-word (b ∷ []) h = elim (cases_Bool (is_word_byte b)) [ inl h ↦ rw h refl | inr h ↦ rw h refl ]
+number_size-word (b ∷ c ∷ bs) h =
+    elim (cases_Bool (is_word_byte b)) [
+      | inl word ↦
+          all (word-no_separator b (Some c) word)
+          ∙ ap (λ n. cond (is_word_byte b) (1 + n) 0)
+          (number_size-word (c ∷ bs) (sym (before-word b (c ∷ bs) word) ∙ h))
+      | inr other ↦ all (sym (before-other b (c ∷ bs) other) ∙ h) ∙ rw other refl
+    ]
   where
     -- by whether `b` is a word byte, where it is no separator
     sizes : (word separates : Bool) (n m : ℕ) → separates ≡ false
         → size_by (unit_by (not (word || separates)) separates) n m ≡ cond word (1 + n) 0
-    sizes word true n m e = cc
-    sizes true false n m e = refl
-    sizes false false n m e = refl
+    sizes word separates n m e = grind arith
 
     all : is_separator (Some b) (Some c) ≡ false → number_size (b ∷ c ∷ bs) ≡ cond (is_word_byte b) (1 + number_size (c ∷ bs)) 0
     all e = sizes (is_word_byte b) (is_separator (Some b) (Some c)) (number_size (c ∷ bs)) (number_size bs) e
-
-    by : (w : Bool) → is_word_byte b ≡ w
-        → (is_before_separator (c ∷ bs) ≡ false → number_size (c ∷ bs) ≡ prefix_len is_word_byte (c ∷ bs))
-        → number_size (b ∷ c ∷ bs) ≡ cond (is_word_byte b) (1 + prefix_len is_word_byte (c ∷ bs)) 0
-    by true word more =
-        all (word-no_separator b (Some c) word)
-        ∙ ap (λ n. cond (is_word_byte b) (1 + n) 0) (more (sym (before-word b (c ∷ bs) word) ∙ h))
-    by false other more = all (sym (before-other b (c ∷ bs) other) ∙ h) ∙ rw other refl
 
 -- a word before no separator is its word bytes
 pub word_more-plain : (line column b : ℕ) (bs : List ℕ) (rest : List Cell) → is_before_separator bs ≡ false
     → word_more (line_text line column (b ∷ bs) ++ rest) ≡ count_before region.Word (line_text line (column + 1) bs ++ rest)
 word_more-plain line column b bs rest h =
     word_more-line line column b bs rest
-    ∙ (plain (is_digit b) ∙ sym (count-is region.Word (line_text line (column + 1) bs ++ rest)
+    ∙ (cond_both (is_digit b) (number_size bs) _ (λ n. n ≡ prefix_len is_word_byte bs)
+    (λ e. number_size-word bs h) (λ e. refl)
+    ∙ sym (count-is region.Word (line_text line (column + 1) bs ++ rest)
     ∙ counted-run region.Word is_word_byte word-run line (column + 1) bs rest))
-  where
-    plain : (digit : Bool) → cond digit (number_size bs) (prefix_len is_word_byte bs) ≡ prefix_len is_word_byte bs
-    plain true = number_size-word bs h
-    plain false = refl
 
 -- the word at a column of a line
 module _ (bytes : List ℕ) (column : ℕ) (inside : column < length bytes) where
@@ -208,18 +189,16 @@ module _ (bytes : List ℕ) (column : ℕ) (inside : column < length bytes) wher
   abbrev others : List ℕ
   others = drop (column + 1) bytes
 
-  split : drop column bytes ≡ first ∷ others
-  split = let next : column + 1 ≡ suc column = omega arith in rw next (drop-cons bytes column 0 inside)
-
   pub word_more-alone : word_more (line_text 0 0 (drop column bytes)) ≡ word_size first others
   word_more-alone =
-      ap (λ l. word_more (line_text 0 0 l)) split
+      at_drop_more (λ l. word_more (line_text 0 0 l)) bytes column 0 inside
       ∙ (ap word_more (sym (append-nil (line_text 0 0 (first ∷ others)))) ∙ word_more-line 0 0 first others [])
 
   pub word_more-rest : (lines : List SourceLine) (line : ℕ)
       → word_more (rest_of lines bytes line column false) ≡ word_size first others
   word_more-rest lines line =
-      ap (λ l. word_more (line_text line column l ++ text_from (line + 1) (drop (line + 1) lines))) split
+      at_drop_more (λ l. word_more (line_text line column l ++ text_from (line + 1) (drop (line + 1) lines)))
+      bytes column 0 inside
       ∙ word_more-line line column first others (text_from (line + 1) (drop (line + 1) lines))
 
 -- a reader goes over the word at its position, which has `n` cells after its first
@@ -227,17 +206,6 @@ pub record TakesWord (r : Inside) (text : List Cell) (end n : ℕ) : Type 0 wher
   pub span : record { line = r.line; start = r.column; end = end } ≡ span_at (1 + n) text
   pub ahead : rest_of r.source.now.lines r.bytes.now r.line end r.is_done ≡ drop n (drop 1 text)
   pub bytes : bytes_of (take (1 + n) text) ≡ take (end - r.column) (drop r.column r.bytes.now)
-
-takes-by : (r : Inside) (text : List Cell) (end n : ℕ)
-    → rest_of r.source.now.lines r.bytes.now r.line r.column r.is_done ≡ text → IsSome (byte_at 0 text)
-    → end ≡ r.column + (1 + n) → end ≤ length r.bytes.now → TakesWord r text end n
-takes-by r text end n is some ends fits =
-    let at = at-byte r text is some in
-    record {
-      span = span-taken r text (1 + n) end at ends;
-      ahead = rest-taken r text (1 + n) end is ends fits ∙ sym (drop-drop n 1 text);
-      bytes = bytes-taken r text (1 + n) end is at ends fits;
-    }
 
 pub takes-word : (r : Inside) (text : List Cell) (end : ℕ)
     → rest_of r.source.now.lines r.bytes.now r.line r.column r.is_done ≡ text → IsSome (byte_at 0 text)
@@ -249,7 +217,12 @@ takes-word r text end is some ends fits =
     let more : word_more text ≡ word_more (line_text 0 0 (drop r.column r.bytes.now))
     = ap word_more (sym (front-is r text is at))
     ∙ (word_more-rest r.bytes.now r.column at.inside r.source.now.lines r.line ∙ sym alone) in
-    takes-by r text end (word_more text) is some (sums end (word_more text) _ more ends) fits
+    let sum = sums end (word_more text) _ more ends in
+    record {
+      span = span-taken r text (1 + word_more text) end at sum;
+      ahead = rest-taken r text (1 + word_more text) end is sum fits ∙ sym (drop-drop (word_more text) 1 text);
+      bytes = bytes-taken r text (1 + word_more text) end is at sum fits;
+    }
   where
     sums : (end n m : ℕ) → n ≡ m → end ≡ r.column + 1 + m → end ≡ r.column + (1 + n)
     sums end n m e f = omega arith

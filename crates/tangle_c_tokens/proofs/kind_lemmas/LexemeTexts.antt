@@ -152,15 +152,13 @@ module _ (texts : List (List ℕ)) where
   sign-whole : (c : Cell) (cs : List Cell) → IsInLine texts c cs → (b : Option ℕ) → c.byte ≡ b → is_line_end b ≡ false
       → AreWhole (token.Span span_kind.Sign (span_at 1 (c ∷ cs)) ∷ [])
   sign-whole c cs is None e byte = cc
-  sign-whole c cs is (Some b) e byte =
-      whole _ (search (rules, texts-alone, sign-span, texts-none))
+  sign-whole c cs is (Some b) e byte = whole _ (search (rules, texts-alone, sign-span, texts-none))
 
   word-whole : (c : Cell) (cs : List Cell) → IsInLine texts c cs → (b : Option ℕ) → c.byte ≡ b
       → holds_word_byte b ≡ true
       → AreWhole (token.Span span_kind.Word (span_at (1 + word_more (c ∷ cs)) (c ∷ cs)) ∷ [])
   word-whole c cs is None e word = cc
-  word-whole c cs is (Some b) e word =
-      whole _ (search (rules, texts-alone, word-span, texts-none))
+  word-whole c cs is (Some b) e word = whole _ (search (rules, texts-alone, word-span, texts-none))
 
   quoted-whole : (ts : List Token) → IsQuotedText texts (without_faults ts) → AreWhole ts
   quoted-whole ts quoted =
@@ -170,13 +168,11 @@ module _ (texts : List (List ℕ)) where
   code-whole : (kind : ControlCode) (s : LexerState) (c : Cell) (cs : List Cell) → IsInLine texts c cs
       → holds at_sign c.byte ≡ true → AreWhole (c_code kind s (c ∷ cs)).tokens
   code-whole code.DoubleAt s c cs is sign = grind (arith, nat_tests, sign-whole c cs is c.byte)
-  code-whole code.ControlText s c cs is sign =
-      others-whole _ (search (rules, no-white, no-line_ends, no-fault))
+  code-whole code.ControlText s c cs is sign = others-whole _ (search (rules, no-white, no-line_ends, no-fault))
   code-whole code.Verbatim s c cs is sign = others-whole _ (search (rules, no-cut))
   code-whole code.Name s c cs is sign = others-whole _ (search (rules, no-append, no-fault))
   code-whole code.AllMacros s c cs is sign = others-whole _ (search rules)
-  code-whole code.AsciiConstant s c cs is sign =
-      search (rules, others-whole, no-constant)
+  code-whole code.AsciiConstant s c cs is sign = search (rules, others-whole, no-constant)
   code-whole _ s c cs is sign = others-whole _ (seen _ refl)
 
   kind-whole : (kind : LexemeKind) (s : LexerState) (c : Cell) (cs : List Cell) → AreInLines texts (c ∷ cs)
@@ -184,8 +180,7 @@ module _ (texts : List (List ℕ)) where
   kind-whole (lexeme_kind.Control code) s c cs is shows = code-whole code s c cs is.0 shows
   kind-whole lexeme_kind.BlockComment s c cs is shows =
       others-whole _ (search (rules, no-white, no-line_ends, no-fault))
-  kind-whole lexeme_kind.LineComment s c cs is shows =
-      search (rules, others-whole, no-white, no-fault)
+  kind-whole lexeme_kind.LineComment s c cs is shows = search (rules, others-whole, no-white, no-fault)
   kind-whole lexeme_kind.DoubleQuote s c cs is shows = quoted-whole _ (string-text texts s c cs is shows)
   kind-whole lexeme_kind.Apostrophe s c cs is shows = quoted-whole _ (character-text texts s c cs is shows)
   kind-whole lexeme_kind.HeaderName s c cs is shows = quoted-whole _ (header-text texts s c cs is shows)

@@ -129,10 +129,4 @@ module _ (texts : List (List ℕ)) where
   pub range-some : (line start end : ℕ) → start < end → end ≤ length (get_or texts line [])
       → has_bytes (range line start end) ≡ true
   range-some line start end some within =
-      let xs = drop start (get_or texts line []) in
-      let left : end - start ≤ length xs = omega (arith, length-drop start (get_or texts line [])) in
-      by (range line start end) (omega (arith, length-take-le (end - start) xs left))
-    where
-      by : (t : List ℕ) → 0 < length t → has_bytes t ≡ true
-      by [] h = absurd (omega arith)
-      by (b ∷ t) h = refl
+      grind (arith, nat_tests, length-take-le (end - start) (drop start (get_or texts line [])), length-drop start (get_or texts line []))

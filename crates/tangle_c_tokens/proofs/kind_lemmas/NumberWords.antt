@@ -5,7 +5,7 @@ use Rattle.std.proofs.Common.{◌≡◌, ℕ, Bool, true, false, List, [], ◌�
 use Rattle.std.specs.Prelude.{◌||◌, ◌==◌, not}
 use Rattle.std.proofs.lemmas.Bool.{and_parts, and_from, or_left, or_right}
 use Rattle.std.specs.List.{list_all}
-use Rattle.c_tokens.specs.Bytes.{apostrophe, is_digit, is_word_byte, is_sign, is_exponent}
+use Rattle.c_tokens.specs.Bytes.{apostrophe, is_digit, is_word_byte, is_sign}
 use Rattle.c_tokens.specs.Grammar.{is_number_byte, signs_follow_exponents, apostrophes_separate, has_universal_names, is_number, begins_number}
 use Rattle.c_tokens.proofs.GrammarLemmas.{number-from}
 use Rattle.std.proofs.lemmas.Bool.Decides.{nat_tests}
@@ -24,11 +24,7 @@ separated-unsigned b h = grind (arith, nat_tests)
 separated-signs : (a : List ℕ) → list_all is_separated_byte a ≡ true → signs_follow_exponents a ≡ true
 separated-signs [] h = refl
 separated-signs (b ∷ []) h = refl
-separated-signs (b ∷ c ∷ a) h =
-    let rest = (and_parts (is_separated_byte b) (list_all is_separated_byte (c ∷ a)) h).1 in
-    let first = (and_parts (is_separated_byte c) (list_all is_separated_byte a) rest).0 in
-    and_from (is_exponent b || not (is_sign c)) (signs_follow_exponents (c ∷ a))
-    (or_right (is_exponent b) (not (is_sign c)) (separated-unsigned c first)) (separated-signs (c ∷ a) rest)
+separated-signs (b ∷ c ∷ a) h = search (rules, and_parts, and_from, or_right, separated-unsigned, separated-signs (c ∷ a))
 
 separated-names : (a : List ℕ) → list_all is_separated_byte a ≡ true → has_universal_names a ≡ true
 separated-names [] h = refl
@@ -56,12 +52,10 @@ word-unquoted b h = grind (arith, nat_tests)
 pub separates-more : (c : ℕ) (a : List ℕ) → is_word_byte c ≡ true → list_all is_separated_byte a ≡ true →
     apostrophes_separate (c ∷ a) ≡ true → apostrophes_separate (apostrophe ∷ c ∷ a) ≡ true
 separates-more c [] word all h = search (rules, and_from, or_right)
-separates-more c (d ∷ a) word all h =
-    search (rules, separated-unsigned, and_parts, and_from)
+separates-more c (d ∷ a) word all h = search (rules, separated-unsigned, and_parts, and_from)
 
 -- a byte of a word before what goes on as a number of a word does
 pub separates-word : (b : ℕ) (a : List ℕ) → is_word_byte b ≡ true → apostrophes_separate a ≡ true →
     apostrophes_separate (b ∷ a) ≡ true
 separates-word b [] word h = ap not (word-unquoted b word)
-separates-word b (c ∷ a) word h =
-    search (rules, and_from, or_left, word-unquoted)
+separates-word b (c ∷ a) word h = search (rules, and_from, or_left, word-unquoted)

@@ -104,10 +104,8 @@ module _ (close : ℕ) (no_sign : (at_sign == close) ≡ false) (no_back : (back
             sign false p = sym p
 
     pub quote-signs : (ends : Bool) (q : List ℕ) → holds line_feed (slice_get q 0) ≡ false
-        → GivesQuoted ends (spliced q)
-        → GivesQuoted ends (spliced (at_sign ∷ q))
-    quote-signs ends q next h =
-        grind (arith, nat_tests, gives-byte ends at_sign (spliced q) refl no_sign refl h)
+        → GivesQuoted ends (spliced q) → GivesQuoted ends (spliced (at_sign ∷ q))
+    quote-signs ends q next h = grind (arith, nat_tests, gives-byte ends at_sign (spliced q) refl no_sign refl h)
 
     -- a unit of two bytes that are not @ begins with a backslash
     pub backslash-first : (b : ℕ) (n : Option ℕ) → unit_of r (Some b) n ≡ unit.Two

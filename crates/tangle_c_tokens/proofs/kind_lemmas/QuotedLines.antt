@@ -47,11 +47,11 @@ module _ (texts : List (List ℕ)) (r : Region) (close last_line : ℕ) (cut : I
       → (b == backslash) ≡ false → (b == line_feed) ≡ false
       → IsOneLine (range_bytes texts (without_faults (cut_tokens (quote_end r close last_line) r 0 c.column cs)))
   text-lines c cs b x is back feed =
-      let whole = text-whole texts r close last_line cut kind stops (λ ends q. IsOneLine q) (one-byte close [] closes refl refl)
+      let whole = (text-whole texts r close last_line cut kind stops (λ ends q. IsOneLine q) (one-byte close [] closes refl refl)
       refl (λ ends b q e feed next line. one-byte b q feed next line)
       (λ ends q next line. one-byte at_sign q refl next line)
       (λ ends b y q e sign feed next line.
       one-byte b (y ∷ q) (no-feed b (pairs b (Some y) e (rw sign refl))) feed (one-byte y q feed next line))
-      (λ ends b q e line. taken-feed b q (pairs b None e (and-false (b == at_sign))) line) c cs b x is in
+      (λ ends b q e line. taken-feed b q (pairs b None e (and-false (b == at_sign))) line) c cs b x is).1 in
       subst IsOneLine (sym whole.bytes)
       (subst TextHasNoLineFeed (sym (spliced-other b whole.ahead back)) (grind (arith, nat_tests, feed, whole.closes)))

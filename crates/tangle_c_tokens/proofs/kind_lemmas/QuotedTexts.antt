@@ -38,8 +38,7 @@ last-more test b q h = search rules
 -- `Closes` is true of the bytes of a text after its opening byte: of a text that ends, or of one that does not. `r` is
 -- the region of such texts, which this byte closes.
 module _ (texts : List (List ℕ)) (r : Region) (close last_line : ℕ) (cut : IsCut r) (kind : kind_in r
-    ≡ span_kind.Quoted)
-    (stops : (b : ℕ) (n : Option ℕ) → unit_of r (Some b) n ≡ unit.Stop → (b == close) ≡ true)
+    ≡ span_kind.Quoted) (stops : (b : ℕ) (n : Option ℕ) → unit_of r (Some b) n ≡ unit.Stop → (b == close) ≡ true)
     (Closes : Bool → List ℕ → Type 0) (ending : Closes true (close ∷ [])) (unended : Closes false [])
     (one : (ends : Bool) (b : ℕ) (q : List ℕ) → unit_of r (Some b) (slice_get q 0) ≡ unit.One → (b == line_feed) ≡ false
     → holds line_feed (slice_get q 0) ≡ false → Closes ends q → Closes ends (b ∷ q))
@@ -61,7 +60,7 @@ module _ (texts : List (List ℕ)) (r : Region) (close last_line : ℕ) (cut : I
 
   -- The tokens without faults are ranges that have these bytes, and then those of the text that is still ahead, which
   -- begins with `front`.
-  record Ends (before : List ℕ) (front : Option ℕ) (ts : List Token) : Type 0 where
+  pub record Ends (before : List ℕ) (front : Option ℕ) (ts : List Token) : Type 0 where
     pub ends : Bool
     pub ahead : List ℕ
     pub bytes : range_bytes texts (without_faults ts) ≡ before ++ ahead
@@ -101,8 +100,7 @@ module _ (texts : List (List ℕ)) (r : Region) (close last_line : ℕ) (cut : I
       → Ends (range texts c.line start c.column) c.byte
       (cond closed (cut_range r c.line start (c.column + 1))
       (cut_range r c.line start c.column ++ token.Fault fault.StringEnd c.line ∷ []))
-  stop-by c cs start false same e is low =
-      search (rules, cut-range)
+  stop-by c cs start false same e is low = search (rules, cut-range)
   stop-by c cs start true same stop is low =
       let e = closing c.byte same in
       let only = cut-range c.line start (c.column + 1) (omega arith) (byte-within texts c cs close e is) [] in
@@ -248,8 +246,7 @@ module _ (texts : List (List ℕ)) (r : Region) (close last_line : ℕ) (cut : I
       by None x z k sign s = grind (arith, nat_tests)
       by (Some b) x None k true s = grind (arith, nat_tests)
       by (Some b) x None k false s = grind (arith, nat_tests, broken-holds n c d cs b start x k e next is low)
-      by (Some b) x (Some y) k true s =
-          signs-holds n c d cs y start s k next is low (tokens ∙ rw s refl)
+      by (Some b) x (Some y) k true s = signs-holds n c d cs y start s k next is low (tokens ∙ rw s refl)
       by (Some b) x (Some y) k false s =
           others-holds n c d cs b y start x k e s next is low (tokens ∙ rw s (none (holds backslash c.byte) d.byte k))
         where
@@ -260,34 +257,19 @@ module _ (texts : List (List ℕ)) (r : Region) (close last_line : ℕ) (cut : I
           none true (Some z) same = refl
           none false (Some z) same = refl
 
-  -- the bytes of a whole text after its first byte
-  pub record IsWhole (opening : ℕ) (ts : List Token) : Type 0 where
-    pub ends : Bool
-    pub ahead : List ℕ
-    pub bytes : range_bytes texts (without_faults ts) ≡ opening ∷ ahead
-    pub closes : Closes ends ahead
-    pub last : ends ≡ true → last_byte_passes is_closing ahead ≡ true
-    pub ranges : list_all is_range (without_faults ts) ≡ true
-    pub full : list_all is_full (without_faults ts) ≡ true
-
+  -- a whole text, after its first byte
   pub text-whole : (c : Cell) (cs : List Cell) (b : ℕ) → c.byte ≡ Some b → AreInLines texts (c ∷ cs)
-      → IsWhole b (tokens_of c.column cs)
+      → (front : Option ℕ) × Ends (b ∷ []) front (tokens_of c.column cs)
   text-whole c [] b x is = absurd (subst (λ k. Continues k c []) x is.0.next)
   text-whole c (d ∷ cs) b x is =
       let at = after-byte texts c d cs b x is.0 in
-      let text = (units-by r Holds stop-holds end-holds one-holds two-holds (λ f e. lone f e) (d ∷ cs)) is.1 c.column (omega arith) in
       let first : range texts d.line c.column d.column ≡ b ∷ [] =
       (λ i. range texts (at.0 i) c.column (at.1 i)) ∙ range-byte texts c (d ∷ cs) b c.column x is.0 (omega arith)
-      ∙ ap (λ t. t ++ b ∷ []) (range-none texts c.line c.column) in
-      record {
-        ends = text.ends;
-        ahead = text.ahead;
-        bytes = text.bytes ∙ ap (λ t. t ++ text.ahead) first;
-        closes = text.closes;
-        last = text.last;
-        ranges = text.ranges;
-        full = text.full;
-      }
+      ∙ ap (λ t. t ++ b ∷ []) (range-none texts c.line c.column) in (
+        d.byte,
+        subst (λ t. Ends t d.byte (tokens_of c.column (d ∷ cs))) first
+            ((units-by r Holds stop-holds end-holds one-holds two-holds (λ f e. lone f e) (d ∷ cs)) is.1 c.column (omega arith)),
+      )
     where
       lone : (f : Cell) → unit_at r (f ∷ []) ≡ unit.Two → Holds 1 (f ∷ [])
       lone f e is start low = search rules

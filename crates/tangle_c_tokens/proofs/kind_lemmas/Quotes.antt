@@ -66,12 +66,12 @@ module _ (texts : List (List ℕ)) (s : LexerState) (c : Cell) (cs : List Cell) 
   pub string-text : c.byte ≡ Some double_quote → IsText region.DoubleQuote double_quote
   string-text x =
       let r = region.DoubleQuote in
-      let whole = text-whole texts r double_quote s.last_line double_quote-cut refl
+      let whole = (text-whole texts r double_quote s.last_line double_quote-cut refl
       (quote-stops double_quote refl refl r (λ b n. refl))
       (λ ends q. Gives ends (ends_quoted double_quote) (spliced q)) refl
       (gives-nothing (ends_quoted double_quote) refl) (quote-one double_quote refl refl r (λ b n. refl))
       (quote-signs double_quote refl refl r (λ b n. refl)) (quote-others double_quote refl refl r (λ b n. refl))
-      (quote-broken double_quote refl refl r (λ b n. refl)) c cs double_quote x is in
+      (quote-broken double_quote refl refl r (λ b n. refl)) c cs double_quote x is).1 in
       record {
         ranges = whole.ranges;
         bytes = whole.full;
@@ -84,12 +84,11 @@ module _ (texts : List (List ℕ)) (s : LexerState) (c : Cell) (cs : List Cell) 
   pub character-text : c.byte ≡ Some apostrophe → IsText region.Apostrophe apostrophe
   character-text x =
       let r = region.Apostrophe in
-      let whole = text-whole texts r apostrophe s.last_line apostrophe-cut refl
+      let whole = (text-whole texts r apostrophe s.last_line apostrophe-cut refl
       (quote-stops apostrophe refl refl r (λ b n. refl)) (λ ends q. Gives ends (ends_quoted apostrophe)
-      (spliced q)) refl
-      (gives-nothing (ends_quoted apostrophe) refl) (quote-one apostrophe refl refl r (λ b n. refl))
+      (spliced q)) refl (gives-nothing (ends_quoted apostrophe) refl) (quote-one apostrophe refl refl r (λ b n. refl))
       (quote-signs apostrophe refl refl r (λ b n. refl)) (quote-others apostrophe refl refl r (λ b n. refl))
-      (quote-broken apostrophe refl refl r (λ b n. refl)) c cs apostrophe x is in
+      (quote-broken apostrophe refl refl r (λ b n. refl)) c cs apostrophe x is).1 in
       record {
         ranges = whole.ranges;
         bytes = whole.full;
@@ -101,9 +100,9 @@ module _ (texts : List (List ℕ)) (s : LexerState) (c : Cell) (cs : List Cell) 
 
   pub header-text : c.byte ≡ Some less_sign → IsText region.HeaderName greater_sign
   header-text x =
-      let whole = text-whole texts region.HeaderName greater_sign s.last_line header_name-cut refl header-stops
+      let whole = (text-whole texts region.HeaderName greater_sign s.last_line header_name-cut refl header-stops
       (λ ends q. Gives ends ends_header_name q) refl (gives-nothing ends_header_name refl) header-one header-signs
-      header-others header-broken c cs less_sign x is in
+      header-others header-broken c cs less_sign x is).1 in
       record {
         ranges = whole.ranges;
         bytes = whole.full;

@@ -24,12 +24,7 @@ use Rattle.std.proofs.lemmas.Bool.Decides.{nat_tests}
 -- what is true of ranges and breaks
 pub range-by : (P : Token → Type 0) → ((s : Span) → P (token.Span span_kind.Quoted s)) → ((n : ℕ) → P (token.QuoteBreak n))
     → (t : Token) → is_range t ≡ true → P t
-range-by P range break (token.Span span_kind.Quoted s) h = range s
-range-by P range break (token.Span span_kind.Word s) h = cc
-range-by P range break (token.Span span_kind.Sign s) h = cc
-range-by P range break (token.Span span_kind.Verbatim s) h = cc
-range-by P range break (token.QuoteBreak n) h = break n
-range-by P range break _ h = cc
+range-by P range break t h = search rules
 
 -- `f` keeps each range
 abbrev KeepsRanges : (List Token → List Token) → Type 0
@@ -52,8 +47,7 @@ module _ (texts : List (List ℕ)) where
   -- `f` makes of each other token and of texts after it texts
   edited-texts : (f : List Token → List Token) → AreTexts texts (f []) → KeepsRanges f
       → ((t : Token) (ts : List Token) → is_range t ≡ false → HasItsKind texts t → AreTexts texts (f ts)
-      → AreTexts texts (f (t ∷ ts)))
-      → (ts : List Token) → AreTexts texts ts → AreTexts texts (f ts)
+      → AreTexts texts (f (t ∷ ts))) → (ts : List Token) → AreTexts texts ts → AreTexts texts (f ts)
   edited-texts f none keeps others =
       texts-by texts (λ ts. AreTexts texts (f ts)) none (λ t ts alone kind all made. others t ts alone kind made)
       (λ part ts quoted all made.
@@ -96,8 +90,7 @@ module _ (texts : List (List ℕ)) where
       break n (f ∷ ts) = refl
 
       one : (t : Token) (ts : List Token) → is_range t ≡ false → HasItsKind texts t
-          → AreTexts texts (with_spaces texts ts)
-          → AreTexts texts (with_spaces texts (t ∷ ts))
+          → AreTexts texts (with_spaces texts ts) → AreTexts texts (with_spaces texts (t ∷ ts))
       one t [] alone kind made = texts-alone texts t [] alone kind made
       one t (f ∷ ts) alone kind made =
           texts-alone texts t _ alone kind
@@ -105,8 +98,7 @@ module _ (texts : List (List ℕ)) where
           (λ ws. AreTexts texts (ws ++ with_spaces texts (f ∷ ts))) (λ e. white _ made) (λ e. made))
 
   pub backslashes-texts : (ts : List Token) → AreTexts texts ts → AreTexts texts (without_backslashes texts ts)
-  backslashes-texts = edited-texts (without_backslashes texts) (texts-none texts)
-      (search rules)
+  backslashes-texts = edited-texts (without_backslashes texts) (texts-none texts) (search rules)
       (λ t ts alone kind made.
       cond_both (is_line_backslash texts t ts) [] (t ∷ []) (λ us. AreTexts texts (us ++ without_backslashes texts ts))
       (λ e. made) (λ e. texts-alone texts t (without_backslashes texts ts) alone kind made))
@@ -181,8 +173,7 @@ module _ (texts : List (List ℕ)) where
       → AreTexts texts (with_name_space texts ts)
   name_space-texts =
       texts-by texts (λ ts. name_is_range ts ≡ false → AreTexts texts (with_name_space texts ts))
-      (λ h. texts-none texts)
-      (λ t ts alone kind all made h. one t ts alone kind all made h)
+      (λ h. texts-none texts) (λ t ts alone kind all made h. one t ts alone kind all made h)
       (λ part ts quoted all made h. by part ts quoted made h)
     where
       name : (t : Token) (ts : List Token) → is_range t ≡ false → HasItsKind texts t → AreTexts texts ts

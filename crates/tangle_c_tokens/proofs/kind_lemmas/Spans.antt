@@ -27,7 +27,7 @@ use Rattle.std.proofs.lemmas.Bool.Decides.{nat_tests}
 word-bytes : (text : List Cell) → list_all is_word_byte (take (count_before region.Word text) (line_bytes text)) ≡ true
 word-bytes =
     units-by region.Word (λ n text. list_all is_word_byte (take n (line_bytes text)) ≡ true) (λ text e. refl) refl
-    (λ n c cs e h. one n cs h (byte_at 0 cs) c.byte e) (λ n c d cs e h. absurd (never _ e)) (λ c e. absurd (never _ e))
+    (λ n c cs e h. one n cs h (byte_at 0 cs) c.byte e) (λ n c d cs e h. grind (arith, nat_tests)) (λ c e. grind (arith, nat_tests))
   where
     one : (n : ℕ) (cs : List Cell) → list_all is_word_byte (take n (line_bytes cs)) ≡ true → (next b : Option ℕ)
         → unit_of region.Word b next ≡ unit.One
@@ -35,24 +35,16 @@ word-bytes =
     one n cs h next None e = cc
     one n cs h next (Some b) e = grind (arith, nat_tests)
 
-    never : (b : Bool) → unit_by b false ≡ unit.Two → ⊥
-    never true e = cc
-    never false e = cc
-
 -- the cells of a number after its first have word bytes, and apostrophes that separate them
 
 abbrev IsSeparated : List ℕ → Type 0
 IsSeparated a = (list_all is_separated_byte a ≡ true) × (apostrophes_separate a ≡ true)
 
 unit-one : (word separator : Bool) → unit_by (not (word || separator)) separator ≡ unit.One → word ≡ true
-unit-one true separator e = refl
-unit-one false true e = cc
-unit-one false false e = cc
+unit-one word separator e = grind (arith, nat_tests)
 
 unit-two : (word separator : Bool) → unit_by (not (word || separator)) separator ≡ unit.Two → separator ≡ true
-unit-two word true e = refl
-unit-two true false e = cc
-unit-two false false e = cc
+unit-two word separator e = grind (arith, nat_tests)
 
 more-separated : (b : ℕ) (a : List ℕ) → is_word_byte b ≡ true → IsSeparated a → IsSeparated (b ∷ a)
 more-separated b a word h = search (rules, and_from, is_separated_byte, or_left, separates-word)
@@ -89,8 +81,7 @@ number-bytes =
 
 -- a word with this first byte is of its kind
 abbrev IsWord : ℕ → List ℕ → Type 0
-IsWord b text =
-    IsTextOfKind (if is_digit b then Other else Plain) text × (is_digit b ≡ true → is_number text ≡ true)
+IsWord b text = IsTextOfKind (if is_digit b then Other else Plain) text × (is_digit b ≡ true → is_number text ≡ true)
 
 word-is : (b : ℕ) (cs : List Cell) → is_word_byte b ≡ true →
     IsWord b (b ∷ take (count_before (word_region (Some b)) cs) (line_bytes cs))

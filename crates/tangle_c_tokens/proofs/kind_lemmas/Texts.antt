@@ -1,4 +1,5 @@
 -- Tokens that are texts, one after another.
+use Rattle.std.proofs.Common.{rules}
 use Rattle.std.proofs.Common.{arith}
 use Rattle.std.proofs.Common.{◌≡◌, ◌⊎◌, inl, inr, ℕ, Bool, true, false, List, [], ◌∷◌, ◌++◌, refl, ap, sym, subst}
 use Rattle.std.proofs.Common.{append_assoc, flat_map}
@@ -34,8 +35,7 @@ module _ (texts : List (List ℕ)) where
 
   pub texts-alone : (t : Token) (ts : List Token) → is_range t ≡ false → HasItsKind texts t
       → AreTexts texts ts → AreTexts texts (t ∷ ts)
-  texts-alone t ts alone kind rest =
-      ((t ∷ []) ∷ rest.0, ap (λ us. t ∷ us) rest.1, (inl (alone, kind), rest.2))
+  texts-alone t ts alone kind rest = ((t ∷ []) ∷ rest.0, ap (λ us. t ∷ us) rest.1, (inl (alone, kind), rest.2))
 
   pub texts-part : (part ts : List Token) → IsQuotedText texts part → AreTexts texts ts → AreTexts texts (part ++ ts)
   texts-part part ts quoted rest = (part ∷ rest.0, ap (λ us. part ++ us) rest.1, (inr quoted, rest.2))
@@ -48,15 +48,7 @@ module _ (texts : List (List ℕ)) where
     parts-by : (parts : List (List Token))
         → AllByRecursion (λ part. IsAlone texts part ⊎ IsQuotedText texts part) parts → P (joined parts)
     parts-by [] all = none
-    parts-by ([] ∷ parts) all = grind (arith, nat_tests)
-    parts-by ((t ∷ []) ∷ parts) all = elim all.0 [
-      | inl one ↦ alone t (joined parts) one.0 one.1 (parts, refl, all.1) (parts-by parts all.1)
-      | inr text ↦ quoted (t ∷ []) (joined parts) text (parts, refl, all.1) (parts-by parts all.1)
-    ]
-    parts-by ((t ∷ u ∷ ts) ∷ parts) all = elim all.0 [
-      | inl one ↦ absurd one
-      | inr text ↦ quoted (t ∷ u ∷ ts) (joined parts) text (parts, refl, all.1) (parts-by parts all.1)
-    ]
+    parts-by (part ∷ parts) all = search (rules, alone, quoted, parts-by parts)
 
     pub texts-by : (ts : List Token) → AreTexts texts ts → P ts
     texts-by ts all = subst P (sym all.1) (parts-by all.0 all.2)

@@ -1,19 +1,20 @@
 -- The tokens of a source, of its pieces and of its macros are texts, one after another.
 use Rattle.std.proofs.Common.{rules}
 use Rattle.std.proofs.Common.{arith}
-use Rattle.std.proofs.Common.{◌≡◌, ℕ, Bool, true, false, List, [], ◌∷◌, ◌++◌, refl, ap, map, flat_map}
+use Rattle.std.proofs.Common.{◌≡◌, ℕ, Bool, true, false, List, [], ◌∷◌, ◌++◌, refl, map, flat_map, Option}
 use Rattle.std.proofs.Common.{zero-add}
 use Rattle.std.specs.Prelude.{if◌then◌else◌}
 use Rattle.std.specs.List.{AllByRecursion, list_all}
-use Rattle.tangle_lines.specs.Reading.{SourceLine}
+use Rattle.tangle_lines.specs.Reading.{SourceLine, origin_at}
+use Rattle.tangle_scan.specs.declared.items.Item.{Item}
 use Rattle.tangle_text.specs.Text.{texts_of}
 use Rattle.tangle_lexer.specs.declared.tokens.Token.{Token}
 use Rattle.tangle_lexer.specs.declared.tokens.Token.TheVariants as token
 use Rattle.tangle_lexer.specs.Steps.{tokens_from, all_tokens}
 use Rattle.tangle_scan.specs.Rules.{without_faults, macro_tokens, macro_items, is_macro, without_backslashes}
-use Rattle.tangle_scan.specs.Rules.{part_tokens}
+use Rattle.tangle_scan.specs.Rules.{part_tokens, part_items}
 use Rattle.tangle_lexer.specs.LinesOfParts.{body}
-use Rattle.tangle_scan.specs.Web.{Block, BlockKind, section_after, blocks, piece_of, kind_piece, macro_of}
+use Rattle.tangle_scan.specs.Web.{PieceRead, Block, BlockKind, section_after, blocks, piece_of, kind_piece, macro_of}
 use Rattle.tangle_scan.specs.Web.{kind_macro}
 use Rattle.tangle_scan.specs.Web.BlockKind.{OfMacro, OfPiece}
 use Rattle.tangle_scan.specs.ReadAsMeant.{all_piece_tokens, all_macro_tokens}
@@ -34,16 +35,11 @@ source-texts lines none = search (rules, lexemes-whole, text-in-lines, zero-add)
 
 body-faults : (ts : List Token) → body (without_faults ts) ≡ without_faults (body ts)
 body-faults [] = refl
-body-faults (token.Section ∷ ts) = refl
-body-faults (token.MacroStart line ∷ ts) = refl
-body-faults (token.UnnamedPart line ∷ ts) = refl
-body-faults (token.NamedPart line occurrence ∷ ts) = refl
-body-faults (token.Fault kind line ∷ ts) = body-faults ts
-body-faults (t ∷ ts) = ap (λ us. t ∷ us) (body-faults ts)
+body-faults (t ∷ ts) = search (rules, body-faults ts)
 
 module _ (texts : List (List ℕ)) where
   -- each block has texts
-  abbrev HaveTexts : List Block → Type 0
+  abbrev pub HaveTexts : List Block → Type 0
   HaveTexts bs = AllByRecursion (λ b. AreTexts texts (without_faults b.tokens)) bs
 
   -- the same of tokens without faults
@@ -69,60 +65,72 @@ module _ (texts : List (List ℕ)) where
 
   blocks-texts : (n : ℕ) (ts : List Token) → HaveBodies n (without_faults ts) → HaveTexts (blocks n ts)
   blocks-texts n [] all = tt
-  blocks-texts n (token.Fault kind line ∷ ts) all = blocks-texts n ts all
-  blocks-texts n (token.MacroStart line ∷ ts) all = grind (arith, nat_tests, body-faults ts, blocks-texts n ts all.1)
-  blocks-texts n (token.UnnamedPart line ∷ ts) all = grind (arith, nat_tests, body-faults ts, blocks-texts n ts all.1)
-  blocks-texts n (token.NamedPart line occurrence ∷ ts) all =
-      grind (arith, nat_tests, body-faults ts, blocks-texts n ts all.1)
-  blocks-texts n (t ∷ ts) all = blocks-texts (section_after n t) ts all
+  blocks-texts n (t ∷ ts) all = grind (arith, nat_tests, body-faults ts, blocks-texts n ts, blocks-texts (section_after n t) ts)
 
+-- What is true of no macros and of one more, with its tokens, is true of all macros. The same of pieces.
 module _ (lines : List SourceLine) where
   abbrev texts : List (List ℕ)
   texts = texts_of lines
 
-  abbrev pieces_of : List Block → List (List Token)
-  pieces_of bs = flat_map (λ b. map (λ p. part_tokens texts b.tokens) (piece_of lines b)) bs
-
-  abbrev macros_of : List Block → List (List Token)
-  macros_of bs =
-      flat_map (λ b. map (λ items. without_backslashes texts (macro_tokens texts b.tokens)) (macro_of lines b)) bs
-
-  pieces-have : (bs : List Block) → HaveTexts texts bs → AllByRecursion (AreTexts texts) (pieces_of bs)
-  pieces-have [] all = tt
-  pieces-have (b ∷ bs) all = by b.kind (pieces-have bs all.1)
-    where
-      by : (kind : BlockKind) → AllByRecursion (AreTexts texts) (pieces_of bs)
-          → AllByRecursion (AreTexts texts)
-          (map (λ p. part_tokens texts b.tokens) (kind_piece lines kind b) ++ pieces_of bs)
-      by (OfMacro line) rest = search rules
-      by (OfPiece occurrence line) rest = search (rules, part-texts)
-
-  macros-have : (bs : List Block) → HaveTexts texts bs → AllByRecursion (AreTexts texts) (macros_of bs)
-  macros-have [] all = tt
-  macros-have (b ∷ bs) all = by b.kind (macros-have bs all.1)
-    where
-      left : List Token
-      left = without_backslashes texts (macro_tokens texts b.tokens)
-
-      kept : (is_kept : Bool) → is_macro texts (macro_items texts b.tokens) ≡ is_kept
-          → AllByRecursion (AreTexts texts) (macros_of bs)
-          → AllByRecursion (AreTexts texts)
-          (map (λ items. left) (if is_kept then macro_items texts b.tokens ∷ [] else []) ++ macros_of bs)
-      kept false e rest = search rules
-      kept true e rest = search (rules, backslashes-texts, macro-texts, kept-name)
-
-      by : (kind : BlockKind) → AllByRecursion (AreTexts texts) (macros_of bs)
-          → AllByRecursion (AreTexts texts) (map (λ items. left) (kind_macro lines kind b) ++ macros_of bs)
-      by (OfMacro line) rest = grind (arith, nat_tests, kept (is_macro texts (macro_items texts b.tokens)) refl rest)
-      by (OfPiece occurrence line) rest = search rules
-
-  blocks-have : SourceLinesHaveNoLineFeed lines → HaveTexts texts (blocks 0 (all_tokens lines))
+  pub blocks-have : SourceLinesHaveNoLineFeed lines → HaveTexts texts (blocks 0 (all_tokens lines))
   blocks-have none = search (rules, blocks-texts, bodies-texts, source-texts)
 
-  pub pieces-texts : SourceLinesHaveNoLineFeed lines
-      → AllByRecursion (AreTexts texts) (all_piece_tokens lines)
-  pieces-texts none = pieces-have (blocks 0 (all_tokens lines)) (blocks-have none)
+  abbrev pub macro_tokens_of : Block → List Token
+  macro_tokens_of b = without_backslashes texts (macro_tokens texts b.tokens)
 
-  pub macros-texts : SourceLinesHaveNoLineFeed lines
-      → AllByRecursion (AreTexts texts) (all_macro_tokens lines)
-  macros-texts none = macros-have (blocks 0 (all_tokens lines)) (blocks-have none)
+  pub macros-by : (P : List (List Item) → List (List Token) → Type 0) → P [] []
+      → ((b : Block) (macros : List (List Item)) (tokens : List (List Token)) → AreTexts texts (macro_tokens_of b) → P macros tokens
+      → P (macro_items texts b.tokens ∷ macros) (macro_tokens_of b ∷ tokens)) → (bs : List Block) → HaveTexts texts bs
+      → P (flat_map (macro_of lines) bs) (flat_map (λ b. map (λ items. macro_tokens_of b) (macro_of lines b)) bs)
+  macros-by P none more [] all = none
+  macros-by P none more (b ∷ bs) all = by b.kind (macros-by P none more bs all.1)
+    where
+      rest : List (List Item)
+      rest = flat_map (macro_of lines) bs
+
+      tokens : List (List Token)
+      tokens = flat_map (λ b. map (λ items. macro_tokens_of b) (macro_of lines b)) bs
+
+      kept : (is_kept : Bool) → is_macro texts (macro_items texts b.tokens) ≡ is_kept → P rest tokens
+          → P ((if is_kept then macro_items texts b.tokens ∷ [] else []) ++ rest)
+          (map (λ items. macro_tokens_of b) (if is_kept then macro_items texts b.tokens ∷ [] else []) ++ tokens)
+      kept false e h = h
+      kept true e h =
+          more b rest tokens (backslashes-texts texts _ (macro-texts texts b.tokens all.0 (kept-name texts b.tokens e))) h
+
+      by : (kind : BlockKind) → P rest tokens
+          → P (kind_macro lines kind b ++ rest) (map (λ items. macro_tokens_of b) (kind_macro lines kind b) ++ tokens)
+      by (OfMacro line) h = kept (is_macro texts (macro_items texts b.tokens)) refl h
+      by (OfPiece occurrence line) h = h
+
+  abbrev pub piece_at : Block → Option ℕ → ℕ → PieceRead
+  piece_at b occurrence line = record {
+    section = b.section;
+    origin = origin_at lines line;
+    occurrence = occurrence;
+    items = part_items lines line b.tokens;
+  }
+
+  pub pieces-by : (P : List PieceRead → List (List Token) → Type 0) → P [] []
+      → ((b : Block) (occurrence : Option ℕ) (line : ℕ) (pieces : List PieceRead) (tokens : List (List Token))
+      → AreTexts texts (part_tokens texts b.tokens) → P pieces tokens
+      → P (piece_at b occurrence line ∷ pieces) (part_tokens texts b.tokens ∷ tokens))
+      → (bs : List Block) → HaveTexts texts bs
+      → P (flat_map (piece_of lines) bs) (flat_map (λ b. map (λ p. part_tokens texts b.tokens) (piece_of lines b)) bs)
+  pieces-by P none more [] all = none
+  pieces-by P none more (b ∷ bs) all = by b.kind _ _ (pieces-by P none more bs all.1)
+    where
+      by : (kind : BlockKind) (rest : List PieceRead) (tokens : List (List Token)) → P rest tokens
+          → P (kind_piece lines kind b ++ rest) (map (λ p. part_tokens texts b.tokens) (kind_piece lines kind b) ++ tokens)
+      by (OfMacro line) rest tokens h = h
+      by (OfPiece occurrence line) rest tokens h = more b occurrence line rest tokens (part-texts texts b.tokens all.0) h
+
+  pub pieces-texts : SourceLinesHaveNoLineFeed lines → AllByRecursion (AreTexts texts) (all_piece_tokens lines)
+  pieces-texts none =
+      pieces-by (λ pieces tokens. AllByRecursion (AreTexts texts) tokens) tt
+      (λ b occurrence line pieces tokens are all. (are, all)) (blocks 0 (all_tokens lines)) (blocks-have none)
+
+  pub macros-texts : SourceLinesHaveNoLineFeed lines → AllByRecursion (AreTexts texts) (all_macro_tokens lines)
+  macros-texts none =
+      macros-by (λ macros tokens. AllByRecursion (AreTexts texts) tokens) tt
+      (λ b macros tokens are all. (are, all)) (blocks 0 (all_tokens lines)) (blocks-have none)

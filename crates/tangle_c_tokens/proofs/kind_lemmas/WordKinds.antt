@@ -8,7 +8,7 @@ use Rattle.std.proofs.lemmas.Bool.{and_parts, or_left, or_parts}
 use Rattle.c_tokens.specs.Bytes.{space, slash, backslash, is_digit, is_word_byte}
 use Rattle.c_tokens.specs.Borders.{last_byte}
 use Rattle.c_tokens.specs.Grammar.{is_comment, is_element}
-use Rattle.c_tokens.specs.Reading.{spliced, longest, elements_from, ends_in_comment}
+use Rattle.c_tokens.specs.Reading.{spliced, longest, elements_from}
 use Rattle.c_tokens.specs.Touching.TextKind.{Plain, Other}
 use Rattle.tangle_c_tokens.specs.Kinds.{IsTextOfKind}
 use Rattle.tangle_c_tokens.proofs.kind_lemmas.NumberWords.{is_separated_byte, word-separated}
@@ -65,6 +65,3 @@ number-text b a h = record {
 pub plain-text : (b : ℕ) (a : List ℕ) → is_digit b ≡ false → list_all is_word_byte (b ∷ a) ≡ true
     → IsTextOfKind Plain (b ∷ a)
 plain-text b a digit h = search (rules, word-spliced, or_left, and_parts, word-last)
-
-one-closed : (b : ℕ) → ends_in_comment (b ∷ []) ≡ false
-one-closed b = grind (arith, nat_tests)

@@ -24,11 +24,6 @@ use Rattle.tangle_lexer.proofs.laws.WhiteOrder.{bad_constant-bytes, LexemeIsInOr
 abbrev IsEscaped : ℕ → List Cell → Type 0
 IsEscaped j text = holds apostrophe (byte_at j text) ≡ true → (j ≡ 1) × (holds backslash (byte_at 0 text) ≡ true)
 
--- the first `n` cells are bytes, and each apostrophe of them is escaped
-record AreCharacter (n : ℕ) (text : List Cell) : Type 0 where
-  pub bytes : HoldsBytes n text
-  pub quotes : (j : ℕ) → j < n → IsEscaped j text
-
 -- the cells of the character of a constant, and the apostrophe after it
 abbrev IsClosed : List Cell → Option AsciiConstant → Type 0
 IsClosed text None = Unit {0}
@@ -37,11 +32,9 @@ IsClosed text (Some k) = HoldsBytes (k.count + 1) text × ((j : ℕ) → j < k.c
 next-byte : (n : ℕ) (text : List Cell) → HoldsBytes n text → IsByte (byte_at n text) → HoldsBytes (n + 1) text
 next-byte n text h byte = grind (arith, nat_tests, more-bytes, byte_at-drop)
 
-escaped-closed : (text : List Cell)
-    → holds backslash (byte_at 0 text) ≡ true → IsClosed text (escaped_constant text)
+escaped-closed : (text : List Cell) → holds backslash (byte_at 0 text) ≡ true → IsClosed text (escaped_constant text)
 escaped-closed text h =
-    cond_both (is_octal (byte_at 1 text)) _ _ (IsClosed text) (grind arith)
-    (search rules)
+    cond_both (is_octal (byte_at 1 text)) _ _ (IsClosed text) (grind arith) (search rules)
   where
     byte : (b : Option ℕ) (x : ℕ) → escape_value b ≡ Some x → IsByte b
     byte y x e = search rules
@@ -49,8 +42,7 @@ escaped-closed text h =
 constant-closed : (b : Option ℕ) (text : List Cell) → byte_at 0 text ≡ b → IsClosed text (constant_by b text)
 constant-closed None text e = tt
 constant-closed (Some b) text e =
-    cond_both (b == at_sign) _ _ (IsClosed text)
-    (λ i. (grind (arith, nat_tests, next-byte)))
+    cond_both (b == at_sign) _ _ (IsClosed text) (λ i. (grind (arith, nat_tests, next-byte)))
     (λ i. cond_both (b == backslash) _ _ (IsClosed text) (λ j. escaped-closed text (ap (holds backslash) e ∙ j))
     (search rules))
 
@@ -79,10 +71,8 @@ ascii_constant-quotes s text k first last quote =
     by : (c : Option AsciiConstant) → IsClosed (drop 2 text) c → k + 1 < 1 + (constant_lexeme c s text).more
         → holds apostrophe (byte_at (k - 2) (drop 2 text)) ≡ true
         → (k ≡ 3) × (holds backslash (byte_at 2 text) ≡ true)
-    by None h last here =
-        search (rules, one_if-few, bad-quotes)
-    by (Some c) h last here =
-        search rules
+    by None h last here = search (rules, one_if-few, bad-quotes)
+    by (Some c) h last here = search rules
 
 pub ascii_constant-bytes : (s : LexerState) (text : List Cell)
     → HoldsBytes 2 text → HoldsBytes (1 + (ascii_constant s text).more) text
@@ -91,8 +81,7 @@ ascii_constant-bytes s text h =
   where
     by : (k : Option AsciiConstant) → IsClosed (drop 2 text) k → HoldsBytes (1 + (constant_lexeme k s text).more) text
     by None closed = search (rules, bad_constant-bytes)
-    by (Some k) closed =
-        search rules
+    by (Some k) closed = search rules
 
 module _ (texts : List (List ℕ)) where
   pub ascii_constant-in_order : (s : LexerState) (at : Point) (c : Cell) (cs : List Cell)

@@ -75,17 +75,12 @@ module _ (texts : List (List ℕ)) (r : Region) (cut : IsCut r) (ends : ℕ → 
 
   two-holds : (n : ℕ) (c d : Cell) (cs : List Cell)
       → unit_at r (c ∷ d ∷ cs) ≡ unit.Two → Holds n cs → Holds (suc (suc n)) (c ∷ d ∷ cs)
-  two-holds n c d cs e next at start h is =
-      search (rules, append_assoc)
+  two-holds n c d cs e next at start h is = search (rules, append_assoc)
 
   cut-holds : (text : List Cell) → Holds (count_before r text) text
   cut-holds =
-      units-by r Holds
-      (search (rules, cut-stop))
-      (λ at start h is. stop at start [] h is)
-      (search rules)
-      two-holds
-      (search rules)
+      units-by r Holds (search (rules, cut-stop)) (λ at start h is. stop at start [] h is) (search rules)
+      two-holds (search rules)
 
   -- the text from the start of a range on, to the end of the region
   pub cut-by : (at : Point) (start : ℕ) (text : List Cell) → start ≤ at.column → IsTextAt texts at text

@@ -56,16 +56,7 @@ part_points-plain : (within : Bool) (ts us : List Token) → list_any is_not_pla
     → part_points within (ts ++ us) ≡ (if within then token_points ts else []) ++ part_points within us
 part_points-plain true [] us h = refl
 part_points-plain false [] us h = refl
-part_points-plain within (token.Section ∷ ts) us h = cc
-part_points-plain within (token.MacroStart line ∷ ts) us h = cc
-part_points-plain within (token.UnnamedPart line ∷ ts) us h = cc
-part_points-plain within (token.NamedPart line occurrence ∷ ts) us h = cc
-part_points-plain within (token.UseOf line occurrence ∷ ts) us h = cc
-part_points-plain within (token.Run s ∷ ts) us h = cc
-part_points-plain true (token.Span kind s ∷ ts) us h =
-    grind (arith, nat_tests, part_points-plain true ts us h, append_assoc)
-part_points-plain false (token.Span kind s ∷ ts) us h = part_points-plain false ts us h
-part_points-plain within (_ ∷ ts) us h = part_points-plain within ts us h
+part_points-plain within (t ∷ ts) us h = grind (arith, part_points-plain within ts us, append_assoc)
 
 -- tokens without a span have no points
 
@@ -76,22 +67,16 @@ points-flat f h (u ∷ us) = rw (points-append (f u) (flat_map f us), h u) (poin
 
 inner-points : (b : Bool) (ts : List Token) → token_points (map (inner_end_in b) ts) ≡ token_points ts
 inner-points b [] = refl
-inner-points true (token.LineEnd line ∷ ts) = inner-points true ts
-inner-points true (token.Span kind s ∷ ts) = ap (λ ps. span_points s ++ ps) (inner-points true ts)
-inner-points true (_ ∷ ts) = inner-points true ts
-inner-points false (token.Span kind s ∷ ts) = ap (λ ps. span_points s ++ ps) (inner-points false ts)
-inner-points false (_ ∷ ts) = inner-points false ts
+inner-points b (t ∷ ts) = grind (arith, inner-points b ts)
 
 -- white space, line ends and the fault of a comment or control text have no points
 white-points : (r : Region) (text : List Cell) (inner b : Bool) (kind : FaultKind) (line : ℕ)
     → token_points (token.White ∷ map (inner_end_in inner) (line_ends r text) ++ fault_if b kind line) ≡ []
-white-points r text inner b kind line =
-    search (rules, points-append, inner-points, points-flat)
+white-points r text inner b kind line = search (rules, points-append, inner-points, points-flat)
 
 module _ (texts : List (List ℕ)) where
   -- the points of a span are those of its bytes
-  span-keeps : (at : Point) (n : ℕ) (c : Cell) (cs : List Cell)
-      → IsTextAt texts at (c ∷ cs) → HoldsBytes n (c ∷ cs)
+  span-keeps : (at : Point) (n : ℕ) (c : Cell) (cs : List Cell) → IsTextAt texts at (c ∷ cs) → HoldsBytes n (c ∷ cs)
       → span_points (span_at n (c ∷ cs)) ++ [] ≡ byte_points (take n (c ∷ cs)) ++ []
   span-keeps at n c cs is h = grind (arith, nat_tests, bytes-columns)
 
@@ -102,8 +87,7 @@ module _ (texts : List (List ℕ)) where
       token_points (c_lexeme kind s text).tokens
       ≡ flat_map kept_points (c_segments kind (1 + (c_lexeme kind s text).more) text)
 
-  verbatim-kept : (text : List Cell)
-      → flat_map kept_points (verbatim_segments text)
+  verbatim-kept : (text : List Cell) → flat_map kept_points (verbatim_segments text)
       ≡ text_points false (take (count_before region.Verbatim (drop 2 text)) (drop 2 text))
   verbatim-kept text =
       let inside : ℕ = count_before region.Verbatim (drop 2 text) in
@@ -119,34 +103,18 @@ module _ (texts : List (List ℕ)) where
 
   kind-keeps : (kind : LexemeKind) (s : LexerState) (at : Point) (c : Cell) (cs : List Cell)
       → IsTextAt texts at (c ∷ cs) → OpensLexeme kind (c ∷ cs) → KindKeeps kind s (c ∷ cs)
-  kind-keeps (lexeme_kind.Control code.DoubleAt) s at c cs is o =
-      search rules
-  kind-keeps (lexeme_kind.Control code.Name) s at c cs is o =
-      search (rules, points-append, fault-points)
-  kind-keeps (lexeme_kind.Control code.AllMacros) s at c cs is o =
-      search rules
-  kind-keeps (lexeme_kind.Control code.ControlText) s at c cs is o =
-      search (rules, white-points)
   kind-keeps (lexeme_kind.Control code.Verbatim) s at c cs is o =
       verbatim-keeps texts _ (drop 1 cs)
       (text-after texts 2 at (c ∷ cs) is (code-bytes code.Verbatim (c ∷ cs) (λ e. cc) o))
       ∙ sym (verbatim-kept (c ∷ cs))
-  kind-keeps (lexeme_kind.Control code.AsciiConstant) s at c cs is o =
-      search rules
-  kind-keeps lexeme_kind.BlockComment s at c cs is o =
-      search (rules, white-points)
-  kind-keeps lexeme_kind.LineComment s at c cs is o =
-      search (rules, fault-points)
-  kind-keeps lexeme_kind.DoubleQuote s at c cs is o =
-      search (rules, quoted-keeps, double_quote-cut)
-  kind-keeps lexeme_kind.Apostrophe s at c cs is o =
-      search (rules, quoted-keeps, apostrophe-cut)
-  kind-keeps lexeme_kind.HeaderName s at c cs is o =
-      search (rules, quoted-keeps, header_name-cut)
   kind-keeps lexeme_kind.Word s at c cs is o =
       span-keeps at (1 + word_more (c ∷ cs)) c cs is (word-bytes c cs (some-byte c.byte o.0))
   kind-keeps lexeme_kind.Other s at c cs is o = span-keeps at 1 c cs is (some-byte c.byte o.0, tt)
-  kind-keeps _ s at c cs is o = refl
+  kind-keeps _ s at c cs is o = first_of (
+    search rules,
+    search (rules, points-append, white-points, fault-points),
+    search (rules, quoted-keeps, double_quote-cut, apostrophe-cut, header_name-cut),
+  )
 
   -- The same with the tokens after the lexeme: each counts only if it is in a C part.
 

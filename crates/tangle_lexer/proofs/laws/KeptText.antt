@@ -34,10 +34,6 @@ kept-byte : (after_at_sign : Bool) (c : Cell) → IsByte c.byte → (after_at_si
     → points_by (cell_kind after_at_sign c) (c ∷ []) ≡ (c.line, c.column) ∷ []
 kept-byte after_at_sign c h k = grind arith
 
-front-take : (n : ℕ) (text : List Cell)
-    → holds at_sign (byte_at 0 text) ≡ false → holds at_sign (byte_at 0 (take n text)) ≡ false
-front-take x text h = grind arith
-
 -- the points of a text before cells whose points do not depend on the cell before them
 points-before : (after_at_sign : Bool) (xs ys : List Cell) (ps : List (ℕ × ℕ))
     → ((h : Bool) → text_points h ys ≡ ps) → text_points after_at_sign (xs ++ ys) ≡ text_points after_at_sign xs ++ ps
@@ -76,8 +72,7 @@ module _ (texts : List (List ℕ)) where
         → kept_of (suc (suc n)) (c ∷ d ∷ cs) ≡ (c.line, c.column) ∷ second_points sign d ++ kept_of n cs
     two-points c d cs n sign byte first second = grind (arith, nat_tests)
 
-    pub cut-keeps : (at : Point) (start : ℕ) (text : List Cell)
-        → start ≤ at.column → IsTextAt texts at text
+    pub cut-keeps : (at : Point) (start : ℕ) (text : List Cell) → start ≤ at.column → IsTextAt texts at text
         → Keeps at start (cut_tokens ends r 0 start text) (count_before r text) text
     cut-keeps =
         cut-by texts r cut ends Keeps stop

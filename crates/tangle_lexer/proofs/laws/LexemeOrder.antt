@@ -44,33 +44,9 @@ module _ (texts : List (List ℕ)) where
       (code-bytes code.ControlText (c ∷ cs) (λ e. cc) o)
   kind-in_order (lexeme_kind.Control code.Verbatim) s at c cs plain o is =
       verbatim_text-in_order texts s at c cs is (code-bytes code.Verbatim (c ∷ cs) (λ e. cc) o)
-  kind-in_order (lexeme_kind.Control code.AllMacros) s at c cs plain o is = search rules
-  kind-in_order (lexeme_kind.Control code.AsciiConstant) s at c cs plain o is =
-      search (rules, ascii_constant-in_order)
-  -- white space with a fault, and a single token
-  kind-in_order (lexeme_kind.Control code.Macro) s at c cs plain o is =
-      search rules
-  kind-in_order (lexeme_kind.Control code.Format) s at c cs plain o is =
-      search rules
-  kind-in_order (lexeme_kind.Control code.UnnamedPart) s at c cs plain o is =
-      search rules
-  kind-in_order (lexeme_kind.Control kind) s at c cs plain o is =
-      search rules
   kind-in_order lexeme_kind.BlockComment s at c cs plain o is =
       region-in_order texts region.BlockComment (λ b n h. grind arith) fault.CommentEnd s at c cs is
       (are_bytes-hold slash asterisk (c ∷ cs) o)
-  kind-in_order lexeme_kind.LineComment s at c cs plain o is =
-      search (rules, faults-in_order, lexeme-line, more-bytes, line_comment-bytes)
-  kind-in_order lexeme_kind.DoubleQuote s at c cs plain o is =
-      search (rules, quoted-in_order, double_quote-cut)
-  kind-in_order lexeme_kind.Apostrophe s at c cs plain o is =
-      search (rules, quoted-in_order, apostrophe-cut)
-  kind-in_order lexeme_kind.HeaderName s at c cs plain o is =
-      search (rules, quoted-in_order, header_name-cut)
-  kind-in_order lexeme_kind.LineEnd s at c cs plain o is =
-      search rules
-  kind-in_order lexeme_kind.White s at c cs plain o is =
-      search (rules, lexeme-line, more-bytes, white-bytes)
   kind-in_order lexeme_kind.Word s at c cs plain o is =
       let n : ℕ = word_more (c ∷ cs) in
       let all : HoldsBytes (1 + n) (c ∷ cs) = word-bytes c cs (some-byte c.byte o.0) in
@@ -78,6 +54,12 @@ module _ (texts : List (List ℕ)) where
   kind-in_order lexeme_kind.Other s at c cs plain o is =
       let one : HoldsBytes 1 (c ∷ cs) = (some-byte c.byte o.0, tt) in
       (span-is texts at 1 c cs is one, lexeme-line texts at 0 c cs is one)
+  -- white space, a single token, and a quoted text
+  kind-in_order _ s at c cs plain o is = first_of (
+    search rules,
+    search (rules, ascii_constant-in_order, quoted-in_order, double_quote-cut, apostrophe-cut, header_name-cut),
+    search (rules, faults-in_order, lexeme-line, more-bytes, line_comment-bytes, white-bytes),
+  )
 
   -- the tokens of a lexeme are in order from a line on, on which the lexeme is if it is in C text
   abbrev Law : LexerState → List Cell → Lexeme → Type 0

@@ -1,7 +1,7 @@
 -- The tokens of a use, a mention and a definition are in order. `texts` are the bytes of the source lines.
 use Rattle.std.proofs.Common.{rules}
 use Rattle.std.proofs.lemmas.Bool.Decides.{nat_tests}
-use Rattle.std.proofs.Common.{◌≡◌, ℕ, ◌+◌, Bool, true, false, not, List, ◌∷◌, ◌++◌, drop, Option}
+use Rattle.std.proofs.Common.{◌≡◌, ℕ, ◌+◌, Bool, true, not, List, ◌∷◌, ◌++◌, drop, Option}
 use Rattle.std.proofs.Common.{Some, None, refl, ap, sym, ◌∙◌, arith, subst, cond}
 use Rattle.std.proofs.lemmas.List.{drop-drop}
 use Rattle.tangle_faults.specs.declared.faults.FaultKind.{FaultKind}
@@ -32,8 +32,7 @@ definition-last text k e = by (is_ended text) e
   where
     by : (b : Bool) → cond b (equals_count (after_name text)) None ≡ Some k
         → (j : ℕ) × ((k ≡ j + 1) × IsByte (byte_at j (after_name text)))
-    by true e = search (rules, equals-last)
-    by false e = search rules
+    by b e = search (rules, equals-last)
 
 -- the front of a text is on its own line
 pub front-line : (last : ℕ) (text : List Cell) → IsAtLine (front_line last text) text
@@ -75,8 +74,7 @@ module _ (texts : List (List ℕ)) where
       by : (o : Option ℕ) → ((k : ℕ) → o ≡ Some k → (j : ℕ) × ((k ≡ j + 1) × IsByte (byte_at j (after_name (c ∷ cs)))))
           → let here : Lexeme = definition_or_mention o s (c ∷ cs) in
           AreInOrder texts (λ l. is_c_text here.after.mode ≡ true → IsAtLine l (drop here.more cs)) line here.tokens
-      by None last =
-          search (rules, two-faults)
+      by None last = search (rules, two-faults)
       by (Some k) last =
           let text : List Cell = c ∷ cs in
           let m : ℕ = name_more text in

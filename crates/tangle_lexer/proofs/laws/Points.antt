@@ -66,8 +66,7 @@ module _ (texts : List (List ℕ)) where
   IsTextAt at (c ∷ cs) = IsCellAt at c × IsTextAt (after_cell c) cs
 
   -- the point at which a text begins is inside a line, or at the end
-  pub text-within : (at : Point) (text : List Cell)
-      → IsTextAt at text → at.column ≤ length (get_or texts at.line [])
+  pub text-within : (at : Point) (text : List Cell) → IsTextAt at text → at.column ≤ length (get_or texts at.line [])
   text-within at [] is = omega arith
   text-within at (c ∷ cs) is = is.0.inside
 
@@ -81,8 +80,7 @@ module _ (texts : List (List ℕ)) where
       → IsTextAt at text → HoldsBytes n text → IsTextAt (point_at at.line (at.column + n)) (drop n text)
   text-after zero at text is h = subst (λ x. IsTextAt (point_at at.line x) text) (sym (add-zero at.column)) is
   text-after (suc n) at [] is h = absurd h
-  text-after (suc n) at (c ∷ cs) is h =
-      grind (arith, nat_tests, text-after n)
+  text-after (suc n) at (c ∷ cs) is h = grind (arith, nat_tests, text-after n)
 
   pub text-somewhere : (n : ℕ) (at : Point) (text : List Cell)
       → IsTextAt at text → (p : Point) × IsTextAt p (drop n text)

@@ -30,9 +30,7 @@ module _ (texts : List (List ℕ)) where
       → (at : Point) (start : ℕ) (text : List Cell) → start ≤ at.column → IsTextAt texts at text
       → AreInOrder texts (final (drop (count_before r text) text)) at.line (cut_tokens ends r 0 start text)
   cut-in_order r cut ends final stop =
-      cut-by texts r cut ends Ordered stop
-      (search rules)
-      (grind (arith, nat_tests))
+      cut-by texts r cut ends Ordered stop (search rules) (grind (arith, nat_tests))
       (λ at start c d cs ts n h is cell byte second other same ordered. rw (← is.line, ← cell.line) ordered)
       (grind (arith, nat_tests))
     where
@@ -59,8 +57,7 @@ module _ (texts : List (List ℕ)) where
   abbrev verbatim-final : List Cell → ℕ → Type 0
   verbatim-final text l = IsAtLine l (drop (two_if (has_end_code text)) text)
 
-  verbatim_end-in_order : (at : Point) (start : ℕ) (text : List Cell)
-      → start ≤ at.column → IsTextAt texts at text
+  verbatim_end-in_order : (at : Point) (start : ℕ) (text : List Cell) → start ≤ at.column → IsTextAt texts at text
       → AreInOrder texts (verbatim-final text) at.line (verbatim_end start text)
   verbatim_end-in_order at start x h is = grind arith
 

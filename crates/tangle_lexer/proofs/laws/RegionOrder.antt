@@ -76,11 +76,8 @@ module _ (texts : List (List ℕ)) where
       → (text : List Cell) (at : Point) → IsTextAt texts at text
       → AreBefore texts (drop (count_before r text) text) at.line (line_ends r text)
   line_ends-in_order r stays =
-      units-by r Ordered (λ text e at is. rw (line_ends-stop r text e) (grind arith))
-      (λ at is. tt)
-      (search rules)
-      (search rules)
-      (λ c e. absurd (stays c.byte None e))
+      units-by r Ordered (λ text e at is. rw (line_ends-stop r text e) (grind arith)) (λ at is. tt) (search rules)
+      (search rules) (λ c e. absurd (stays c.byte None e))
     where
       Ordered : ℕ → List Cell → Type 0
       Ordered n text =

@@ -1,6 +1,7 @@
 -- What is true unit by unit is true of a region.
+use Rattle.std.proofs.Math.Numerals.{one-add}
 use Rattle.std.proofs.Common.{rules}
-use Rattle.std.proofs.Common.{◌≡◌, ℕ, suc, ◌+◌, List, [], ◌∷◌, refl, sym, arith, subst}
+use Rattle.std.proofs.Common.{◌≡◌, ℕ, suc, List, [], ◌∷◌, refl, sym, subst}
 use Rattle.tangle_text.specs.declared.regions.Region.{Region}
 use Rattle.tangle_text.specs.declared.regions.Unit.{Unit as Unit-of}
 use Rattle.tangle_text.specs.declared.regions.Unit.TheVariants as unit
@@ -24,14 +25,9 @@ module _ (r : Region) (P : ℕ → List Cell → Type 0)
       by : (u : Unit-of) → unit_at r (c ∷ d ∷ cs) ≡ u → P (counted r 0 (d ∷ cs)) (d ∷ cs) → P (counted r 0 cs) cs
           → P (count_by u (counted r (more_by u) (d ∷ cs))) (c ∷ d ∷ cs)
       by unit.Stop e after further = search rules
-      by unit.One e after further =
-          let n : ℕ = counted r 0 (d ∷ cs) in
-          let more : suc n ≡ 1 + n = omega arith in
-          subst (λ k. P k (c ∷ d ∷ cs)) more (one n c (d ∷ cs) e after)
+      by unit.One e after further = rw (one-add (counted r 0 (d ∷ cs))) (one _ c (d ∷ cs) e after)
       by unit.Two e after further =
-          let n : ℕ = counted r 0 cs in
-          let more : suc (suc n) ≡ 1 + (1 + n) = omega arith in
-          subst (λ k. P k (c ∷ d ∷ cs)) more (two n c d cs e further)
+          let n : ℕ = counted r 0 cs in rw (one-add n, one-add (suc n)) (two n c d cs e further)
 
   pub units-by : (text : List Cell) → P (count_before r text) text
   units-by text = subst (λ n. P n text) (sym (count-is r text)) (counted-by text)

@@ -1,4 +1,5 @@
 -- The segments of a text are side by side and fill it, and the cells of each are such as its kind has.
+use Rattle.tangle_lexer.proofs.lemmas.OccurrencesCounted.{all-append}
 use Rattle.std.proofs.Common.{rules}
 use Rattle.std.proofs.lemmas.Bool.Decides.{nat_tests}
 use Rattle.std.proofs.Common.{◌≡◌, ◌<◌, ◌≤◌, ℕ, zero, suc, ◌+◌, Bool, true, false, not, ◌&&◌, List, [], ◌∷◌, ◌++◌}
@@ -27,11 +28,10 @@ use Rattle.tangle_lexer.specs.Lexemes.{Lexeme}
 use Rattle.tangle_lexer.specs.Comments.{has_end_code, two_if, ends_comment, block_comment, line_comment, control_text}
 use Rattle.tangle_lexer.specs.Constants.{ascii_constant}
 use Rattle.tangle_lexer.specs.Names.{name_count, is_ended, name_more}
-use Rattle.tangle_lexer.specs.CText.{code_at}
 use Rattle.tangle_lexer.specs.Steps.{c_lexeme, lexeme_in}
 use Rattle.tangle_lexer.specs.Steps.{lexeme}
 use Rattle.tangle_lexer.specs.Segments.{Segment, segment, ShowsKind, OpensWith, text_segments, verbatim_segments}
-use Rattle.tangle_lexer.specs.Segments.{code_segments, c_segments, segments_in, segments, HasNoSection, IsBlockComment}
+use Rattle.tangle_lexer.specs.Segments.{c_segments, segments_in, segments, HasNoSection, IsBlockComment}
 use Rattle.tangle_lexer.specs.Segments.{IsLineComment, IsControlText, IsSectionName, IsAsciiConstant}
 use Rattle.tangle_lexer.specs.Segments.SegmentKind.{Kept, WhiteSpace, ControlBytes}
 use Rattle.tangle_text.proofs.AheadLemmas.{byte_at-drop}
@@ -67,8 +67,7 @@ verbatim-fills text =
     (text-fills false (take inside (drop 2 text)))
     ∙ ap (λ xs. take inside (drop 2 text) ++ xs) (by (has_end_code after) after)
     ∙ sym (take-add inside last (drop 2 text)))
-    ∙ sym (take-add 2 (inside + last) text)
-    ∙ sym (ap (λ n. take n text) sum)
+    ∙ sym (take-add 2 (inside + last) text) ∙ sym (ap (λ n. take n text) sum)
   where
     by : (b : Bool) (cells : List Cell)
         → cells_of (if b then segment ControlBytes (take 2 cells) ∷ [] else []) ≡ take (two_if b) cells
@@ -105,14 +104,6 @@ segments-fill zero s (c ∷ cs) =
 
 abbrev AllShow : List Segment → Type 0
 AllShow ss = AllByRecursion (λ s. ShowsKind s.kind s.cells) ss
-
-shows-append : (xs ys : List Segment) → AllShow xs → AllShow ys → AllShow (xs ++ ys)
-shows-append [] ys h k = k
-shows-append (x ∷ xs) ys h k = (h.0, shows-append xs ys h.1 k)
-
--- @@ has an @ as its second byte
-second-sign : (next : Option ℕ) → code_at next ≡ code.DoubleAt → holds at_sign next ≡ true
-second-sign next e = grind (arith, nat_tests)
 
 -- the first cells of a text are the same after the cells from the n-th on are dropped
 
@@ -216,7 +207,7 @@ verbatim-shows text sign =
     let inside : ℕ = count_before region.Verbatim (drop 2 text) in
     let after : List Cell = drop inside (drop 2 text) in (
       (grind (arith, nat_tests, length-take)),
-      shows-append (text_segments false (take inside (drop 2 text)))
+      all-append (λ s. ShowsKind s.kind s.cells) (text_segments false (take inside (drop 2 text)))
           (if has_end_code after then segment ControlBytes (take 2 after) ∷ [] else [])
           (text-shows false (take inside (drop 2 text))) (by (has_end_code after) after refl),
     )
@@ -247,19 +238,11 @@ constant-shows : (s : LexerState) (c : Cell) (cs : List Cell)
 constant-shows s c cs o =
     grind (arith, length-take, bytes-shows, ascii_constant-bytes s (c ∷ cs), byte-take, ascii_constant-quotes s (c ∷ cs))
 
--- the segments of both bytes of @@
-signs-shows : (c : Cell) (cs : List Cell)
-    → OpensWith code.DoubleAt (c ∷ cs) → AllShow (code_segments code.DoubleAt 2 (c ∷ cs))
-signs-shows c cs o = grind (arith, nat_tests)
-
 kind-shows : (kind : LexemeKind) (s : LexerState) (c : Cell) (cs : List Cell)
     → OpensLexeme kind (c ∷ cs) → AllShow (c_segments kind (1 + (c_lexeme kind s (c ∷ cs)).more) (c ∷ cs))
-kind-shows (lexeme_kind.Control code.DoubleAt) s c cs o = signs-shows c cs o
 kind-shows (lexeme_kind.Control code.Verbatim) s c cs o = verbatim-shows (c ∷ cs) o.0
-kind-shows (lexeme_kind.Control code.ControlText) s c cs o = (control_text-shows s (c ∷ cs) o, tt)
-kind-shows (lexeme_kind.Control code.Name) s c cs o = (name-shows s (c ∷ cs) o, tt)
-kind-shows (lexeme_kind.Control code.AsciiConstant) s c cs o = (constant-shows s c cs o, tt)
-kind-shows (lexeme_kind.Control kind) s c cs o = grind (arith, nat_tests)
+kind-shows (lexeme_kind.Control kind) s c cs o =
+    first_of (grind (arith, nat_tests), search (rules, control_text-shows, name-shows, constant-shows))
 kind-shows lexeme_kind.BlockComment s c cs o = (inl (block_comment-shows s (c ∷ cs) o), tt)
 kind-shows lexeme_kind.LineComment s c cs o = (inr (line_comment-shows s (c ∷ cs) o), tt)
 kind-shows lexeme_kind.LineEnd s c cs o = ((o, tt), tt)
@@ -278,14 +261,13 @@ unfolding lexeme
 lexeme-shows s c cs = by s.mode
   where
     by : (m : Mode) → AllShow (segments_in m s (1 + (lexeme_in m s (c ∷ cs)).more) (c ∷ cs))
-    by mode.CPart =
-        search (rules, kind-shows, kind-opens)
+    by mode.CPart = search (rules, kind-shows, kind-opens)
     by _ = search rules
 
 pub segments-shows : (k : ℕ) (s : LexerState) (text : List Cell) → AllShow (segments k s text)
-segments-shows zero s [] = tt
-segments-shows (suc k) s [] = tt
+segments-shows k s [] = tt
 segments-shows (suc k) s (c ∷ cs) = segments-shows k s cs
 segments-shows zero s (c ∷ cs) =
     let here : Lexeme = lexeme s (c ∷ cs) in
-    grind (arith, nat_tests, shows-append, lexeme-shows s c cs, segments-shows here.more here.after cs)
+    all-append (λ s. ShowsKind s.kind s.cells) (segments_in s.mode s (1 + here.more) (c ∷ cs)) _
+    (lexeme-shows s c cs) (segments-shows here.more here.after cs)

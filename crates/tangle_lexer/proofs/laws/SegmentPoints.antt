@@ -38,8 +38,7 @@ token_points (_ ∷ ts) = token_points ts
 
 pub points-append : (ts us : List Token) → token_points (ts ++ us) ≡ token_points ts ++ token_points us
 points-append [] us = refl
-points-append (token.Span kind s ∷ ts) us =
-    grind (arith, nat_tests, points-append ts us, append_assoc)
+points-append (token.Span kind s ∷ ts) us = grind (arith, nat_tests, points-append ts us, append_assoc)
 points-append (_ ∷ ts) us = points-append ts us
 
 pub fault-points : (b : Bool) (kind : FaultKind) (line : ℕ) → token_points (fault_if b kind line) ≡ []
@@ -56,5 +55,4 @@ module _ (texts : List (List ℕ)) where
       → byte_points (take n text) ≡ columns_from at.line at.column n
   bytes-columns at zero text is h = refl
   bytes-columns at (suc n) [] is h = absurd h
-  bytes-columns at (suc n) (c ∷ cs) is h =
-      grind (arith, bytes-columns (after_cell c) n cs is.1 h.1)
+  bytes-columns at (suc n) (c ∷ cs) is h = grind (arith, bytes-columns (after_cell c) n cs is.1 h.1)

@@ -1,5 +1,7 @@
 -- The tokens of comments, control texts, other white space, words and signs are in order. `texts` are the bytes of the
 -- source lines.
+use Rattle.std.proofs.lemmas.Bool.{cases_Bool}
+use Rattle.std.proofs.Common.{inl, inr}
 use Rattle.std.proofs.Common.{rules}
 use Rattle.std.proofs.lemmas.Bool.Decides.{nat_tests}
 use Rattle.std.proofs.Common.{◌≡◌, ℕ, ◌+◌, Bool, true, false, not, ◌&&◌, ◌||◌, List, ◌∷◌, drop, Option, Some, None}
@@ -28,22 +30,18 @@ use Rattle.tangle_lexer.proofs.laws.RegionOrder.{end-line, line_ends-in_order}
 number-stays : (b n : Option ℕ) → unit_of region.Number b n ≡ unit.Two → IsByte n
 number-stays b None h = absurd (none (holds_word_byte b) (holds apostrophe b) h)
   where
-    none : (word separates : Bool)
-        → unit_by (not (word || separates && false)) (separates && false) ≡ unit.Two → ⊥
-    none true true e = cc
-    none true false e = cc
-    none false true e = cc
-    none false false e = cc
+    none : (word separates : Bool) → unit_by (not (word || separates && false)) (separates && false) ≡ unit.Two → ⊥
+    none word separates e = grind arith
 number-stays b (Some c) h = tt
 
 -- the cells of a word after its first, which has the byte `b`
 word-cells : (b : Option ℕ) (text : List Cell) → HoldsBytes (count_before (word_region b) text) text
 word-cells None text = region-bytes region.Word (λ n. refl) (λ b n h. grind arith) text
-word-cells (Some b) text = by (is_digit b)
-  where
-    by : (digit : Bool) → HoldsBytes (count_before (if digit then region.Number else region.Word) text) text
-    by true = region-bytes region.Number (λ n. refl) number-stays text
-    by false = region-bytes region.Word (λ n. refl) (λ b n h. grind arith) text
+word-cells (Some b) text =
+    elim (cases_Bool (is_digit b)) [
+      | inl h ↦ rw h (region-bytes region.Number (λ n. refl) number-stays text)
+      | inr h ↦ rw h (region-bytes region.Word (λ n. refl) (λ b n h. grind arith) text)
+    ]
 
 pub word-bytes : (c : Cell) (cs : List Cell) → IsByte c.byte → HoldsBytes (1 + word_more (c ∷ cs)) (c ∷ cs)
 word-bytes c cs byte = more-bytes 1 (word_more (c ∷ cs)) (c ∷ cs) (byte, tt) (word-cells c.byte cs)

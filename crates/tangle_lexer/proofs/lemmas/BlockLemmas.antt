@@ -28,13 +28,9 @@ no-head = none-by is_special is_head (λ t h. (or_parts (is_head t) (is_run t) h
 pub no-run : (ts : List Token) → HasNone is_special ts → HasNone is_run ts
 no-run = none-by is_special is_run (λ t h. (or_parts (is_head t) (is_run t) h).1)
 
-unfolded-one : (texts : List (List ℕ)) (t : Token) → is_run t ≡ false → unfolded_token texts t ≡ t ∷ []
-unfolded-one texts x h = grind arith
-
 pub unfolded-plain : (texts : List (List ℕ)) (ts : List Token) → HasNone is_run ts → unfolded texts ts ≡ ts
 unfolded-plain texts [] h = refl
-unfolded-plain texts (t ∷ ts) h =
-    grind (arith, nat_tests, unfolded-plain texts ts)
+unfolded-plain texts (t ∷ ts) h = grind (arith, nat_tests, unfolded-plain texts ts)
 
 pub unfolded-append : (texts : List (List ℕ)) (ts us : List Token)
     → unfolded texts (ts ++ us) ≡ unfolded texts ts ++ unfolded texts us
@@ -42,8 +38,7 @@ unfolded-append texts ts us = flat_map-append (unfolded_token texts) ts us
 
 pub runs-plain : (texts : List (List ℕ)) (ts : List Token) → HasNone is_run ts → All (IsRunIn texts) ts
 runs-plain texts [] h = All-nil (IsRunIn texts)
-runs-plain texts (t ∷ ts) h =
-    grind (arith, nat_tests, runs-plain texts ts)
+runs-plain texts (t ∷ ts) h = grind (arith, nat_tests, runs-plain texts ts)
 
 -- a rest of a rest of the text of lines is a rest of it
 pub rest-drop : (lines : List SourceLine) (n : ℕ) (text : List Cell)
@@ -54,8 +49,7 @@ rest-drop lines n text ours = (ours.0 + n, ap (drop n) ours.1 ∙ drop-drop n ou
 
 -- a step whose tokens are no runs does not change the list of the tokens read and those ahead
 pub plain-tokens : (texts : List (List ℕ)) (old new : List Token) (s after : LexerState) (text rest : List Cell)
-    → 0 < length text → IsRead old new text rest after (lexeme s text)
-    → HasNone is_run (lexeme s text).tokens
+    → 0 < length text → IsRead old new text rest after (lexeme s text) → HasNone is_run (lexeme s text).tokens
     → unfolded texts new ++ tokens_from after rest ≡ unfolded texts old ++ tokens_from s text
 plain-tokens texts old new s after text rest inside read none =
     grind (arith, unfolded-append texts old, unfolded-plain texts, append_assoc (unfolded texts old), tokens_from-step s text inside)
@@ -118,8 +112,7 @@ taken old new kept s after text rest head none read popped =
 -- no head was removed: the lexeme is none
 pub not-taken : (old new : List Token) (s after : LexerState) (text rest : List Cell)
     → IsRead old new text rest after (lexeme s text)
-    → ((ts : List Token) (head : Token) → new ≡ ts ++ head ∷ [] → is_head head ≡ false)
-    → IsPlain s (lexeme s text)
+    → ((ts : List Token) (head : Token) → new ≡ ts ++ head ∷ [] → is_head head ≡ false) → IsPlain s (lexeme s text)
 not-taken old new s after text rest read none = grind (arith, nat_tests, lexeme-alone s text)
 
 pub taken-tokens : (texts : List (List ℕ)) (old new kept : List Token) (s after : LexerState) (text rest : List Cell)

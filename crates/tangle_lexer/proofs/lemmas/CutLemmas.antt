@@ -14,15 +14,13 @@ use Rattle.tangle_text.proofs.RegionLemmas.{region_end-is}
 
 -- a unit that does not end the region adds its tokens
 pub cut-go : (ends : ℕ → List Cell → List Token) (r : Region) (start last : ℕ) (text : List Cell) (u : Unit-of) →
-    0 < length text → unit_at r text ≡ u → (u ≡ unit.Stop → ⊥) →
-    cut_tokens ends r 0 start text
+    0 < length text → unit_at r text ≡ u → (u ≡ unit.Stop → ⊥) → cut_tokens ends r 0 start text
     ≡ unit_tokens r u start (front_cell last text) (byte_at 1 text)
     ++ cut_tokens ends r 0 (next_start u start (front_cell last text) (byte_at 1 text)) (drop (more_by u) (drop 1 text))
 cut-go ends r start last x u inside h go = grind arith
 
 pub cut-stop : (ends : ℕ → List Cell → List Token) (r : Region) (start : ℕ) (text : List Cell)
-    → unit_at r text ≡ unit.Stop
-    → cut_tokens ends r 0 start text ≡ ends start text
+    → unit_at r text ≡ unit.Stop → cut_tokens ends r 0 start text ≡ ends start text
 cut-stop ends r start [] h = refl
 cut-stop ends r start (c ∷ cs) h = rw h refl
 

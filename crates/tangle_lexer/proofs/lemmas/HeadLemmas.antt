@@ -34,8 +34,7 @@ IsPlain s l = HasNone is_special l.tokens × (l.after.mode ≡ mode.CPart → s.
 
 -- a lexeme that consists of a head
 abbrev pub IsHead : Lexeme → Type 0
-IsHead l =
-    (head : Token) × (l.tokens ≡ head ∷ []) × (is_head head ≡ true) × BeginsIn head l.after.mode
+IsHead l = (head : Token) × (l.tokens ≡ head ∷ []) × (is_head head ≡ true) × BeginsIn head l.after.mode
 
 -- the tokens of the lexeme have no head, or consist of one head, and none of them is a run
 abbrev pub IsHeadAlone : LexerState → Lexeme → Type 0

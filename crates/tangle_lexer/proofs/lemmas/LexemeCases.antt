@@ -9,7 +9,6 @@ use Rattle.tangle_lexer.specs.declared.modes.Mode.{Mode}
 use Rattle.tangle_lexer.specs.declared.modes.Mode.TheVariants as mode
 use Rattle.tangle_lexer.specs.declared.modes.LexerState.{LexerState}
 use Rattle.tangle_lexer.specs.declared.modes.IncludeState.{IncludeState}
-use Rattle.tangle_lexer.specs.declared.lexeme_kinds.ControlCode.{ControlCode}
 use Rattle.tangle_lexer.specs.declared.lexeme_kinds.ControlCode.TheVariants as code
 use Rattle.tangle_lexer.specs.declared.lexeme_kinds.LexemeKind.{LexemeKind}
 use Rattle.tangle_lexer.specs.declared.lexeme_kinds.LexemeKind.TheVariants as lexeme_kind
@@ -20,7 +19,7 @@ use Rattle.tangle_lexer.specs.Names.{use_of_name, name_in_documentation}
 use Rattle.tangle_lexer.specs.Segments.{OpensWith}
 use Rattle.tangle_lexer.specs.Lexemes.{is_c_part}
 use Rattle.tangle_lexer.specs.Simple.{is_c_text}
-use Rattle.tangle_lexer.specs.CText.{code_at, less_kind, kind_by, section_start, code_fault}
+use Rattle.tangle_lexer.specs.CText.{code_at, kind_by, section_start, code_fault}
 use Rattle.tangle_lexer.specs.Steps.{documentation_code}
 use Rattle.tangle_lexer.specs.Steps.{limbo_code, c_lexeme, macro_lexeme, lexeme_in, lexeme}
 
@@ -44,9 +43,6 @@ kind-opens inc (Some b) next =
     cond_both (b == at_sign) (lexeme_kind.Control (code_at next)) _ P (λ e. (e, refl)) (λ other.
     cond_both (b == slash && holds asterisk next) lexeme_kind.BlockComment _ P (λ e. e) (λ e.
     cond_both (b == slash && holds slash next) lexeme_kind.LineComment _ P (λ e. e) (search rules)))
-  where
-    less : (inc : IncludeState) → holds at_sign (Some b) ≡ false → Opens (less_kind inc) (Some b) next
-    less x h = search rules
 
 -- lexemes of C text that begin no section and are no use of a name
 abbrev pub IsPlainKind : LexemeKind → Type 0
@@ -81,19 +77,11 @@ module _ (P : Lexeme → Type 0) (s : LexerState) (text : List Cell) (by : Lexem
   macro-by : (kind : LexemeKind) → s.mode ≡ mode.Macro → OpensLexeme kind text → P (macro_lexeme kind s text)
   macro-by kind m o = grind arith
 
-  documentation-by : (kind : ControlCode)
-      → s.mode ≡ mode.Documentation → OpensWith kind text → P (documentation_code kind s text)
-  documentation-by x m o = grind arith
-
   mode-by : (m : Mode) → s.mode ≡ m → P (lexeme_in m s text)
-  mode-by mode.Limbo m =
-      search rules
-  mode-by mode.Documentation m =
-      search rules
-  mode-by mode.CPart m =
-      search (rules, c-by, kind-opens)
-  mode-by mode.Macro m =
-      search (rules, macro-by, kind-opens)
+  mode-by mode.Limbo m = search rules
+  mode-by mode.Documentation m = search rules
+  mode-by mode.CPart m = search (rules, c-by, kind-opens)
+  mode-by mode.Macro m = search (rules, macro-by, kind-opens)
 
   pub lexeme-by : P (lexeme s text)
   unfolding lexeme

@@ -32,16 +32,14 @@ pub line_ends-stop : (r : Region) (text : List Cell) → unit_at r text ≡ unit
 line_ends-stop r text h = line_ends-are r text ∙ from_units-stop line_end_of r text h
 
 pub line_ends-go : (r : Region) (last : ℕ) (text : List Cell) (u : Unit-of)
-    → 0 < length text → unit_at r text ≡ u → (u ≡ unit.Stop → ⊥)
-    → line_ends r text
+    → 0 < length text → unit_at r text ≡ u → (u ≡ unit.Stop → ⊥) → line_ends r text
     ≡ line_end_of u (front_cell last text) (byte_at 1 text) ++ line_ends r (drop (more_by u) (drop 1 text))
 line_ends-go r last text u inside h go = grind arith
 
 -- names, unit by unit
 
 pub name_bytes-go : (last : ℕ) (text : List Cell) (u : Unit-of)
-    → 0 < length text → unit_at region.Name text ≡ u → (u ≡ unit.Stop → ⊥)
-    → name_bytes text
+    → 0 < length text → unit_at region.Name text ≡ u → (u ≡ unit.Stop → ⊥) → name_bytes text
     ≡ name_bytes_of u (front_cell last text) (byte_at 1 text) ++ name_bytes (drop (more_by u) (drop 1 text))
 name_bytes-go last text u inside h go = grind arith
 

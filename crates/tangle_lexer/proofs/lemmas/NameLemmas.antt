@@ -18,8 +18,7 @@ use Rattle.tangle_lexer.proofs.lemmas.OpenedRegions.{after-two, mid-is}
 use Rattle.tangle_text.proofs.AheadLemmas.{byte_at-drop}
 
 pub byte_at-next : (n : ℕ) (text : List Cell) → byte_at (n + 1) text ≡ byte_at 1 (drop n text)
-byte_at-next n text =
-    grind (arith, nat_tests, byte_at-drop (n + 1) text, drop-drop 1 n text)
+byte_at-next n text = grind (arith, nat_tests, byte_at-drop (n + 1) text, drop-drop 1 n text)
 
 -- the equals sign, by the text after the cells before it
 pub equals-further : (text : List Cell)

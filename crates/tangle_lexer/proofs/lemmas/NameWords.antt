@@ -39,8 +39,7 @@ last-append o (x ∷ bytes) b = last-append (Some x) bytes b
 
 -- words that are joined
 
-join-append : (words : List (List ℕ)) (word : List ℕ)
-    → join_with_byte space (words ++ word ∷ [])
+join-append : (words : List (List ℕ)) (word : List ℕ) → join_with_byte space (words ++ word ∷ [])
     ≡ join_with_byte space words ++ (if has_words words then space ∷ word else word)
 join-append [] word = refl
 join-append (first ∷ []) word = refl
@@ -65,20 +64,17 @@ parts-any (b ∷ bytes) = grind (arith, nat_tests)
 parts-white : (front : List ℕ) (b : ℕ) (rest : List ℕ)
     → is_white b ≡ true → parts_of (front ++ b ∷ rest) ≡ parts_of front ++ parts_of rest
 parts-white [] b rest white = slice_split-cons_yes is_white b rest white
-parts-white (x ∷ front) b rest white =
-    grind (arith, nat_tests, parts-white front b rest white, parts-any front)
+parts-white (x ∷ front) b rest white = grind (arith, nat_tests, parts-white front b rest white, parts-any front)
 
 -- bytes that are not white space belong to the last part
-parts-other : (bytes : List ℕ)
-    → (front : List (List ℕ)) × (part : List ℕ)
+parts-other : (bytes : List ℕ) → (front : List (List ℕ)) × (part : List ℕ)
     × ((more : List ℕ) → AreOther more → parts_of (bytes ++ more) ≡ front ++ (part ++ more) ∷ [])
 parts-other [] = ([], [], λ more other. slice_split_none is_white more other)
 parts-other (b ∷ bytes) =
     let last = parts-other bytes in
     by (is_white b) last.0 last.1 (λ more other. ap (parts_by b (is_white b)) (last.2 more other))
   where
-    by : (white : Bool) (front : List (List ℕ)) (part : List ℕ)
-        → ((more : List ℕ)
+    by : (white : Bool) (front : List (List ℕ)) (part : List ℕ) → ((more : List ℕ)
         → AreOther more → parts_of (b ∷ (bytes ++ more)) ≡ parts_by b white (front ++ (part ++ more) ∷ []))
         → (front : List (List ℕ)) × (part : List ℕ)
         × ((more : List ℕ) → AreOther more → parts_of (b ∷ (bytes ++ more)) ≡ front ++ (part ++ more) ∷ [])
@@ -89,8 +85,7 @@ parts-other (b ∷ bytes) =
 -- a byte after white space begins a word
 words-new : (front : List ℕ) (a b : ℕ) → is_white a ≡ true → is_white b ≡ false
     → name_words ((front ++ a ∷ []) ++ b ∷ []) ≡ name_words (front ++ a ∷ []) ++ (b ∷ []) ∷ []
-words-new front a b white other =
-    search (rules, append_assoc, parts-white, filter-append)
+words-new front a b white other = search (rules, append_assoc, parts-white, filter-append)
 
 -- a byte after another one belongs to the same word
 words-more : (bytes : List ℕ) (a b : ℕ) → is_white a ≡ false → is_white b ≡ false
@@ -98,9 +93,7 @@ words-more : (bytes : List ℕ) (a b : ℕ) → is_white a ≡ false → is_whit
     × (name_words ((bytes ++ a ∷ []) ++ b ∷ []) ≡ words ++ (word ++ b ∷ []) ∷ [])
 words-more bytes a b first second =
     let last = parts-other bytes in
-    by (filter has_bytes last.0) last.1
-    (search (rules, filter-append))
-    (search (rules, append_assoc, filter-append))
+    by (filter has_bytes last.0) last.1 (search (rules, filter-append)) (search (rules, append_assoc, filter-append))
   where
     by : {before after : List (List ℕ)} (words : List (List ℕ)) (part : List ℕ)
         → before ≡ words ++ filter has_bytes ((part ++ a ∷ []) ∷ [])
@@ -131,15 +124,13 @@ so-far-next read name white b is h =
     grind (arith, nat_tests, from-end read, last-append, words-new, join-append, join-has, form-more)
 
 pub so-far-space : (read name : List ℕ) (white : Bool) (b : ℕ) → is_white b ≡ false → IsNameSoFar read name white
-    → 0 < length name → white ≡ true
-    → IsNameSoFar (read ++ b ∷ []) ((name ++ space ∷ []) ++ b ∷ []) false
+    → 0 < length name → white ≡ true → IsNameSoFar (read ++ b ∷ []) ((name ++ space ∷ []) ++ b ∷ []) false
 so-far-space read [] white b is h any after = absurd (omega arith)
 so-far-space read (x ∷ name) white b is h any after =
     grind (arith, nat_tests, append_assoc (x ∷ name) (space ∷ []) (b ∷ []), so-far-next read (x ∷ name) white b is h)
 
 pub so-far-byte : (read name : List ℕ) (white : Bool) (b : ℕ) → is_white b ≡ false → IsNameSoFar read name white
-    → (white ≡ false) ⊎ (length name ≡ 0)
-    → IsNameSoFar (read ++ b ∷ []) (name ++ b ∷ []) false
+    → (white ≡ false) ⊎ (length name ≡ 0) → IsNameSoFar (read ++ b ∷ []) (name ++ b ∷ []) false
 so-far-byte read [] white b is h reason = so-far-next read [] white b is h
 so-far-byte read (x ∷ name) white b is h (inl other) =
     grind (arith, nat_tests, so-far-next read (x ∷ name) white b is h)
@@ -164,5 +155,4 @@ pub plain-byte : (read : List ℕ) (white : Bool) (b : ℕ)
 plain-byte read true b is (inl none) = grind (arith, nat_tests)
 plain-byte read true b is (inr name) =
     grind (arith, nat_tests, length-append read, so-far-space read name.0 true b is name.3 name.1)
-plain-byte read false b is h =
-    grind (arith, nat_tests, length-append read, so-far-byte read read false b is h.1)
+plain-byte read false b is h = grind (arith, nat_tests, length-append read, so-far-byte read read false b is h.1)

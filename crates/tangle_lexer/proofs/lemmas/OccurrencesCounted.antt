@@ -26,9 +26,10 @@ IsBelow count _ = Unit {0}
 abbrev pub AreBelow : ℕ → List Token → Type 0
 AreBelow count ts = AllByRecursion (IsBelow count) ts
 
-pub below-append : (count : ℕ) (ts us : List Token) → AreBelow count ts → AreBelow count us → AreBelow count (ts ++ us)
-below-append count [] us h k = k
-below-append count (t ∷ ts) us h k = (h.0, below-append count ts us h.1 k)
+pub all-append : {A : Type 0} (P : A → Type 0) (xs ys : List A)
+    → AllByRecursion P xs → AllByRecursion P ys → AllByRecursion P (xs ++ ys)
+all-append P [] ys h k = k
+all-append P (x ∷ xs) ys h k = (h.0, all-append P xs ys h.1 k)
 
 -- a lexeme adds its occurrence to the count, and the numbers in its tokens are below the new count
 pub record Keeps (s : LexerState) (l : Lexeme) : Type 0 where
@@ -37,11 +38,7 @@ pub record Keeps (s : LexerState) (l : Lexeme) : Type 0 where
 
 plain-below : (count : ℕ) (ts : List Token) → list_any is_not_plain ts ≡ false → AreBelow count ts
 plain-below count [] h = tt
-plain-below count (t ∷ ts) h = both t (λ k. plain-below count ts k) h
-  where
-    both : (t : Token) → (list_any is_not_plain ts ≡ false → AreBelow count ts)
-        → (is_not_plain t || list_any is_not_plain ts) ≡ false → IsBelow count t × AreBelow count ts
-    both x more h = search rules
+plain-below count (t ∷ ts) h = grind (arith, plain-below count ts)
 
 -- a lexeme without an occurrence
 plain-keeps : (s : LexerState) (l : Lexeme)
@@ -88,15 +85,14 @@ below-more few many (t ∷ ts) h k = ((grind arith), below-more few many ts h k.
 lexemes-below : (k : ℕ) (s : LexerState) (text : List Cell) (count : ℕ)
     → count ≡ s.occurrences + length (flat_map (λ l. option_to_list l.occurrence) (lexemes k s text))
     → AreBelow count (flat_map (λ l. l.tokens) (lexemes k s text))
-lexemes-below zero s [] count is = tt
-lexemes-below (suc k) s [] count is = tt
+lexemes-below k s [] count is = tt
 lexemes-below (suc k) s (c ∷ cs) count is = lexemes-below k s cs count is
 lexemes-below zero s (c ∷ cs) count is =
     let here : Lexeme = lexeme s (c ∷ cs) in
     let keeps = lexeme-keeps s (c ∷ cs) in
     let more = flat_map (λ l. option_to_list l.occurrence) (lexemes here.more here.after cs) in
     let lengths = length-append (option_to_list here.occurrence) more in
-    below-append count here.tokens (flat_map (λ l. l.tokens) (lexemes here.more here.after cs))
+    all-append (IsBelow count) here.tokens (flat_map (λ l. l.tokens) (lexemes here.more here.after cs))
     (below-more _ count here.tokens (omega arith) keeps.below)
     (lexemes-below here.more here.after cs count (omega arith))
 

@@ -25,8 +25,7 @@ after-if n k text = sym (drop-drop k (1 + n) (drop 1 text)) ∙ ap (drop k) (aft
 
 -- the text after a region that opens with two cells, and after its end, if that is there
 pub ended-ahead : (r : Region) (text mid rest : List Cell)
-    → mid ≡ region_end r (drop 1 (drop 1 text)) → rest ≡ drop (two_if (ends_region r mid)) mid
-    → rest
+    → mid ≡ region_end r (drop 1 (drop 1 text)) → rest ≡ drop (two_if (ends_region r mid)) mid → rest
     ≡ drop (1 + count_before r (drop 2 text)
     + two_if (ends_region r (drop (count_before r (drop 2 text)) (drop 2 text)))) (drop 1 text)
 ended-ahead r text mid rest h go = grind (arith, nat_tests, mid-is, after-if)

@@ -13,13 +13,11 @@ pub line_ends-ordinary : (r : Region) → skips_ordinary r ≡ true → (n : ℕ
     → AreOrdinary n text → line_ends r (drop n text) ≡ line_ends r text
 line_ends-ordinary r is zero text h = refl
 line_ends-ordinary r is (suc n) [] h = refl
-line_ends-ordinary r is (suc n) (c ∷ cs) h =
-    grind (arith, nat_tests, line_ends-ordinary r is n cs h.1)
+line_ends-ordinary r is (suc n) (c ∷ cs) h = grind (arith, nat_tests, line_ends-ordinary r is n cs h.1)
 
 pub cut-ordinary : (ends : ℕ → List Cell → List Token) (r : Region)
     → skips_ordinary r ≡ true → (n start : ℕ) (text : List Cell) → AreOrdinary n text
     → cut_tokens ends r 0 start (drop n text) ≡ cut_tokens ends r 0 start text
 cut-ordinary ends r is zero start text h = refl
 cut-ordinary ends r is (suc n) start [] h = refl
-cut-ordinary ends r is (suc n) start (c ∷ cs) h =
-    grind (arith, nat_tests, cut-ordinary ends r is n start cs h.1)
+cut-ordinary ends r is (suc n) start (c ∷ cs) h = grind (arith, nat_tests, cut-ordinary ends r is n start cs h.1)

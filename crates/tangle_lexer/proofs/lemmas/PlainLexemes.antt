@@ -2,25 +2,24 @@
 use Rattle.std.proofs.Common.{rules}
 use Rattle.std.proofs.lemmas.Bool.Decides.{nat_tests}
 use Rattle.std.proofs.Common.{arith}
-use Rattle.std.proofs.Common.{◌≡◌, ℕ, List, ◌++◌, drop, refl, Option, None}
+use Rattle.std.proofs.Common.{◌≡◌, ℕ, List, ◌++◌, Option, None}
 use Rattle.tangle_faults.specs.declared.faults.FaultKind.{FaultKind}
 use Rattle.tangle_faults.specs.declared.faults.FaultKind.TheVariants as fault
 use Rattle.tangle_text.specs.declared.regions.Region.{Region}
-use Rattle.tangle_text.specs.declared.regions.Region.TheVariants as region
 use Rattle.tangle_text.specs.Text.{Cell, front_line}
 use Rattle.tangle_lexer.specs.declared.constants.AsciiConstant.{AsciiConstant}
 use Rattle.tangle_lexer.specs.declared.lexeme_kinds.ControlCode.TheVariants as code
 use Rattle.tangle_lexer.specs.declared.lexeme_kinds.LexemeKind.{LexemeKind}
 use Rattle.tangle_lexer.specs.declared.lexeme_kinds.LexemeKind.TheVariants as lexeme_kind
 use Rattle.tangle_lexer.specs.declared.modes.LexerState.{LexerState}
-use Rattle.tangle_lexer.specs.Constants.{constant_at, constant_lexeme}
+use Rattle.tangle_lexer.specs.Constants.{constant_lexeme}
 use Rattle.tangle_lexer.specs.Lexemes.{Lexeme, fault_if, is_in_directive}
 use Rattle.tangle_lexer.specs.Names.{name_faults, mention_faults, has_single_equals, after_name}
 use Rattle.tangle_lexer.specs.Quoted.{quoted_text}
 use Rattle.tangle_lexer.specs.CText.{code_fault}
 use Rattle.tangle_lexer.specs.Steps.{c_lexeme}
 use Rattle.tangle_lexer.proofs.lemmas.LexemeCases.{IsPlainKind}
-use Rattle.tangle_lexer.proofs.lemmas.PlainTokens.{ArePlain, seen, plain-append, fault_if-plain, white-plain}
+use Rattle.tangle_lexer.proofs.lemmas.PlainTokens.{ArePlain, plain-append, fault_if-plain, white-plain}
 use Rattle.tangle_lexer.proofs.lemmas.PlainTokens.{line_ends-plain, verbatim_tokens-text, cut_tokens-text}
 use Rattle.tangle_lexer.proofs.lemmas.PlainTokens.{text-plain, AreText}
 
@@ -30,11 +29,6 @@ pub record IsPlainLexeme (s : LexerState) (here : Lexeme) : Type 0 where
   pub none : here.occurrence ≡ None
   pub count : here.after.occurrences ≡ s.occurrences
   pub last : here.after.last_line ≡ s.last_line
-
-plain : (s : LexerState) (here : Lexeme) → ArePlain here.tokens → here.after.mode ≡ s.mode
-    → here.occurrence ≡ None → here.after.occurrences ≡ s.occurrences → here.after.last_line ≡ s.last_line
-    → IsPlainLexeme s here
-plain s here tokens mode none count last = grind (arith, nat_tests)
 
 -- the faults of a name that is used
 pub use-plain : (s : LexerState) (text : List Cell)
@@ -60,21 +54,12 @@ quoted-plain : (r : Region) (close : ℕ) (s : LexerState) (text : List Cell)
 quoted-plain r close s text = grind (arith, nat_tests, text-plain, quoted-text)
 
 pub fault-plain : (kind : FaultKind) (s : LexerState) (text : List Cell) → IsPlainLexeme s (code_fault kind s text)
-fault-plain kind s text = plain s _ (seen _ refl) refl refl refl refl
+fault-plain kind s text = search rules
 
 pub kind-plain : (kind : LexemeKind) (s : LexerState) (text : List Cell)
     → IsPlainKind kind → IsPlainLexeme s (c_lexeme kind s text)
 kind-plain (lexeme_kind.Control code.SectionStart) s text h = absurd h
 kind-plain (lexeme_kind.Control code.Name) s text h = absurd h
-kind-plain (lexeme_kind.Control code.ControlText) s text h =
-    search (rules, white-plain, line_ends-plain, fault_if-plain)
-kind-plain (lexeme_kind.Control code.Verbatim) s text h = search (rules, text-plain, verbatim_tokens-text)
-kind-plain (lexeme_kind.Control code.AllMacros) s text h = grind (arith, nat_tests)
-kind-plain (lexeme_kind.Control code.AsciiConstant) s text h = constant-plain (constant_at (drop 2 text)) s text
-kind-plain lexeme_kind.BlockComment s text h =
-    search (rules, white-plain, line_ends-plain, fault_if-plain)
-kind-plain lexeme_kind.LineComment s text h = grind (arith, nat_tests, fault_if-plain)
-kind-plain lexeme_kind.DoubleQuote s text h = quoted-plain region.DoubleQuote _ s text
-kind-plain lexeme_kind.Apostrophe s text h = quoted-plain region.Apostrophe _ s text
-kind-plain lexeme_kind.HeaderName s text h = quoted-plain region.HeaderName _ s text
-kind-plain _ s text h = plain s _ (seen _ refl) refl refl refl refl
+kind-plain (lexeme_kind.Control kind) s text h =
+    search (rules, white-plain, line_ends-plain, fault_if-plain, text-plain, verbatim_tokens-text, constant-plain)
+kind-plain _ s text h = search (rules, white-plain, line_ends-plain, fault_if-plain, quoted-plain)

@@ -55,7 +55,7 @@ fault_if-plain x kind line = grind arith
 
 -- line ends
 
-none-flat : (test : Token → Bool) (f : List Cell → List Token)
+pub none-flat : (test : Token → Bool) (f : List Cell → List Token)
     → ((u : List Cell) → HasNone test (f u)) → (us : List (List Cell)) → HasNone test (flat_map f us)
 none-flat test f h [] = refl
 none-flat test f h (u ∷ us) = none-append test (f u) (flat_map f us) (h u) (none-flat test f h us)
@@ -66,8 +66,7 @@ line_ends-plain r text = grind (arith, nat_tests, none-flat)
 inner_ends-plain : (b : Bool) (ts : List Token)
     → HasNone is_not_plain ts → HasNone is_not_plain (map (inner_end_in b) ts)
 inner_ends-plain b [] h = refl
-inner_ends-plain b (t ∷ ts) h =
-    grind (arith, nat_tests, inner_ends-plain b ts)
+inner_ends-plain b (t ∷ ts) h = grind (arith, nat_tests, inner_ends-plain b ts)
 
 pub white-plain : (b : Bool) (ends faults : List Token)
     → ArePlain ends → ArePlain faults → ArePlain (token.White ∷ map (inner_end_in b) ends ++ faults)
@@ -97,10 +96,8 @@ at_stop-text : (u : Unit-of) (ending others : List Token)
 at_stop-text x ending others h k = grind arith
 
 pub cut_tokens-text : (ends : ℕ → List Cell → List Token) (r : Region) (k start : ℕ) (text : List Cell)
-    → ((start : ℕ) (text : List Cell) → AreText (ends start text))
-    → AreText (cut_tokens ends r k start text)
-cut_tokens-text ends r zero start [] h = h start []
-cut_tokens-text ends r (suc k) start [] h = h start []
+    → ((start : ℕ) (text : List Cell) → AreText (ends start text)) → AreText (cut_tokens ends r k start text)
+cut_tokens-text ends r k start [] h = h start []
 cut_tokens-text ends r (suc k) start (c ∷ cs) h = cut_tokens-text ends r k start cs h
 cut_tokens-text ends r zero start (c ∷ cs) h =
     at_stop-text (unit_at r (c ∷ cs)) _ _ (h start (c ∷ cs))
@@ -109,5 +106,4 @@ cut_tokens-text ends r zero start (c ∷ cs) h =
     (next_start (unit_at r (c ∷ cs)) start c (byte_at 0 cs)) cs h))
 
 pub verbatim_tokens-text : (text : List Cell) → AreText (verbatim_tokens text)
-verbatim_tokens-text text =
-    search (rules, cut_tokens-text)
+verbatim_tokens-text text = search (rules, cut_tokens-text)

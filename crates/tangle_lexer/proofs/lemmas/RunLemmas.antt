@@ -4,13 +4,13 @@ use Rattle.std.proofs.Common.{if◌then◌else◌, nat_le, ◌==◌}
 use Rattle.std.proofs.lemmas.List.{get_or-drop}
 use Rattle.std.proofs.lemmas.Bool.Decides.{nat_tests}
 use Rattle.tangle_text.specs.Bytes.{number_sign, backslash, holds}
-use Rattle.std.proofs.Common.{◌≡◌, ◌<◌, ◌≤◌, ℕ, zero, suc, ◌+◌, ◌-◌, Bool, true, false, ◌&&◌, not, List, [], ◌∷◌, ◌++◌, length}
+use Rattle.std.proofs.Common.{◌≡◌, ◌<◌, ◌≤◌, ℕ, zero, suc, ◌+◌, ◌-◌, Bool, true, false, ◌&&◌, List, [], ◌∷◌, ◌++◌, length}
 use Rattle.std.proofs.Common.{take, drop, map, get_or, slice_get, Option, IsSome, ◌⊎◌, inl, inr, refl, ap}
 use Rattle.std.proofs.Common.{sym, ◌∙◌, subst, arith, append_assoc, append-nil, length-drop}
 use Rattle.std.proofs.Common.{Some}
 use Rattle.std.proofs.lemmas.Option.{slice_get-get_or}
 use Rattle.std.specs.List.{All}
-use Rattle.std.proofs.lemmas.Bool.{and_parts}
+use Rattle.std.proofs.lemmas.Bool.{and_parts, not-true}
 use Rattle.std.proofs.lemmas.List.Elements.{All-push}
 use Rattle.tangle_lines.specs.Reading.{SourceLine}
 use Rattle.tangle_text.specs.declared.spans.Span.{Span}
@@ -34,7 +34,7 @@ use Rattle.tangle_lexer.specs.Steps.{c_lexeme, lexeme, tokens_from}
 use Rattle.tangle_lexer.specs.Steps.{occurrences_from}
 use Rattle.tangle_lexer.proofs.lemmas.BlockLemmas.{unfolded-append, rest-drop}
 use Rattle.tangle_lexer.proofs.lemmas.RunTokens.{in_part, front-byte, run-goes, BeginsRun, run-begins}
-use Rattle.tangle_text.proofs.SeparatorLemmas.{IsInRun, in_run-is, run_size-first, run_size-in}
+use Rattle.tangle_text.proofs.SeparatorLemmas.{in_run-is, run_size-first, run_size-in}
 use Rattle.tangle_lexer.specs.declared.modes.IncludeState.{IncludeState}
 use Rattle.tangle_lexer.specs.declared.modes.IncludeState.TheVariants as include
 use Rattle.tangle_lexer.proofs.lemmas.SimpleLemmas.{lexeme-simple}
@@ -74,8 +74,7 @@ text-place from [] (suc k) h = cc
 text-place from (l ∷ ls) k h =
     elim (line-place from 0 l.bytes (text_from (from + 1) ls) k) [
       | inl near ↦
-          let more : 0 < length (drop k l.bytes)
-          = search (rules, byte-some) in
+          let more : 0 < length (drop k l.bytes) = search (rules, byte-some) in
           let column : 0 + k ≡ k = omega arith in
           let line : from ≡ from + 0 = omega arith in
           record {
@@ -128,14 +127,10 @@ run_byte-last b next h = grind (arith, nat_tests)
 
 run-last : (bs : List ℕ) (n : ℕ) → run_size bs ≡ suc n → (get_or bs n 0 == backslash) ≡ false
 run-last [] n h = absurd (omega arith)
-run-last (b ∷ bs) n h =
-    let first = in_run-is b bs (run_size-first b bs (omega arith)) in
-    by n first (run-last bs) (omega (arith, run_size-in b bs first))
-  where
-    by : (n : ℕ) → IsInRun b bs → ((k : ℕ) → run_size bs ≡ suc k → (get_or bs k 0 == backslash) ≡ false)
-        → run_size bs ≡ n → (get_or (b ∷ bs) n 0 == backslash) ≡ false
-    by zero first rest same = run_byte-last b (slice_get bs 0) first.byte
-    by (suc n) first rest same = rest n same
+run-last (b ∷ bs) zero h =
+    run_byte-last b (slice_get bs 0) (in_run-is b bs (run_size-first b bs (omega arith))).byte
+run-last (b ∷ bs) (suc n) h =
+    run-last bs n (omega (arith, run_size-in b bs (in_run-is b bs (run_size-first b bs (omega arith)))))
 
 begins-size : (bs : List ℕ) → BeginsRun bs → 0 < run_size bs
 begins-size [] h = absurd h
@@ -198,21 +193,12 @@ kind-apart x s text h apart = grind arith
 lexeme-apart : (s : LexerState) (text : List Cell) (p : SimpleLexeme)
     → IsSimple text p → is_c_text s.mode ≡ true → is_word_or_sign p ≡ true
     → is_apart s.line.include (byte_at 0 text) ≡ true → lexeme s text ≡ lexeme (elsewhere s) text
-lexeme-apart s text p here m h apart =
-    grind (arith, nat_tests, kind-apart p s text h apart, lexeme-simple)
+lexeme-apart s text p here m h apart = grind (arith, nat_tests, kind-apart p s text h apart, lexeme-simple)
 
 -- a first byte that is apart is no #
 apart-sign : (inc : IncludeState) (b : Option ℕ) → is_apart inc b ≡ true → holds number_sign b ≡ false
-apart-sign include.AtStart b h = none (holds number_sign b) h
-  where
-    none : (t : Bool) → not t ≡ true → t ≡ false
-    none true e = cc
-    none false e = refl
-apart-sign include.Elsewhere b h = none (holds number_sign b) h
-  where
-    none : (t : Bool) → not t ≡ true → t ≡ false
-    none true e = cc
-    none false e = refl
+apart-sign include.AtStart b h = not-true (holds number_sign b) h
+apart-sign include.Elsewhere b h = not-true (holds number_sign b) h
 apart-sign _ b h = cc
 
 -- a run that may begin at a simple lexeme, and has bytes, is read from there on
@@ -242,8 +228,7 @@ run-read lines s text p here begins some_bytes ours =
     let sign : (get_or of_line place.column 0 == number_sign) ≡ false
     = ap (holds number_sign) (sym found) ∙ apart-sign s.line.include (byte_at 0 text) all.1 in
     let part : LexerState = in_part (with_item false s.line.line) s.occurrences s.last_line in
-    let run : IsRunRead lines part part text
-    = subst (IsRunRead lines part part) (sym is)
+    let run : IsRunRead lines part part text = subst (IsRunRead lines part part) (sym is)
     (line-run lines (with_item false s.line.line) (λ b. item-stays false b s.line.line) s.occurrences s.last_line
     place.line place.column place.rest place.real place.inside begins_run sign) in
     grind (arith, nat_tests, lexeme-apart s text p here, tokens_from-step, occurrences_from-step)
@@ -261,8 +246,7 @@ run-reads-on lines old new s text rest span added is ahead ours run =
     let run_is : IsRunOf texts span = subst (IsRunOf texts) (sym is) run.run in
     let parts = map part_token (run_parts texts span) in
     let after = tokens_from (elsewhere s) rest in
-    let from : tokens_from s text ≡ parts ++ after
-    = search rules in
+    let from : tokens_from s text ≡ parts ++ after = search rules in
     let tokens_are : unfolded texts new ≡ unfolded texts old ++ parts
     = grind (arith, nat_tests, unfolded-append texts old, append-nil parts) in
     record {

@@ -4,16 +4,16 @@ use Rattle.std.proofs.lemmas.Bool.Decides.{nat_tests}
 use Rattle.std.proofs.Common.{◌≡◌, ◌<◌, ℕ, zero, suc, ◌+◌, Bool, true, false, ◌==◌, List, [], ◌∷◌}
 use Rattle.std.proofs.Common.{◌++◌, length, take, drop, map, Option, Some, None, ◌⊎◌, slice_get, inl, inr, refl, ap}
 use Rattle.std.proofs.Common.{sym, ◌∙◌, subst, arith}
-use Rattle.tangle_lines.specs.Bytes.{at_sign, double_quote, is_white}
+use Rattle.std.proofs.lemmas.Bool.{cases_Bool}
 use Rattle.tangle_files.specs.Bytes.{space}
 use Rattle.tangle_text.specs.declared.regions.Region.{Region}
 use Rattle.tangle_text.specs.declared.regions.Region.TheVariants as region
 use Rattle.tangle_text.specs.declared.regions.Unit.TheVariants as unit
-use Rattle.tangle_text.specs.Bytes.{apostrophe, slash, holds_white, holds_word_byte}
+use Rattle.tangle_text.specs.Bytes.{holds_white, holds_word_byte}
 use Rattle.tangle_text.specs.Bytes.{is_word_byte, number_sign, backslash}
 use Rattle.tangle_text.specs.Text.{Cell, line_text, byte_at, span_at}
 use Rattle.tangle_text.specs.Regions.{unit_at, count_before}
-use Rattle.tangle_text.specs.Runs.{is_plain, holds_plain, is_run_byte, is_before_separator, is_in_run, run_size}
+use Rattle.tangle_text.specs.Runs.{holds_plain, is_run_byte, is_before_separator, is_in_run, run_size}
 use Rattle.tangle_text.specs.Runs.{chunks, parts_of, has_single_spaces}
 use Rattle.tangle_text.proofs.SeparatorLemmas.{IsInRun, in_run-is, run_size-in, run_size-first, plain-in_run}
 use Rattle.tangle_text.proofs.SeparatorLemmas.{word-plain, plain-no_space, before-word}
@@ -50,18 +50,6 @@ IsRunByte b next =
     ⊎ (((kind_of b next ≡ lexeme_kind.Other) × (is_word_byte b ≡ false) × ((b == space) ≡ false)
     × ((b == backslash) ≡ false))
     ⊎ ((b ≡ space) × (holds_plain next ≡ true)))
-
-pub record ArePlainTests (b : ℕ) : Type 0 where
-  pub white : is_white b ≡ false
-  pub quote : (b == double_quote) ≡ false
-  pub apostrophe : (b == apostrophe) ≡ false
-  pub slash : (b == slash) ≡ false
-  pub at_sign : (b == at_sign) ≡ false
-  pub space : (b == space) ≡ false
-  pub backslash : (b == backslash) ≡ false
-
-plain-byte : (b : ℕ) (next : Option ℕ) → is_plain b ≡ true → IsRunByte b next
-plain-byte b next h = grind (arith, nat_tests)
 
 run-byte : (b : ℕ) (next : Option ℕ) → is_run_byte b next ≡ true → IsRunByte b next
 run-byte b next h = grind (arith, nat_tests)
@@ -106,8 +94,7 @@ pub record Reads (s : LexerState) (text : List Cell) (ts : List Token) (rest : L
 lexeme-reads : (s : LexerState) (text : List Cell) (here : Lexeme)
     → 0 < length text → lexeme s text ≡ here → here.occurrence ≡ None → here.after ≡ s
     → Reads s text here.tokens (drop here.more (drop 1 text))
-lexeme-reads s text here inside is none after =
-    search (rules, tokens_from-step, occurrences_from-step)
+lexeme-reads s text here inside is none after = search (rules, tokens_from-step, occurrences_from-step)
 
 end_of : List Token → ℕ
 end_of (token.Span kind s ∷ ts) = s.end
@@ -167,8 +154,7 @@ module _ (l : LineOfC) (stays : (b : Bool) → with_item b l ≡ l) (occurrences
   word-reads : (column b : ℕ) (bs : List ℕ) → is_word_byte b ≡ true → is_before_separator (b ∷ bs) ≡ false →
       Reads here (at column (b ∷ bs))
       (token.Span span_kind.Word (span_at (1 + count_before region.Word (at (column + 1) bs)) (at column (b ∷ bs)))
-      ∷ [])
-      (drop (count_before region.Word (at (column + 1) bs)) (at (column + 1) bs))
+      ∷ []) (drop (count_before region.Word (at (column + 1) bs)) (at (column + 1) bs))
   word-reads column b bs word apart =
       let text = at column (b ∷ bs) in
       let next = at (column + 1) bs in
@@ -180,8 +166,7 @@ module _ (l : LineOfC) (stays : (b : Bool) → with_item b l ≡ l) (occurrences
 
   sign-continues : (column b : ℕ) (bs xs : List ℕ) (after : List Cell)
       → kind_of b (slice_get bs 0) ≡ lexeme_kind.Other → is_word_byte b ≡ false → (b == space) ≡ false
-      → (b == backslash) ≡ false
-      → Goes (column + 1) bs xs after → Goes column (b ∷ bs) (b ∷ xs) after
+      → (b == backslash) ≡ false → Goes (column + 1) bs xs after → Goes column (b ∷ bs) (b ∷ xs) after
   sign-continues column b bs xs after kind no_word no_space no_backslash more =
       let text = at column (b ∷ bs) in
       let sign : Token = token.Span span_kind.Sign (record { line = line; start = column; end = column + 1 }) in
@@ -191,8 +176,7 @@ module _ (l : LineOfC) (stays : (b : Bool) → with_item b l ≡ l) (occurrences
       (rw no_backslash (same-line (b == number_sign))) in search (rules, alone-chunk)
 
   space-continues : (column : ℕ) (bs xs : List ℕ) (after : List Cell) → holds_plain (slice_get bs 0) ≡ true
-      → is_before_separator bs ≡ false
-      → Goes (column + 1) bs xs after → Goes column (space ∷ bs) (space ∷ xs) after
+      → is_before_separator bs ≡ false → Goes (column + 1) bs xs after → Goes column (space ∷ bs) (space ∷ xs) after
   space-continues column bs xs after plain apart more =
       let text = at column (space ∷ bs) in
       let next = at (column + 1) bs in
@@ -247,8 +231,7 @@ module _ (l : LineOfC) (stays : (b : Bool) → with_item b l ≡ l) (occurrences
       let this : Token = token.Span span_kind.Word
       (record { line = line; start = column; end = column + length (b ∷ c ∷ zs) }) in
       let column_is : column + length (b ∷ c ∷ zs) ≡ column + 1 + length (c ∷ zs) = omega arith in
-      let parts : tokens_of column (b ∷ c ∷ xs) ≡ this ∷ others
-      = search rules in
+      let parts : tokens_of column (b ∷ c ∷ xs) ≡ this ∷ others = search rules in
       let size_is : 1 + count_before region.Word next ≡ length (b ∷ c ∷ zs) = omega arith in
       let past_is : drop (count_before region.Word next) next ≡ drop n past
       = ap (λ k. drop k next) (counts ∙ one_more) in
@@ -259,56 +242,46 @@ module _ (l : LineOfC) (stays : (b : Bool) → with_item b l ≡ l) (occurrences
   word-goes : (column b : ℕ) (bs : List ℕ) → is_word_byte b ≡ true → is_before_separator (b ∷ bs) ≡ false
       → Goes (column + 1) bs (take (run_size bs) bs) (drop (run_size bs) (at (column + 1) bs))
       → Goes column (b ∷ bs) (b ∷ take (run_size bs) bs) (drop (run_size bs) (at (column + 1) bs))
-  word-goes column b [] word apart more =
-      word-continues column b [] [] (at (column + 1) []) word apart refl refl more
-  word-goes column b (c ∷ bs) word apart more = by (is_word_byte c) refl
-    where
-      after : List Cell
-      after = drop (run_size (c ∷ bs)) (at (column + 1) (c ∷ bs))
-
-      by : (w : Bool) → is_word_byte c ≡ w → Goes column (b ∷ c ∷ bs) (b ∷ take (run_size (c ∷ bs)) (c ∷ bs)) after
-      by true next_word =
-          let next_apart = sym (before-word b (c ∷ bs) word) ∙ apart in
-          let size = run_size-in c bs (plain-in_run c bs (word-plain c next_word) next_apart) in
-          let xs = (ap (λ n. take n (c ∷ bs)) size) in
-          subst (λ ys. Goes column (b ∷ c ∷ bs) (b ∷ ys) after) (sym xs)
-          (word-joins column b c bs (take (run_size bs) bs) after word next_word apart
-          (subst (λ ys. Goes (column + 1) (c ∷ bs) ys after) xs more))
-      by false other =
-          word-continues column b (c ∷ bs) (take (run_size (c ∷ bs)) (c ∷ bs)) after word apart other
-          (front-take (run_size (c ∷ bs)) c bs other) more
+  word-goes column b [] word apart more = word-continues column b [] [] (at (column + 1) []) word apart refl refl more
+  word-goes column b (c ∷ bs) word apart more =
+      let after : List Cell = drop (run_size (c ∷ bs)) (at (column + 1) (c ∷ bs)) in
+      elim (cases_Bool (is_word_byte c)) [
+        | inl next_word ↦
+            let next_apart = sym (before-word b (c ∷ bs) word) ∙ apart in
+            let size = run_size-in c bs (plain-in_run c bs (word-plain c next_word) next_apart) in
+            let xs = ap (λ n. take n (c ∷ bs)) size in
+            subst (λ ys. Goes column (b ∷ c ∷ bs) (b ∷ ys) after) (sym xs)
+            (word-joins column b c bs (take (run_size bs) bs) after word next_word apart
+            (subst (λ ys. Goes (column + 1) (c ∷ bs) ys after) xs more))
+        | inr other ↦
+            word-continues column b (c ∷ bs) (take (run_size (c ∷ bs)) (c ∷ bs)) after word apart other
+            (front-take (run_size (c ∷ bs)) c bs other) more
+      ]
 
   -- the run at the front is read
   pub run-goes : (column : ℕ) (bs : List ℕ) → Goes column bs (take (run_size bs) bs) (drop (run_size bs) (at column bs))
   run-goes column [] = (record { tokens = refl; occurrences = refl }, (grind arith))
-  run-goes column (b ∷ bs) = by (is_in_run b bs) refl (run-goes (column + 1) bs)
+  run-goes column (b ∷ bs) =
+      let first : ℕ → Type 0 = λ n. Goes column (b ∷ bs) (take n (b ∷ bs)) (drop n (at column (b ∷ bs))) in
+      let more = run-goes (column + 1) bs in
+      elim (cases_Bool (is_in_run b bs)) [
+        | inl h ↦
+            let in_run : IsInRun b bs = in_run-is b bs h in
+            subst first (sym (run_size-in b bs in_run)) (elim (run-byte b (slice_get bs 0) in_run.byte) [
+              | inl word ↦ word-goes column b bs word in_run.apart more
+              | inr (inl sign) ↦ sign-continues column b bs (take (run_size bs) bs) _ sign.0 sign.1 sign.2 sign.3 more
+              | inr (inr spaces) ↦
+                  let is : (b == space) ≡ true = ap (λ x. x == space) spaces.0 in
+                  subst (λ x. Goes column (x ∷ bs) (x ∷ take (run_size bs) bs)
+                  (drop (run_size bs) (at (column + 1) bs))) (sym spaces.0)
+                  (space-continues column bs (take (run_size bs) bs) _ spaces.1 (rw is at in_run.after) more)
+            ])
+        | inr h ↦
+            let none : run_size (b ∷ bs) ≡ 0 = rw h refl in
+            subst first (sym none) (record { tokens = refl; occurrences = refl }, stop none)
+      ]
     where
-      first : ℕ → Type 0
-      first n = Goes column (b ∷ bs) (take n (b ∷ bs)) (drop n (at column (b ∷ bs)))
-
       -- no part, and so no space, is in an empty run
       stop : run_size (b ∷ bs) ≡ 0 → HasSingle line column (b ∷ bs) []
       stop none true k = absurd (omega (arith, none, run_size-in b bs (k refl).0))
       stop none false k = refl
-
-      by : (r : Bool) → is_in_run b bs ≡ r
-          → Goes (column + 1) bs (take (run_size bs) bs) (drop (run_size bs) (at (column + 1) bs))
-          → first (run_size (b ∷ bs))
-      by false h more =
-          let none : run_size (b ∷ bs) ≡ 0 = rw h refl in
-          subst first (sym none) (record { tokens = refl; occurrences = refl }, stop none)
-      by true h more =
-          let in_run : IsInRun b bs = in_run-is b bs h in
-          subst first (sym (run_size-in b bs in_run)) (elim (run-byte b (slice_get bs 0) in_run.byte) [
-            | inl word ↦ word-goes column b bs word in_run.apart more
-            | inr other ↦
-                elim other [
-                  | inl sign ↦ sign-continues column b bs (take (run_size bs) bs) _ sign.0 sign.1 sign.2 sign.3 more
-                  | inr spaces ↦
-                      let is : (b == space) ≡ true = ap (λ x. x == space) spaces.0 in
-                      let apart : is_before_separator bs ≡ false = (rw is at in_run.after) in
-                      subst (λ x. Goes column (x ∷ bs) (x ∷ take (run_size bs) bs)
-                      (drop (run_size bs) (at (column + 1) bs))) (sym spaces.0)
-                      (space-continues column bs (take (run_size bs) bs) _ spaces.1 apart more)
-                ]
-          ])

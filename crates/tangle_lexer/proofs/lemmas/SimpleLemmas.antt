@@ -24,16 +24,14 @@ unfolding lexeme
 lexeme-simple s text p here h = grind (arith, nat_tests)
 
 pub simple-again : (old new : List Token) (l : LineState)
-    (s state after : LexerState) (text rest : List Cell) (p : SimpleLexeme)
-    → state ≡ with_line l s
+    (s state after : LexerState) (text rest : List Cell) (p : SimpleLexeme) → state ≡ with_line l s
     → IsRead old new text rest after (c_lexeme (simple_kind p) state text) →
     IsRead old new text rest (with_line after.line s) (c_lexeme (simple_kind p) (with_line l s) text)
 simple-again old new l s state after text rest p is read = grind (arith, nat_tests)
 
 pub simple-special : (s : LexerState) (text : List Cell) (p : SimpleLexeme) → IsSimple text p → is_c_text s.mode ≡ true
     → HasNone is_special (lexeme s text).tokens
-simple-special s text p here h =
-    grind (arith, nat_tests, lexeme-simple s text p here h)
+simple-special s text p here h = grind (arith, nat_tests, lexeme-simple s text p here h)
 
 pub simple-read : (old new : List Token) (s after : LexerState) (text rest : List Cell) (p : SimpleLexeme)
     → IsSimple text p → is_c_text s.mode ≡ true
@@ -41,11 +39,9 @@ pub simple-read : (old new : List Token) (s after : LexerState) (text rest : Lis
 simple-read old new s after text rest p here h read = grind (arith, nat_tests, lexeme-simple)
 
 pub simple-occurrences_from : (old new : List Token) (s after : LexerState) (text rest : List Cell) (p : SimpleLexeme)
-    → IsSimple text p → is_c_text s.mode ≡ true
-    → IsRead old new text rest after (c_lexeme (simple_kind p) s text)
+    → IsSimple text p → is_c_text s.mode ≡ true → IsRead old new text rest after (c_lexeme (simple_kind p) s text)
     → occurrences_from after rest ≡ occurrences_from s text
-simple-occurrences_from old new s after text rest p here h read =
-    search (rules, lexeme-simple, occurrences_from-step)
+simple-occurrences_from old new s after text rest p here h read = search (rules, lexeme-simple, occurrences_from-step)
 
 -- the kind of a lexeme that begins with a byte that opens nothing longer
 

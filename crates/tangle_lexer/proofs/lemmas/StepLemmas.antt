@@ -27,14 +27,12 @@ lexemes-drop zero s text = refl
 lexemes-drop (suc k) s [] = refl
 lexemes-drop (suc k) s (c ∷ cs) = lexemes-drop k s cs
 
-pub tokens_from-step : (s : LexerState) (text : List Cell) → 0 < length text
-    → tokens_from s text
+pub tokens_from-step : (s : LexerState) (text : List Cell) → 0 < length text → tokens_from s text
     ≡ (lexeme s text).tokens ++ tokens_from (lexeme s text).after (drop (lexeme s text).more (drop 1 text))
 unfolding tokens_from
 tokens_from-step s text h = grind (arith, nat_tests, lexemes-drop)
 
-pub occurrences_from-step : (s : LexerState) (text : List Cell) → 0 < length text
-    → occurrences_from s text
+pub occurrences_from-step : (s : LexerState) (text : List Cell) → 0 < length text → occurrences_from s text
     ≡ option_to_list (lexeme s text).occurrence
     ++ occurrences_from (lexeme s text).after (drop (lexeme s text).more (drop 1 text))
 unfolding occurrences_from
@@ -42,8 +40,7 @@ occurrences_from-step s text h = grind (arith, nat_tests, lexemes-drop)
 
 -- a step does not change the list of the occurrences read and those ahead
 pub step-occurrences : (lines : List SourceLine) (old new : List OccurrenceRead)
-    (from to : List Token) (s after : LexerState) (text rest : List Cell)
-    → 0 < length text
+    (from to : List Token) (s after : LexerState) (text rest : List Cell) → 0 < length text
     → IsRead from to text rest after (lexeme s text) → AddsOccurrence lines old new (lexeme s text).occurrence
     → new ++ map (occurrence_of lines) (occurrences_from after rest)
     ≡ old ++ map (occurrence_of lines) (occurrences_from s text)
@@ -52,8 +49,7 @@ step-occurrences lines old new from to s after text rest h read adds =
 
 -- a step makes the text ahead shorter
 pub step-shorter : (old new : List Token) (s after : LexerState) (text rest : List Cell)
-    → 0 < length text → IsRead old new text rest after (lexeme s text)
-    → length rest < length text
+    → 0 < length text → IsRead old new text rest after (lexeme s text) → length rest < length text
 step-shorter old new s after text rest h read = grind (arith, nat_tests, length-drop)
 
 -- the number of occurrences that were read grows by one with each name
@@ -62,5 +58,4 @@ pub step-count : (lines : List SourceLine) (old new : List OccurrenceRead)
     (from to : List Token) (s after : LexerState) (text rest : List Cell)
     → IsRead from to text rest after (lexeme s text) → AddsOccurrence lines old new (lexeme s text).occurrence
     → s.occurrences ≡ length old → after.occurrences ≡ length new
-step-count lines old new from to s after text rest read adds before =
-    search (rules, lexeme-keeps, length_push)
+step-count lines old new from to s after text rest read adds before = search (rules, lexeme-keeps, length_push)

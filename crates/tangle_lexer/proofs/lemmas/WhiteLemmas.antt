@@ -50,8 +50,7 @@ region-white r kind s text = grind (arith, nat_tests, white-by, inner-on_line, r
 
 -- the text after a region that two cells open, if it ends on its first line
 pub region-ahead : (r : Region) (text inner rest : List Cell)
-    → inner ≡ drop 1 (drop 1 text) → ends_on_line r inner ≡ true → rest ≡ drop 2 (region_end r inner)
-    → rest
+    → inner ≡ drop 1 (drop 1 text) → ends_on_line r inner ≡ true → rest ≡ drop 2 (region_end r inner) → rest
     ≡ drop (1 + count_before r (drop 2 text)
     + two_if (ends_region r (drop (count_before r (drop 2 text)) (drop 2 text)))) (drop 1 text)
 region-ahead r text inner rest is ends go = grind (arith, nat_tests, and_parts, ended-ahead)
@@ -91,8 +90,7 @@ constant-dark : (constant : Option AsciiConstant) (s : LexerState) (text : List 
     → is_white_alone (constant_lexeme constant s text).tokens ≡ false
 constant-dark x s text = grind arith
 
-pub code-dark : (kind : ControlCode) (text : List Cell)
-    → (kind ≡ code.ControlText → ⊥) → (kind ≡ code.Other → ⊥)
+pub code-dark : (kind : ControlCode) (text : List Cell) → (kind ≡ code.ControlText → ⊥) → (kind ≡ code.Other → ⊥)
     → is_white_alone (lexeme_but_name (lexeme_kind.Control kind) text).tokens ≡ false
 code-dark kind text h k = grind (arith, nat_tests, text-dark, verbatim_tokens-text, constant-dark)
 
@@ -104,10 +102,7 @@ kind-dark (lexeme_kind.Control code) text white block line control = absurd (con
 kind-dark lexeme_kind.White text white block line control = absurd (white refl)
 kind-dark lexeme_kind.BlockComment text white block line control = absurd (block refl)
 kind-dark lexeme_kind.LineComment text white block line control = absurd (line refl)
-kind-dark lexeme_kind.DoubleQuote text white block line control = search (rules, text-dark, quoted-text)
-kind-dark lexeme_kind.Apostrophe text white block line control = search (rules, text-dark, quoted-text)
-kind-dark lexeme_kind.HeaderName text white block line control = search (rules, text-dark, quoted-text)
-kind-dark _ text white block line control = refl
+kind-dark _ text white block line control = search (rules, text-dark, quoted-text)
 
 -- the text after the white space at the front
 

@@ -1,8 +1,7 @@
 -- In a C part the lexer's state follows the open line of C, lexeme by lexeme.
-use Rattle.std.proofs.lemmas.Bool.Decides.{nat_tests}
 use Rattle.std.proofs.Common.{rules}
 use Rattle.std.proofs.Common.{arith}
-use Rattle.std.proofs.Common.{◌≡◌, ℕ, Bool, true, false, List, [], ◌∷◌, ◌++◌, map, flat_map, ◌==◌}
+use Rattle.std.proofs.Common.{◌≡◌, ℕ, Bool, true, false, List, [], ◌∷◌, ◌++◌, map}
 use Rattle.std.proofs.Common.{Option, Some, None, refl, ap, sym, ◌∙◌, subst, ◌&&◌}
 use Rattle.tangle_faults.specs.declared.faults.FaultKind.{FaultKind}
 use Rattle.tangle_faults.specs.declared.faults.FaultKind.TheVariants as fault
@@ -33,8 +32,8 @@ use Rattle.tangle_lexer.specs.Constants.{constant_lexeme}
 use Rattle.tangle_lexer.specs.Names.{use_of_name, name_faults, name_end, has_single_equals, after_name}
 use Rattle.tangle_lexer.specs.Steps.{c_lexeme}
 use Rattle.tangle_lexer.specs.LinesOfParts.{is_use_fault}
-use Rattle.tangle_lexer.specs.SpanBytes.{first_byte}
 use Rattle.tangle_lexer.proofs.lemmas.LexemeCases.{OpensLexeme, IsPlainKind}
+use Rattle.tangle_lexer.proofs.lemmas.PlainTokens.{HasNone, none-flat}
 use Rattle.tangle_lexer.proofs.laws.Points.{Point, IsByte, IsCellAt, IsTextAt, byte-test}
 use Rattle.tangle_lexer.proofs.laws.RegionOrder.{some-byte, other-byte}
 use Rattle.tangle_lexer.proofs.lines.LineSteps.{Judgement, Steps, no-steps, steps-append, white-step, fault-step, faults-step}
@@ -43,25 +42,18 @@ use Rattle.tangle_lexer.proofs.lines.LineSteps.{line_end-step, inner-step, use-s
 use Rattle.tangle_lexer.proofs.lines.TextSteps.{end_by, quoted-steps}
 use Rattle.tangle_lexer.proofs.lines.VerbatimSteps.{verbatim-steps}
 
-abbrev AreLineEnds : List Token → Type 0
-AreLineEnds [] = Unit {0}
-AreLineEnds (token.LineEnd n ∷ ts) = AreLineEnds ts
-AreLineEnds (_ ∷ ts) = ⊥
+abbrev is_no_line_end : Token → Bool
+is_no_line_end (token.LineEnd n) = false
+is_no_line_end _ = true
 
-line_ends-append : (ts us : List Token) → AreLineEnds ts → AreLineEnds us → AreLineEnds (ts ++ us)
-line_ends-append [] us h k = k
-line_ends-append (token.LineEnd n ∷ ts) us h k = line_ends-append ts us h k
-line_ends-append (_ ∷ ts) us h k = absurd h
+abbrev AreLineEnds : List Token → Type 0
+AreLineEnds ts = HasNone is_no_line_end ts
 
 line_ends-are : (r : Region) (text : List Cell) → AreLineEnds (line_ends r text)
-line_ends-are r text = all (units r text)
+line_ends-are r text = none-flat is_no_line_end unit_line_end one (units r text)
   where
     one : (u : List Cell) → AreLineEnds (unit_line_end u)
     one x = search rules
-
-    all : (us : List (List Cell)) → AreLineEnds (flat_map unit_line_end us)
-    all [] = search rules
-    all (u ∷ us) = grind (arith, nat_tests, line_ends-append (unit_line_end u) (flat_map unit_line_end us) (one u) (all us))
 
 pub in_directive : (s : LexerState) → s.mode ≡ mode.CPart → is_in_directive s ≡ lines_of_c.is_directive s.line.line
 in_directive s m = ap (λ x. is_c_part x && lines_of_c.is_directive s.line.line) m
@@ -75,51 +67,29 @@ module _ (texts : List (List ℕ)) (R : Judgement texts) where
   abbrev Leaves : List Token → Type 0
   Leaves ts = (l : LineOfC) (e : AtLineEnd) → Steps texts R l e ts l e
 
-  -- line ends inside white space
-  outside-ends : (l : LineState) (ts : List Token) → AreLineEnds ts
-      → Follows l (map (inner_end_in false) ts) (after_line_ends false ts l)
-  outside-ends l [] h = no-steps texts R
-  outside-ends l (token.LineEnd n ∷ ts) h =
+  -- line ends inside white space, which are white space in a directive
+  inner-ends : (b : Bool) (l : LineState) (ts : List Token) → (b ≡ true → lines_of_c.is_directive l.line ≡ true)
+      → AreLineEnds ts → Follows l (map (inner_end_in b) ts) (after_line_ends b ts l)
+  inner-ends b l [] d h = no-steps texts R
+  inner-ends false l (token.LineEnd n ∷ ts) d h =
       steps-append texts R (token.LineEnd n ∷ []) (map (inner_end_in false) ts) (line_end-step texts R n)
-      (outside-ends (after_line_end l) ts h)
-  outside-ends l (_ ∷ ts) h = absurd h
+      (inner-ends false (after_line_end l) ts (λ e. cc) h)
+  inner-ends true l (token.LineEnd n ∷ ts) d h =
+      steps-append texts R (token.InnerLineEnd n ∷ []) (map (inner_end_in true) ts)
+      (subst (λ k. Steps texts R k l.at_line_end (token.InnerLineEnd n ∷ []) k l.at_line_end) (same l.line (d refl))
+      (inner-step texts R n)) (inner-ends true l ts d h)
+    where
+      same : (k : LineOfC) → lines_of_c.is_directive k ≡ true → line.Directive ≡ k
+      same k is = search rules
+  inner-ends b l (_ ∷ ts) d h = cc
 
-  inner-ends : (e : AtLineEnd) (ts : List Token) → AreLineEnds ts
-      → Steps texts R line.Directive e (map (inner_end_in true) ts) line.Directive e
-  inner-ends e [] h = no-steps texts R
-  inner-ends e (token.LineEnd n ∷ ts) h =
-      steps-append texts R (token.InnerLineEnd n ∷ []) (map (inner_end_in true) ts) (inner-step texts R n)
-      (inner-ends e ts h)
-  inner-ends e (_ ∷ ts) h = absurd h
-
-  same-line : (ts : List Token) (l : LineState) → after_line_ends true ts l ≡ l
-  same-line [] l = refl
-  same-line (t ∷ ts) l = same-line ts l
-
-  white-follows : (s : LexerState) (ends faults : List Token) → s.mode ≡ mode.CPart
-      → AreLineEnds ends → Leaves faults
+  white-follows : (s : LexerState) (ends faults : List Token) → s.mode ≡ mode.CPart → AreLineEnds ends → Leaves faults
       → Follows s.line (white_lexeme ends faults 0 s).tokens (white_lexeme ends faults 0 s).after.line
   white-follows s ends faults m are leave =
-      subst (λ b. Follows s.line (token.White ∷ map (inner_end_in b) ends ++ faults) (after_line_ends b ends s.line))
-      (sym (in_directive s m)) (by (lines_of_c.is_directive s.line.line) refl)
-    where
-      l : LineState
-      l = s.line
-
-      go : (b : Bool) → Follows l (map (inner_end_in b) ends) (after_line_ends b ends l)
-          → Follows l (token.White ∷ map (inner_end_in b) ends ++ faults) (after_line_ends b ends l)
-      go b step =
-          steps-append texts R (token.White ∷ []) (map (inner_end_in b) ends ++ faults) (white-step texts R)
-          (steps-append texts R (map (inner_end_in b) ends) faults step (leave _ _))
-
-      by : (b : Bool) → lines_of_c.is_directive l.line ≡ b
-          → Follows l (token.White ∷ map (inner_end_in b) ends ++ faults) (after_line_ends b ends l)
-      by true h =
-          go true
-          (subst (λ x. Follows l (map (inner_end_in true) ends) x) (sym (same-line ends l))
-          (subst (λ k. Steps texts R k l.at_line_end (map (inner_end_in true) ends) k l.at_line_end)
-          (grind arith) (inner-ends l.at_line_end ends are)))
-      by false h = grind (arith, nat_tests, go false (outside-ends l ends are))
+      let b : Bool = is_in_directive s in
+      steps-append texts R (token.White ∷ []) (map (inner_end_in b) ends ++ faults) (white-step texts R)
+      (steps-append texts R (map (inner_end_in b) ends) faults
+      (inner-ends b s.line ends (λ h. sym (in_directive s m) ∙ h) are) (leave _ _))
 
   white-alone : (s : LexerState) (kind : FaultKind) (n : ℕ) → s.mode ≡ mode.CPart
       → is_use_fault (token.Fault kind n) ≡ false
@@ -134,12 +104,8 @@ module _ (texts : List (List ℕ)) (R : Judgement texts) where
       → Steps texts R l e (token.Span span_kind.Sign (span_at 1 (c ∷ cs)) ∷ [])
       (with_item is_number l) (end_by is_backslash)
   sign-follows l e at c cs n b byte is number back =
-      let t : Token = token.Span span_kind.Sign (span_at 1 (c ∷ cs)) in
-      subst (λ x. Steps texts R l e (t ∷ []) (with_item x l) (end_by b))
-      (byte-test texts number_sign at c byte is ∙ number)
-      (subst
-      (λ x. Steps texts R l e (t ∷ []) (with_item (first_byte texts (span_at 1 (c ∷ cs)) == number_sign) l) (end_by x))
-      (byte-test texts backslash at c byte is ∙ back) (item-step texts R t refl))
+      rw (← number, ← back, ← byte-test texts number_sign at c byte is, ← byte-test texts backslash at c byte is)
+      (item-step texts R (token.Span span_kind.Sign (span_at 1 (c ∷ cs))) refl)
 
   constant-follows : (constant : Option AsciiConstant) (s : LexerState) (text : List Cell) → s.mode ≡ mode.CPart
       → Follows s.line (constant_lexeme constant s text).tokens (constant_lexeme constant s text).after.line
@@ -164,8 +130,7 @@ module _ (texts : List (List ℕ)) (R : Judgement texts) where
       (faults-step texts R _ fault.NameEquals _ refl))
 
   pub kind-follows : (kind : LexemeKind) (s : LexerState) (at : Point) (c : Cell) (cs : List Cell)
-      → s.mode ≡ mode.CPart → IsPlainKind kind → OpensLexeme kind (c ∷ cs)
-      → IsTextAt texts at (c ∷ cs)
+      → s.mode ≡ mode.CPart → IsPlainKind kind → OpensLexeme kind (c ∷ cs) → IsTextAt texts at (c ∷ cs)
       → Follows s.line (c_lexeme kind s (c ∷ cs)).tokens (c_lexeme kind s (c ∷ cs)).after.line
   kind-follows (lexeme_kind.Control code.SectionStart) s at c cs m plain o is = absurd plain
   kind-follows (lexeme_kind.Control code.Name) s at c cs m plain o is = absurd plain
@@ -174,28 +139,16 @@ module _ (texts : List (List ℕ)) (R : Judgement texts) where
       (other-byte at_sign number_sign c.byte refl o.0) (other-byte at_sign backslash c.byte refl o.0)
   kind-follows (lexeme_kind.Control code.Macro) s at c cs m plain o is = white-alone s fault.CodeInC _ m refl
   kind-follows (lexeme_kind.Control code.Format) s at c cs m plain o is = white-alone s fault.CodeInC _ m refl
-  kind-follows (lexeme_kind.Control code.UnnamedPart) s at c cs m plain o is = grind (arith, nat_tests, white-alone)
-  kind-follows (lexeme_kind.Control code.ControlText) s at c cs m plain o is =
-      search (rules, white-follows, line_ends-are, faults-step)
-  kind-follows (lexeme_kind.Control code.Verbatim) s at c cs m plain o is =
-      search (rules, verbatim-steps)
-  kind-follows (lexeme_kind.Control code.Join) s at c cs m plain o is = grind (arith, nat_tests, join-step)
-  kind-follows (lexeme_kind.Control code.AllMacros) s at c cs m plain o is =
-      search (rules, use-step)
-  kind-follows (lexeme_kind.Control code.AsciiConstant) s at c cs m plain o is = search (rules, constant-follows)
-  kind-follows (lexeme_kind.Control code.Other) s at c cs m plain o is = grind (arith, nat_tests, white-step)
-  kind-follows lexeme_kind.BlockComment s at c cs m plain o is =
-      search (rules, white-follows, line_ends-are, faults-step)
-  kind-follows lexeme_kind.LineComment s at c cs m plain o is = search (rules, white-follows, faults-step)
-  kind-follows lexeme_kind.DoubleQuote s at c cs m plain o is =
-      search (rules, quoted-steps, some-byte)
-  kind-follows lexeme_kind.Apostrophe s at c cs m plain o is =
-      search (rules, quoted-steps, some-byte)
-  kind-follows lexeme_kind.HeaderName s at c cs m plain o is =
-      search (rules, quoted-steps, some-byte)
-  kind-follows lexeme_kind.LineEnd s at c cs m plain o is = grind (arith, nat_tests, line_end-step)
+  kind-follows (lexeme_kind.Control code.UnnamedPart) s at c cs m plain o is = white-alone s fault.CodeInC _ m refl
+  kind-follows (lexeme_kind.Control code.Join) s at c cs m plain o is = join-step texts R
+  kind-follows (lexeme_kind.Control code.Other) s at c cs m plain o is = white-step texts R
+  kind-follows lexeme_kind.LineEnd s at c cs m plain o is = line_end-step texts R _
   kind-follows lexeme_kind.White s at c cs m plain o is = white-step texts R
   kind-follows lexeme_kind.Word s at c cs m plain o is = item-step texts R _ refl
   kind-follows lexeme_kind.Other s at c cs m plain o is =
       sign-follows s.line.line s.line.at_line_end at c cs (holds number_sign c.byte) (holds backslash c.byte)
       (some-byte c.byte o.0) is.0 refl refl
+  kind-follows (lexeme_kind.Control kind) s at c cs m plain o is =
+      search (rules, white-follows, line_ends-are, faults-step, verbatim-steps, use-step, constant-follows)
+  kind-follows _ s at c cs m plain o is =
+      search (rules, white-follows, line_ends-are, faults-step, quoted-steps, some-byte)

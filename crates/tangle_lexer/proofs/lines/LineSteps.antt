@@ -98,11 +98,9 @@ module _ (texts : List (List ℕ)) (R : Judgement texts) where
   grown : {l m : LineOfC} {e f : AtLineEnd} (before : List Token) (t : Token) (us : List Token)
       → IsOpen texts before l e (t ∷ us)
       → is_use t ≡ false → (is_inner_line_end t ≡ true → is_directive texts before ≡ true)
-      → kind_after texts t (kind_of texts before) ≡ settled m (join_ahead us)
-      → end_after texts t e ≡ f
+      → kind_after texts t (kind_of texts before) ≡ settled m (join_ahead us) → end_after texts t e ≡ f
       → IsOpen texts (before ++ t ∷ []) m f us
-  grown before t us is no_use inner kind end =
-      search (rules, kind-snoc, end-snoc, inner-snoc, uses-snoc)
+  grown before t us is no_use inner kind end = search (rules, kind-snoc, end-snoc, inner-snoc, uses-snoc)
 
   -- white space and faults
   pub white-step : {l : LineOfC} {e : AtLineEnd} → Steps l e (token.White ∷ []) l e
@@ -134,18 +132,13 @@ module _ (texts : List (List ℕ)) (R : Judgement texts) where
       → Steps l e (t ∷ []) (with_item (is_number_sign texts t) l) (if ends_in_backslash texts t then GoesOn else Ends)
   item-step {l} (token.Span kind s) h =
       let t : Token = token.Span kind s in
-      one-step t refl refl
-      (λ before us is. grown before t us is refl (λ h. cc)
+      one-step t refl refl (λ before us is. grown before t us is refl (λ h. cc)
       (ap (with_item (is_number_sign texts t)) is.kind ∙ item-settled (is_number_sign texts t) l (join_ahead us)) refl)
   item-step {l} (token.AsciiConstant value n) h =
-      let t : Token = token.AsciiConstant value n in
-      one-step t refl refl
-      (λ before us is. grown before t us is refl (λ h. cc)
+      one-step _ refl refl (λ before us is. grown before (token.AsciiConstant value n) us is refl (λ h. cc)
       (ap (with_item false) is.kind ∙ item-settled false l (join_ahead us)) refl)
   item-step {l} (token.QuoteBreak n) h =
-      let t : Token = token.QuoteBreak n in
-      one-step t refl refl
-      (λ before us is. grown before t us is refl (λ h. cc)
+      one-step _ refl refl (λ before us is. grown before (token.QuoteBreak n) us is refl (λ h. cc)
       (ap (with_item false) is.kind ∙ item-settled false l (join_ahead us)) refl)
   item-step _ h = cc
 
@@ -164,22 +157,14 @@ module _ (texts : List (List ℕ)) (R : Judgement texts) where
       stays : (before us : List Token) → IsOpen texts before l e (t ∷ us)
           → settled l (join_ahead us) ≡ settled (line_after_end e l) (join_ahead us)
           → Goes false before t (line_after_end e l) (at_next_line_end e) us
-      stays before us is kind =
-          grown before t us is refl (λ h. cc) (is.kind ∙ kind) refl
+      stays before us is kind = grown before t us is refl (λ h. cc) (is.kind ∙ kind) refl
 
       by : (before us : List Token) → IsOpen texts before l e (t ∷ us) → (a g j : Bool)
           → cond a Removed (cond g GoesOn Ends) ≡ e → join_ahead us ≡ j
           → Goes (not (a || g) && not j) before t (line_after_end e l) (at_next_line_end e) us
-      by before us is true g j end joins =
-          stays before us is (ap (λ x. settled (line_after_end x l) (join_ahead us)) end)
-      by before us is false true j end joins =
-          stays before us is (ap (λ x. settled (line_after_end x l) (join_ahead us)) end)
-      by before us is false false true end joins =
-          stays before us is (search rules)
-      by before us is false false false end joins = (
-        search rules,
-        inner-snoc texts before t is.inner (λ h. cc),
-      )
+      by before us is false false true end joins = stays before us is (search rules)
+      by before us is false false false end joins = (search rules, inner-snoc texts before t is.inner (λ h. cc))
+      by before us is a g j end _ = stays before us is (ap (λ x. settled (line_after_end x l) (join_ahead us)) end)
 
       goes : (before us : List Token) → IsOpen texts before l e (t ∷ us)
           → Goes (ends_line_of_c texts before t us) before t (line_after_end e l) (at_next_line_end e) us
@@ -213,7 +198,6 @@ module _ (texts : List (List ℕ)) (R : Judgement texts) where
       where
         by : (us : List Token) → begins_with_use_fault us ≡ false → Holds line.Empty Ends us
             → (before : List Token) → (b : Bool) → HasInnerEndsAsDirective texts (before ++ t ∷ [])
-            → uses_in_directive texts (before ++ t ∷ []) ≡ cond b (t ∷ []) []
-            → R.holds (t ∷ (use_fault b n ++ us))
+            → uses_in_directive texts (before ++ t ∷ []) ≡ cond b (t ∷ []) [] → R.holds (t ∷ (use_fault b n ++ us))
             ((before ++ t ∷ []) ∷ parts.lines_of_c texts [] (use_fault b n ++ us))
         by us h next before x inner uses = grind arith

@@ -1,19 +1,19 @@
 -- Which lines of C of a part have inner line ends and which uses have the fault UseInDirective, lexeme by lexeme.
+use Rattle.std.proofs.Common.{append-nil, sym}
+use Rattle.tangle_lexer.proofs.lines.OpenLines.{uses-append}
 use Rattle.std.proofs.Common.{rules}
 use Rattle.std.proofs.lemmas.Bool.Decides.{nat_tests}
 use Rattle.std.proofs.Common.{arith}
 use Rattle.std.proofs.Common.{◌≡◌, ℕ, zero, suc, Bool, true, false, List, [], ◌∷◌, ◌++◌, flat_map, length}
-use Rattle.std.proofs.Common.{Option, Some, None, refl, ap, ◌∙◌, cond, drop}
+use Rattle.std.proofs.Common.{Option, Some, None, refl, ap, ◌∙◌, cond, drop, ◌⊎◌, inl, inr}
 use Rattle.std.specs.Prelude.{filter}
-use Rattle.std.specs.List.{list_any, All}
-use Rattle.std.proofs.lemmas.Bool.{or_parts}
+use Rattle.std.specs.List.{All}
 use Rattle.std.proofs.lemmas.List.Elements.{All-cons, All-nil}
 use Rattle.tangle_lines.specs.Reading.{SourceLine}
 use Rattle.tangle_faults.specs.declared.faults.FaultKind.TheVariants as fault
 use Rattle.tangle_text.specs.Text.{Cell, text_from, texts_of}
 use Rattle.tangle_lexer.specs.declared.tokens.Token.{Token}
 use Rattle.tangle_lexer.specs.declared.tokens.Token.TheVariants as token
-use Rattle.tangle_lexer.specs.declared.lexeme_kinds.LexemeKind.{LexemeKind}
 use Rattle.tangle_lexer.specs.declared.modes.Mode.{Mode}
 use Rattle.tangle_lexer.specs.declared.modes.Mode.TheVariants as mode
 use Rattle.tangle_lexer.specs.declared.modes.LineOfC.TheVariants as line
@@ -28,7 +28,7 @@ use Rattle.tangle_lexer.specs.Steps.{c_lexeme, lexeme, lexemes, tokens_from, all
 use Rattle.tangle_lexer.specs.LinesOfParts.{is_use, is_directive, body, begins_c_part, c_parts, uses_in_directive}
 use Rattle.tangle_lexer.specs.LinesOfParts.{HasInnerEndsAsDirective, begins_with_use_fault, with_use_fault}
 use Rattle.tangle_lexer.specs.LinesOfParts as parts
-use Rattle.tangle_lexer.proofs.lemmas.LexemeCases.{OpensLexeme, IsPlainKind, lexeme-by}
+use Rattle.tangle_lexer.proofs.lemmas.LexemeCases.{lexeme-by}
 use Rattle.tangle_lexer.proofs.lemmas.PlainLexemes.{kind-plain, use-plain}
 use Rattle.tangle_lexer.proofs.lemmas.PlainTokens.{HasNone, none-by, is_not_plain}
 use Rattle.tangle_lexer.proofs.laws.Points.{Point, point_at, after_cell, IsTextAt, text-is}
@@ -42,13 +42,14 @@ no-heads = grind (arith, nat_tests, none-by)
 
 body-append : (ts us : List Token) → HasNone is_head ts → body (ts ++ us) ≡ ts ++ body us
 body-append [] us h = refl
-body-append (t ∷ ts) us h =
-    grind (arith, nat_tests, body-append ts us)
+body-append (t ∷ ts) us h = grind (arith, nat_tests, body-append ts us)
 
 c_parts-append : (ts us : List Token) → HasNone is_head ts → c_parts (ts ++ us) ≡ c_parts us
 c_parts-append [] us h = refl
-c_parts-append (t ∷ ts) us h =
-    grind (arith, nat_tests, c_parts-append ts us)
+c_parts-append (t ∷ ts) us h = grind (arith, nat_tests, c_parts-append ts us)
+
+pub c_text-modes : (m : Mode) → is_c_text m ≡ true → (m ≡ mode.CPart) ⊎ (m ≡ mode.Macro)
+c_text-modes m h = search rules
 
 pub no-part : (m : Mode) → is_c_text m ≡ false → is_c_part m ≡ false
 no-part m h = grind arith
@@ -90,15 +91,10 @@ module _ (texts : List (List ℕ)) where
   unfolding are-right
   ended l e before is = record {
     inner = All-cons (HasInnerEndsAsDirective texts) before [] is.inner (All-nil (HasInnerEndsAsDirective texts));
-    uses = by (is_directive texts before) (none before is.uses);
+    uses = by (is_directive texts before)
+        (ap (filter is_use) (sym (append-nil before)) ∙ uses-append before [] is.uses);
   }
     where
-      none : (ts : List Token) → list_any is_use ts ≡ false → filter is_use ts ≡ []
-      none [] h = search rules
-      none (t ∷ ts) h =
-          let both = or_parts (is_use t) (list_any is_use ts) h in
-          ap (λ b. cond b (t ∷ filter is_use ts) (filter is_use ts)) both.0 ∙ none ts both.1
-
       by : (b : Bool) → filter is_use before ≡ [] → [] ≡ cond b (filter is_use before) [] ++ []
       by x h = search rules
 
@@ -122,27 +118,10 @@ module _ (texts : List (List ℕ)) where
       → Follows texts are-right s.line here.tokens here.after.line → Law s here
   inside-law s here m none follows ts right = search (rules, body-append, c_parts-append)
 
-  inside-by : (m : Mode) (s : LexerState) (at : Point) (c : Cell) (cs : List Cell) (kind : LexemeKind)
-      → s.mode ≡ m → is_c_text m ≡ true → IsPlainKind kind → OpensLexeme kind (c ∷ cs)
-      → IsTextAt texts at (c ∷ cs) → Law s (c_lexeme kind s (c ∷ cs))
-  inside-by mode.CPart s at c cs kind m within p o is =
-      let plain = kind-plain kind s (c ∷ cs) p in
-      inside-law s (c_lexeme kind s (c ∷ cs)) (plain.mode ∙ m)
-      (no-heads (c_lexeme kind s (c ∷ cs)).tokens plain.tokens.none)
-      (kind-follows texts are-right kind s at c cs m p o is)
-  inside-by mode.Macro s at c cs kind m within p o is =
-      let plain = kind-plain kind s (c ∷ cs) p in
-      outside-law s (c_lexeme kind s (c ∷ cs)) (ap is_c_part m)
-      (no-heads (c_lexeme kind s (c ∷ cs)).tokens plain.tokens.none)
-  inside-by mode.Limbo s at c cs kind m within p o is = cc
-  inside-by mode.Documentation s at c cs kind m within p o is = cc
-
   name-law : (o : Option ℕ) (s : LexerState) (text : List Cell) → is_c_part s.mode ≡ false
       → Law s (definition_or_mention o s text)
-  name-law None s text out =
-      search rules
-  name-law (Some k) s text out =
-      search (rules, part-law)
+  name-law None s text out = search rules
+  name-law (Some k) s text out = search (rules, part-law)
 
   lexeme-law : (s : LexerState) (at : Point) (c : Cell) (cs : List Cell)
       → IsTextAt texts at (c ∷ cs) → Law s (lexeme s (c ∷ cs))
@@ -160,11 +139,19 @@ module _ (texts : List (List ℕ)) where
         skip = λ out n. outside-law s (lexeme_of [] n s) (no-part s.mode out) refl;
         format = λ m. outside-law s (lexeme_of [] 1 (in_mode mode.Documentation s)) (ap is_c_part m) refl;
         misplaced = λ m o. outside-law s (code_fault fault.MisplacedH s text) (ap is_c_part m) refl;
-        inside = λ within kind p o. inside-by s.mode s at c cs kind refl within p o is;
+        inside = λ within kind p o. elim (c_text-modes s.mode within) [
+          | inl m ↦
+              let plain = kind-plain kind s text p in
+              inside-law s (c_lexeme kind s text) (plain.mode ∙ m)
+              (no-heads (c_lexeme kind s text).tokens plain.tokens.none)
+              (kind-follows texts are-right kind s at c cs m p o is)
+          | inr m ↦
+              outside-law s (c_lexeme kind s text) (ap is_c_part m)
+              (no-heads (c_lexeme kind s text).tokens (kind-plain kind s text p).tokens.none)
+        ];
       })
 
-  from-right : (k : ℕ) (s : LexerState) (text : List Cell) (at : Point)
-      → IsTextAt texts at text
+  from-right : (k : ℕ) (s : LexerState) (text : List Cell) (at : Point) → IsTextAt texts at text
       → AreRightFrom s (flat_map (λ l. l.tokens) (lexemes k s text))
   from-right k s [] at is = grind (arith, nat_tests, ended s.line.line s.line.at_line_end)
   from-right (suc k) s (c ∷ cs) at is = from-right k s cs (after_cell c) is.1

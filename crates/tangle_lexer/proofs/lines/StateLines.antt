@@ -11,8 +11,6 @@ use Rattle.tangle_lexer.specs.declared.tokens.Token.{Token}
 use Rattle.tangle_lexer.specs.declared.tokens.Token.TheVariants as token
 use Rattle.tangle_faults.specs.declared.faults.FaultKind.TheVariants as fault
 use Rattle.tangle_lexer.specs.declared.lexeme_kinds.ControlCode.TheVariants as code
-use Rattle.tangle_lexer.specs.declared.lexeme_kinds.LexemeKind.{LexemeKind}
-use Rattle.tangle_lexer.specs.declared.modes.Mode.{Mode}
 use Rattle.tangle_lexer.specs.declared.modes.Mode.TheVariants as mode
 use Rattle.tangle_lexer.specs.declared.modes.LineOfC.TheVariants as line
 use Rattle.tangle_lexer.specs.declared.modes.AtLineEnd.TheVariants.{Ends}
@@ -22,17 +20,17 @@ use Rattle.tangle_lexer.specs.Lexemes.{Lexeme, lexeme_of, in_mode, is_c_part, is
 use Rattle.tangle_lexer.specs.CText.{section_start, code_fault}
 use Rattle.tangle_lexer.specs.Heads.{is_head}
 use Rattle.tangle_lexer.specs.Names.{definition_or_mention, definition_count, use_of_name}
-use Rattle.tangle_lexer.specs.Simple.{is_c_text}
 use Rattle.tangle_lexer.specs.Steps.{documentation_code, limbo_code, c_lexeme, lexeme, LexemeStart, lexeme_starts, first_state}
 use Rattle.tangle_lexer.specs.LinesOfParts.{is_directive, last_line, open_line, last_body, tokens_of}
-use Rattle.tangle_lexer.proofs.lemmas.LexemeCases.{OpensLexeme, IsPlainKind, lexeme-by}
+use Rattle.tangle_lexer.proofs.lemmas.LexemeCases.{lexeme-by}
 use Rattle.tangle_lexer.proofs.lemmas.PlainLexemes.{kind-plain, use-plain}
 use Rattle.tangle_lexer.proofs.lemmas.PlainTokens.{HasNone}
 use Rattle.tangle_lexer.proofs.laws.Points.{Point, point_at, after_cell, IsTextAt, text-is}
 use Rattle.tangle_lexer.proofs.lines.OpenLines.{directive-is}
 use Rattle.tangle_lexer.proofs.lines.LineSteps.{Judgement, Steps, no-steps, steps-append, front-open}
 use Rattle.tangle_lexer.proofs.lines.KindSteps.{Follows, kind-follows, use-follows}
-use Rattle.tangle_lexer.proofs.lines.PartLines.{no-heads, no-part}
+use Rattle.tangle_lexer.proofs.lines.PartLines.{no-heads, no-part, c_text-modes}
+use Rattle.std.proofs.Common.{inl, inr}
 
 -- the tokens after the last head
 
@@ -84,17 +82,6 @@ module _ (texts : List (List ℕ)) where
   unfolding HasRead Law
   name-law o s text = search (rules, part-begins)
 
-  inside-by : (m : Mode) (s : LexerState) (at : Point) (c : Cell) (cs : List Cell) (kind : LexemeKind)
-      → s.mode ≡ m → is_c_text m ≡ true → IsPlainKind kind → OpensLexeme kind (c ∷ cs)
-      → IsTextAt texts at (c ∷ cs) → Law s (c_lexeme kind s (c ∷ cs))
-  inside-by mode.CPart s at c cs kind m within p o is =
-      let plain = kind-plain kind s (c ∷ cs) p in
-      search (rules, inside-law, no-heads, kind-follows)
-  inside-by mode.Macro s at c cs kind m within p o is =
-      search (rules, outside-law)
-  inside-by mode.Limbo s at c cs kind m within p o is = cc
-  inside-by mode.Documentation s at c cs kind m within p o is = cc
-
   lexeme-law : (s : LexerState) (at : Point) (c : Cell) (cs : List Cell)
       → IsTextAt texts at (c ∷ cs) → Law s (lexeme s (c ∷ cs))
   unfolding HasRead Law
@@ -113,7 +100,13 @@ module _ (texts : List (List ℕ)) where
         skip = λ out n. outside-law s (lexeme_of [] n s) (no-part s.mode out);
         format = λ m. outside-law s (lexeme_of [] 1 (in_mode mode.Documentation s)) refl;
         misplaced = λ m o. outside-law s (code_fault fault.MisplacedH s text) (ap is_c_part m);
-        inside = λ within kind p o. inside-by s.mode s at c cs kind refl within p o is;
+        inside = λ within kind p o. elim (c_text-modes s.mode within) [
+          | inl m ↦
+              inside-law s (c_lexeme kind s text) m
+              (no-heads (c_lexeme kind s text).tokens (kind-plain kind s text p).tokens.none)
+              (λ b. kind-follows texts (last-is b) kind s at c cs m p o is)
+          | inr m ↦ outside-law s (c_lexeme kind s text) (ap is_c_part ((kind-plain kind s text p).mode ∙ m))
+        ];
       })
 
   Knows : List Token → LexemeStart → Type 0
@@ -136,8 +129,7 @@ module _ (texts : List (List ℕ)) where
   KnowsAll ts (here ∷ starts) = Knows ts here × KnowsAll (ts ++ (lexeme here.state here.text).tokens) starts
 
   all-known : (k : ℕ) (s : LexerState) (text : List Cell) (at : Point) (ts : List Token)
-      → IsTextAt texts at text → HasRead ts s
-      → KnowsAll ts (lexeme_starts k s text)
+      → IsTextAt texts at text → HasRead ts s → KnowsAll ts (lexeme_starts k s text)
   unfolding KnowsAll Law
   all-known k s [] at ts is read = tt
   all-known (suc k) s (c ∷ cs) at ts is read = all-known k s cs (after_cell c) ts is.1 read
@@ -152,14 +144,12 @@ module _ (texts : List (List ℕ)) where
       → KnowsAll ts (before ++ here ∷ after) → Knows (ts ++ tokens_of before) here
   unfolding KnowsAll
   known-at [] after here ts all = subst (λ us. Knows us here) (sym (append-nil ts)) all.0
-  known-at (b ∷ before) after here ts all =
-      grind (arith, nat_tests, append_assoc ts, known-at before after here)
+  known-at (b ∷ before) after here ts all = grind (arith, nat_tests, append_assoc ts, known-at before after here)
 
 -- the lexemes of a source
 pub directives-known : (lines : List SourceLine) (before after : List LexemeStart) (here : LexemeStart)
     → lexeme_starts 0 (first_state (length lines)) (text_from 0 lines) ≡ before ++ here ∷ after
-    → here.state.mode ≡ mode.CPart
-    → is_in_directive here.state
+    → here.state.mode ≡ mode.CPart → is_in_directive here.state
     ≡ is_directive (texts_of lines) (open_line (texts_of lines) (last_body (tokens_of before)))
 unfolding HasRead Knows
 directives-known lines before after here split =

@@ -1,7 +1,6 @@
 -- Texts that are cut are items of the open line of C: quoted texts, and verbatim texts, which may end in a backslash.
 use Rattle.std.proofs.Common.{◌≡◌, ℕ, zero, suc, ◌+◌, ◌-◌, ◌<◌, ◌≤◌, Bool, true, false, List, [], ◌∷◌, ◌++◌, ◌==◌, ◌⊎◌}
 use Rattle.std.proofs.Common.{inl, inr, refl, ap, sym, ◌∙◌, arith, subst, cond, if◌then◌else◌}
-use Rattle.std.specs.Prelude.{nat_lt}
 use Rattle.std.proofs.lemmas.Bool.Decides.{nat_tests, eqb_tells}
 use Rattle.tangle_faults.specs.declared.faults.FaultKind.TheVariants as fault
 use Rattle.tangle_text.specs.declared.regions.Region.{Region}
@@ -23,9 +22,6 @@ use Rattle.tangle_lexer.proofs.laws.CutTexts.{IsCut, cut-by}
 use Rattle.tangle_lexer.proofs.laws.Points.{Point, point_at, source_byte, IsByte, IsCellAt, IsTextAt, text-next}
 use Rattle.tangle_lexer.proofs.laws.RegionOrder.{other-byte}
 use Rattle.tangle_lexer.proofs.lines.LineSteps.{Judgement, Steps, steps-append, fault-step, faults-step, item-step}
-
-less : (a b : ℕ) → a < b → nat_lt a b ≡ true
-less a b h = grind (arith, nat_tests)
 
 -- a range that is not empty
 range-is : (r : Region) (l start end : ℕ) → start < end
@@ -96,12 +92,10 @@ module _ (texts : List (List ℕ)) (R : Judgement texts) where
         steps-append texts R (cut_range r c.line start c.column) faults
         (elim (eqb_tells start at.column) [
           | inl all ↦
-              rw (range-none r c.line start c.column (omega arith))
-              (grind arith)
+              rw (range-none r c.line start c.column (omega arith)) (grind arith)
           | inr some ↦
               let more : start < at.column = omega arith in
-              range-step x f c.line start c.column last same (omega arith)
-              (rw (is.line, is.column) (back more))
+              range-step x f c.line start c.column last same (omega arith) (rw (is.line, is.column) (back more))
         ])
         (fault (ending last))
 
@@ -147,24 +141,19 @@ module _ (texts : List (List ℕ)) (R : Judgement texts) where
       (l : LineOfC) (e : AtLineEnd) where
     quoted-item : (s : Span) (x : LineOfC) (f : AtLineEnd)
         → Steps texts R x f (range_token r s ∷ []) (with_item false x) Ends
-    quoted-item s x f =
-        subst (λ t. Steps texts R x f (t ∷ []) (with_item false x) Ends) (sym (quoted s))
-        (item-step texts R (token.Span span_kind.Quoted s) refl)
+    quoted-item s x f = rw (quoted s) (item-step texts R (token.Span span_kind.Quoted s) refl)
 
     quoted-stop : (close last : ℕ) (at : Point) (start : ℕ) (text : List Cell)
         → start ≤ at.column → IsTextAt texts at text
         → IsCutFrom r cut (λ b. Ends) refl quoted-item l at start (quote_end r close last start text) 0 text
     unfolding IsCutFrom
-    quoted-stop close last at start [] h is x f before same back done =
-        grind (arith, nat_tests, fault-step)
+    quoted-stop close last at start [] h is x f before same back done = grind (arith, nat_tests, fault-step)
     quoted-stop close last at start (c ∷ cs) h is x f before same back done = by (holds close c.byte)
       where
-        by : (b : Bool) → Steps texts R x f
-            (cond b (cut_range r c.line start (c.column + 1))
+        by : (b : Bool) → Steps texts R x f (cond b (cut_range r c.line start (c.column + 1))
             (cut_range r c.line start c.column ++ token.Fault fault.StringEnd c.line ∷ [])) (with_item false l) Ends
         by true =
-            range-step r cut (λ b. Ends) refl quoted-item l x f c.line start (c.column + 1) _ same
-            (omega arith) refl
+            range-step r cut (λ b. Ends) refl quoted-item l x f c.line start (c.column + 1) _ same (omega arith) refl
         by false =
             stop-step r cut (λ b. Ends) refl quoted-item l at start c cs
             (token.Fault fault.StringEnd c.line ∷ []) h is.0

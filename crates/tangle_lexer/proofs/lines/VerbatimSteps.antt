@@ -30,23 +30,10 @@ use Rattle.tangle_lexer.proofs.lines.TextSteps.{end_by, last_cell, IsCutFrom, st
 units-last : (text : List Cell) (last : Bool)
     → last_is_backslash last (units region.Verbatim text) ≡ last_cell last (count_before region.Verbatim text) text
 units-last =
-    units-by region.Verbatim (λ n text. (last : Bool)
-    → last_is_backslash last (units region.Verbatim text) ≡ last_cell last n text)
-    stop (λ last. refl) one two (λ c e. absurd (let never : false ≡ true = (grind arith) in cc))
-  where
-    stop : (text : List Cell) → unit_at region.Verbatim text ≡ unit.Stop → (last : Bool)
-        → last_is_backslash last (units region.Verbatim text) ≡ last
-    stop x e last = search rules
-
-    one : (n : ℕ) (c : Cell) (cs : List Cell) → unit_at region.Verbatim (c ∷ cs) ≡ unit.One
-        → ((last : Bool) → last_is_backslash last (units region.Verbatim cs) ≡ last_cell last n cs) → (last : Bool)
-        → last_is_backslash last (units region.Verbatim (c ∷ cs)) ≡ last_cell (holds backslash c.byte) n cs
-    one n c x e next last = search rules
-
-    two : (n : ℕ) (c d : Cell) (cs : List Cell) → unit_at region.Verbatim (c ∷ d ∷ cs) ≡ unit.Two
-        → ((last : Bool) → last_is_backslash last (units region.Verbatim cs) ≡ last_cell last n cs) → (last : Bool)
-        → last_is_backslash last (units region.Verbatim (c ∷ d ∷ cs)) ≡ last_cell (holds backslash d.byte) n cs
-    two n c d cs e next last = search rules
+    units-by region.Verbatim
+    (λ n text. (last : Bool) → last_is_backslash last (units region.Verbatim text) ≡ last_cell last n text)
+    (search rules) (λ last. refl) (search rules) (search rules)
+    (λ c e. absurd (let never : false ≡ true = (grind arith) in cc))
 
 module _ (texts : List (List ℕ)) (R : Judgement texts) (l : LineOfC) where
   abbrev m : LineOfC

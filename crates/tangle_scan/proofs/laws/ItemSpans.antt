@@ -52,5 +52,4 @@ items_by_origin-spans lines before at counted (e ∷ es) =
 -- the items of a C part have the spans of its tokens
 pub part-spans : (lines : List SourceLine) (line : ℕ) (es : List Token)
     → item_spans (part_items lines line es) ≡ token_spans es
-part-spans lines line es =
-    search (rules, part_items-by_origin, items_by_origin-spans, alike-spans, part-kept)
+part-spans lines line es = search (rules, part_items-by_origin, items_by_origin-spans, alike-spans, part-kept)

@@ -29,8 +29,8 @@ use Rattle.tangle_scan.specs.declared.items.Item.TheVariants as item
 use Rattle.tangle_scan.specs.declared.turns.Turn.{Turn}
 use Rattle.tangle_scan.specs.declared.turns.Turn.TheVariants as turn
 use Rattle.tangle_scan.specs.Rules.{is_front_gap, same_origin}
-use Rattle.tangle_scan.specs.Directives.{ForEachChoice, SameRegion, GroupBegins, GroupTurns, border_after, goes_on, is_blank}
-use Rattle.tangle_scan.specs.Directives.{is_turn, begins_group, item_ends_in}
+use Rattle.tangle_scan.specs.Directives.{ForEachChoice, border_after, goes_on, is_blank}
+use Rattle.tangle_scan.specs.Directives.{is_turn, item_ends_in}
 use Rattle.tangle_scan.proofs.lemmas.RuleLemmas.{blanks-item}
 
 -- leaving out faults, or adding the white space of rule 1, does not change the lines
@@ -76,13 +76,11 @@ inner-spaced : (texts : List (List ℕ)) (es : List Token)
     → with_spaces texts (map white_inner_end es) ≡ map white_inner_end (with_spaces texts es)
 inner-spaced texts [] = refl
 inner-spaced texts (e ∷ []) = refl
-inner-spaced texts (e ∷ f ∷ es) =
-    grind (arith, inner-spaces (would_merge texts e f), inner-spaced texts (f ∷ es))
+inner-spaced texts (e ∷ f ∷ es) = grind (arith, inner-spaces (would_merge texts e f), inner-spaced texts (f ∷ es))
 
 inner-join : (run : List Token) → has_join (map white_inner_end run) ≡ has_join run
 inner-join [] = refl
 inner-join (token.Join ∷ run) = refl
-inner-join (token.InnerLineEnd line ∷ run) = inner-join run
 inner-join (_ ∷ run) = inner-join run
 
 -- all tokens of a run are joins, white space and line ends
@@ -102,8 +100,6 @@ line_after_tokens-same : (line : ℕ) (run : List Token)
 line_after_tokens-same line [] g h = refl
 line_after_tokens-same line (token.Join ∷ run) g h = line_after_tokens-same line run g h
 line_after_tokens-same line (token.White ∷ run) g h = line_after_tokens-same line run g h
-line_after_tokens-same line (token.LineEnd at ∷ run) g h = cc
-line_after_tokens-same line (token.InnerLineEnd at ∷ run) g h = cc
 line_after_tokens-same line (_ ∷ run) g h = cc
 
 by_line-after : (texts : List (List ℕ)) (line : ℕ) (run es : List Token)
@@ -115,10 +111,7 @@ by_line-after texts line (e ∷ run) es h = by_line-after texts (line_past line 
 after-least : (line : ℕ) (run : List Token) → AreGaps run → line ≤ line_after_tokens line run
 after-least line [] g = omega arith
 after-least line (token.Join ∷ run) g = after-least line run g
-after-least line (token.White ∷ run) g = after-least line run g
-after-least line (token.LineEnd at ∷ run) g = omega (arith, after-least (line + 1) run g)
-after-least line (token.InnerLineEnd at ∷ run) g = omega (arith, after-least (line + 1) run g)
-after-least line (_ ∷ run) g = absurd cc
+after-least line (e ∷ run) g = grind (arith, after-least (line_past line e) run)
 
 goes-snoc : (texts : List (List ℕ)) (xs : List Item) (x : Item) → goes_on texts (xs ++ x ∷ [])
     ≡ (if is_blank x then goes_on texts xs else item_ends_in backslash texts x)
@@ -129,13 +122,7 @@ goes-snoc texts (y ∷ ys) x = grind (arith, nat_tests, list_all-append is_blank
 each : (texts : List (List ℕ)) (line : List Item) (read : Bool) (P : Bool → Type 0)
     → ((now : Bool) → (is_turn texts line ≡ false → now ≡ true → read ≡ true) → P now)
     → ForEachChoice (border_after texts line) read P
-each texts line read P h = by (is_turn texts line) refl (begins_group texts line)
-  where
-    by : (t : Bool) → is_turn texts line ≡ t → (g : Bool)
-        → ForEachChoice (if t then GroupTurns else if g then GroupBegins else SameRegion) read P
-    by true e g = λ now. h now (λ f. cc)
-    by false e true = λ now allowed. h now (λ f. allowed)
-    by false e false = h read (λ f same. same)
+each texts line read P h = grind (arith, nat_tests)
 
 module _ (lines : List SourceLine) where
   abbrev texts : List (List ℕ)
@@ -184,17 +171,11 @@ module _ (lines : List SourceLine) where
 
   expected-is : (counted : Origin) (n number : ℕ) → n ≡ number → number + 1 < length lines
       → is_expected lines counted n ≡ true → next_line counted ≡ origin_at lines (number + 1)
-  expected-is counted n number same real is =
-      grind (arith, nat_tests, same-is, not-last n number same real)
+  expected-is counted n number same real is = grind (arith, nat_tests, same-is, not-last n number same real)
 
   after-is : (counted : Origin) (n number : ℕ) → n ≡ number → number + 1 < length lines
       → (if is_expected lines counted n then next_line counted else origin_at lines (n + 1)) ≡ origin_at lines (number + 1)
-  after-is counted n number same real = by (is_expected lines counted n) refl
-    where
-      by : (b : Bool) → is_expected lines counted n ≡ b
-          → (if b then next_line counted else origin_at lines (n + 1)) ≡ origin_at lines (number + 1)
-      by true is = expected-is counted n number same real is
-      by false is = ap (λ k. origin_at lines (k + 1)) same
+  after-is counted n number same real = grind (arith, nat_tests, expected-is)
 
   -- a source item
   own : (counted : Origin) (stretch : Bool) (number at : ℕ) (read : Bool) (origin : Option Origin) (x : Item)
@@ -218,10 +199,6 @@ module _ (lines : List SourceLine) where
       → Inv before at counted stretch number read origin line → AreClean texts number (e ∷ es)
       → AreAtTheirLines lines read origin line (items_by_origin lines before at counted (e ∷ blanks texts (Some e) false fs))
       (locations lines before counted stretch (e ∷ gs))
-  item-true token.Join es fs gs gap next before at counted stretch number read origin line h ordered = cc
-  item-true token.White es fs gs gap next before at counted stretch number read origin line h ordered = cc
-  item-true (token.LineEnd n) es fs gs gap next before at counted stretch number read origin line h ordered = cc
-  item-true (token.InnerLineEnd n) es fs gs gap next before at counted stretch number read origin line h ordered = cc
   item-true (token.QuoteBreak n) es fs gs gap next before at counted stretch number read origin line h ordered =
       search (rules, expected-is, not-out, turn-snoc, goes-snoc)
   item-true (token.UseOf n occurrence) es fs gs gap next before at counted stretch number read origin line h ordered =
@@ -232,23 +209,15 @@ module _ (lines : List SourceLine) where
     own counted stretch number s.line read origin (item.Word s) ordered.0.0 (rw (← ordered.0.0) ordered.0.1.line) h.counts h.obeys,
     search (rules, turn-snoc, goes-snoc),
   )
-  item-true (token.Span span_kind.Sign s) es fs gs gap next before at counted stretch number read origin line h ordered = (
-    own counted stretch number s.line read origin (item.Sign s) ordered.0.0 (rw (← ordered.0.0) ordered.0.1.line) h.counts h.obeys,
-    search (rules, turn-snoc, goes-snoc),
-  )
-  item-true (token.Span span_kind.Quoted s) es fs gs gap next before at counted stretch number read origin line h ordered = (
-    own counted stretch number s.line read origin (item.Quoted s) ordered.0.0 (rw (← ordered.0.0) ordered.0.1.line) h.counts h.obeys,
-    search (rules, turn-snoc, goes-snoc),
-  )
-  item-true (token.Span span_kind.Verbatim s) es fs gs gap next before at counted stretch number read origin line h ordered = (
-    own counted stretch number s.line read origin (item.Verbatim s) ordered.0.0 (rw (← ordered.0.0) ordered.0.1.line) h.counts h.obeys,
+  item-true (token.Span kind s) es fs gs gap next before at counted stretch number read origin line h ordered = (
+    own counted stretch number s.line read origin _ ordered.0.0 (rw (← ordered.0.0) ordered.0.1.line) h.counts h.obeys,
     search (rules, turn-snoc, goes-snoc),
   )
   item-true (token.AsciiConstant b n) es fs gs gap next before at counted stretch number read origin line h ordered = (
     own counted stretch number n read origin (item.AsciiConstant b) ordered.0.0 ordered.0.1 h.counts h.obeys,
     search (rules, turn-snoc, goes-snoc),
   )
-  item-true e es fs gs gap next before at counted stretch number read origin line h ordered = absurd ordered.0
+  item-true e es fs gs gap next before at counted stretch number read origin line h ordered = grind (arith, ordered.0)
 
   solid-item : (e : Token) → is_gap e ≡ false → is_front_gap e ≡ false
   solid-item e gap = grind arith

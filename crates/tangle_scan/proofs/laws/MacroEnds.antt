@@ -7,7 +7,6 @@ use Rattle.std.proofs.Common.{Option, Some, None}
 use Rattle.std.specs.List.{last_or}
 use Rattle.std.specs.Option.{IfSome}
 use Rattle.tangle_lexer.specs.declared.tokens.Token.{Token}
-use Rattle.tangle_lexer.specs.declared.tokens.Token.TheVariants as token
 use Rattle.tangle_scan.specs.declared.items.Item.{Item}
 use Rattle.tangle_scan.specs.Rules.{next_item, macro_blanks, unmarked_items}
 use Rattle.tangle_scan.specs.MacroBytes.{without_end}
@@ -17,10 +16,6 @@ module _ (texts : List (List ℕ)) where
   -- The items that rule 3 makes of the tokens of a macro. The arguments before the tokens are those of the rule.
   abbrev pub items_from : Bool → Option Token → Bool → List Token → List Item
   items_from in_name before white es = unmarked_items (macro_blanks texts in_name before white es)
-
-  -- white space, if the flag says so
-  abbrev white_if : Bool → List Token
-  white_if blank = if blank then token.White ∷ [] else []
 
   -- none of the items is written
   abbrev AreDropped : List Token → Type 0
@@ -46,16 +41,10 @@ module _ (texts : List (List ℕ)) where
         → written_tokens texts es ≡ f ∷ fs → next_item es ≡ next_item (f ∷ fs) → AreWritten es (f ∷ fs)
         → Written es
 
-  -- the items of a token, and of a blank before it, and then those of others
-
-  -- items before items none of which is written
-
   -- items before items of which some are written
   more-items : (ps xs ys : List Item) → IsWritten xs ys → IsWritten (ps ++ xs) (ps ++ ys)
   more-items [] xs ys h = h
   more-items (p ∷ ps) xs ys h = grind (arith, nat_tests, more-items ps xs ys h)
-
-  -- a token that is written, before tokens that are all dropped
 
   -- a token before tokens of which some are written
   written-before : (e : Token) (es fs : List Token)
@@ -68,8 +57,7 @@ module _ (texts : List (List ℕ)) where
     where
       last : AreDropped es → (b : Bool) → is_dropped_token texts e ≡ b → written_tokens texts es ≡ [] → Written (e ∷ es)
       last dropped true is none = search rules
-      last dropped false is none =
-          SomeTokens e [] (rw (none, is) refl) (grind arith) (grind arith)
+      last dropped false is none = SomeTokens e [] (rw (none, is) refl) (grind arith) (grind arith)
 
       by : Written es → Written (e ∷ es)
       by (NoToken none dropped) = grind (arith, nat_tests, last dropped (is_dropped_token texts e) refl none)

@@ -10,8 +10,8 @@ use Rattle.tangle_lexer.specs.declared.tokens.Token.TheVariants as token
 use Rattle.tangle_scan.specs.Rules.{next_item, has_blank_at_line_end, is_name_part, macro_blanks, unmarked_items}
 use Rattle.tangle_scan.specs.Rules.{is_front_gap, is_continued}
 use Rattle.tangle_scan.specs.MacroBytes.{macro_item_bytes, macro_bytes}
-use Rattle.tangle_scan.specs.ReadAsMeant.{Gap, Space, TakenOut, gap_bytes, as_read, is_empty, without_spaces, IsReadAs}
-use Rattle.tangle_scan.specs.ReadAsMeant.{needs_white, written_tokens, token_bytes, AreReadAsMeant}
+use Rattle.tangle_scan.specs.ReadAsMeant.{Gap, Space, TakenOut, gap_bytes, as_read, is_empty, without_spaces}
+use Rattle.tangle_scan.specs.ReadAsMeant.{written_tokens, token_bytes, AreReadAsMeant}
 use Rattle.tangle_scan.specs.ReadAsMeant.{EndsMacro, IsMacroReadAsMeant}
 use Rattle.tangle_scan.proofs.laws.MacroEnds.{items_from, end-items, EndsInItem, ends-before, written-ends}
 use Rattle.tangle_scan.proofs.laws.GapReading.{read-append, spaces-append, bytes-append}
@@ -28,16 +28,6 @@ module _ (texts : List (List ℕ)) where
 
   abbrev bytes_in_gap : List Gap → List ℕ
   bytes_in_gap gap = gap_bytes (λ origin. []) gap
-
-  text-blank : (blank : Bool) (es : List Token) →
-      flat_map (macro_item_bytes texts) (unmarked_items ((if blank then token.White ∷ [] else []) ++ es))
-      ≡ bytes_in_gap (blank_before blank []) ++ flat_map (macro_item_bytes texts) (unmarked_items es)
-  text-blank x es = grind arith
-
-  item-text : (e : Token) (es : List Token) → is_front_gap e ≡ false
-      → flat_map (macro_item_bytes texts) (unmarked_items (e ∷ es))
-      ≡ bytes_of e ++ flat_map (macro_item_bytes texts) (unmarked_items es)
-  item-text x es item = grind arith
 
   -- the bytes of an item, and of a blank before it
   text-item : (in_name : Bool) (before : Option Token) (white : Bool) (e : Token) (es : List Token)
@@ -95,29 +85,20 @@ module _ (texts : List (List ℕ)) where
 
       after : (gap : List Gap) → IsGap in_name before gap es → AreRead in_name (meant ++ space ∷ []) before es
           (bytes_in_gap gap ++ (text_from false None false es ++ line_feed ∷ []))
-      after gap is =
-          search (rules, more-spaces, ends-before)
+      after gap is = search (rules, more-spaces, ends-before)
 
       by : (blank : Bool) → has_blank_at_line_end texts in_name before (next_item es) ≡ blank →
           AreRead in_name (meant ++ space ∷ []) before es (line_text blank ++ line_feed ∷ [])
       by true is = grind (arith, nat_tests, after (Space ∷ TakenOut ∷ []) (refl, inl refl))
       by false is = grind (arith, nat_tests, after (TakenOut ∷ []) (refl, inr is))
 
-  -- the bytes before an item that is on the line of the last one
-  gap-on_line : (in_name white : Bool) (meant : List ℕ) (before : Option Token) (e : Token) → AreSpaces meant white
-      → IsReadAs meant (as_read (is_continued texts before) (blank_before (is_some before && white) []))
-      (needs_white texts in_name meant before e)
-  gap-on_line in_name white meant before e are = grind (arith, nat_tests)
-
   reads-on_line : (e : Token) (es : List Token) → is_front_gap e ≡ false → ReadsOnLine es → ReadsOnLine (e ∷ es)
-  reads-on_line e es item next in_name white meant before are ends =
-      search (rules, text-item, append_assoc)
+  reads-on_line e es item next in_name white meant before are ends = search (rules, text-item, append_assoc)
 
   reads-after_line_ends : (e : Token) (es : List Token)
       → is_front_gap e ≡ false → next_item (e ∷ es) ≡ Some e → ReadsOnLine es
       → ReadsAfterLineEnds (e ∷ es)
-  reads-after_line_ends e es item first next in_name white meant before gap are is ends =
-      search (rules, append_assoc)
+  reads-after_line_ends e es item first next in_name white meant before gap are is ends = search (rules, append_assoc)
 
   -- one more line end after line ends
   reads-more_line_ends : (line : ℕ) (es : List Token)
@@ -129,8 +110,7 @@ module _ (texts : List (List ℕ)) where
       (ends-before texts (token.LineEnd line) es (Some token.White) refl ends))
     where
       all : as_read (is_continued texts before) (gap ++ TakenOut ∷ []) ≡ as_read (is_continued texts before) gap
-      all =
-          search (rules, read-append)
+      all = search (rules, read-append)
 
   reads : (es : List Token) → Reads es
   reads [] = grind (arith, nat_tests)

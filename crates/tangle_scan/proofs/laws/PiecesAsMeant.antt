@@ -49,11 +49,6 @@ module _ (lines : List SourceLine) (used : ℕ → List ℕ) (mark : Origin → 
   abbrev blank_bytes : Bool → List ℕ
   blank_bytes blank = gap_bytes mark (blank_before blank [])
 
-  text-blank : (before : Option Token) (at : Turn) (counted : Origin) (blank : Bool) (es : List Token) →
-      flat_map item_bytes (items_by_origin lines before at counted ((if blank then token.White ∷ [] else []) ++ es))
-      ≡ blank_bytes blank ++ flat_map item_bytes (items_by_origin lines before at counted es)
-  text-blank before at counted x es = grind arith
-
   item-text : (before : Option Token) (at : Turn) (counted : Origin) (e : Token) (es : List Token)
       → is_front_gap e ≡ false →
       flat_map item_bytes (items_by_origin lines before at counted (e ∷ es))
@@ -104,8 +99,7 @@ module _ (lines : List SourceLine) (used : ℕ → List ℕ) (mark : Origin → 
       → IsGap meant white last before gap → ((after : Bool) → as_read after more ≡ []) → (f : Token)
       → IsReadAs meant (read_since last (gap ++ blank_before (is_some before && white) more))
       (needs_white texts false meant last f)
-  blanked meant white last before gap more is none f =
-      search (rules, read-append, spaces-append)
+  blanked meant white last before gap more is none f = search (rules, read-append, spaces-append)
 
   -- The items of the tokens that follow are read as meant.
 
@@ -201,8 +195,7 @@ module _ (lines : List SourceLine) (used : ℕ → List ℕ) (mark : Origin → 
       -- the bytes of the gap with the blank and more, before other bytes
       gap-bytes : (more : List Gap) → gap_bytes mark (gap ++ blank_before blank more)
           ≡ gap_bytes mark gap ++ (blank_bytes blank ++ gap_bytes mark more)
-      gap-bytes more =
-          search (rules, bytes-append)
+      gap-bytes more = search (rules, bytes-append)
 
       -- the case in which the compiler reads the item
       kept : (fs : List Token) → AreRead [] (Some e) fs rest →

@@ -1,8 +1,10 @@
 -- The spans of the pieces and those of the macros are in the order of the source. `texts` are the bytes of the source
 -- lines.
+use Rattle.std.proofs.Common.{rules}
+use Rattle.std.proofs.lemmas.Bool.{cond_both}
 use Rattle.std.proofs.lemmas.Bool.Decides.{nat_tests}
-use Rattle.std.proofs.Common.{◌≡◌, ℕ, Bool, true, false, List, [], ◌∷◌, ◌++◌, flat_map, refl, sym, ◌∙◌}
-use Rattle.std.proofs.Common.{arith, subst, append-nil, Some, None, if◌then◌else◌}
+use Rattle.std.proofs.Common.{◌≡◌, ℕ, true, false, List, [], ◌∷◌, ◌++◌, flat_map, refl, sym, ◌∙◌}
+use Rattle.std.proofs.Common.{arith, subst, append-nil, None, if◌then◌else◌}
 use Rattle.std.proofs.Common.{◌+◌}
 use Rattle.std.proofs.lemmas.Grind.{flat_map-append}
 use Rattle.std.specs.List.{All}
@@ -17,7 +19,6 @@ use Rattle.tangle_lexer.specs.LinesOfParts.{body}
 use Rattle.tangle_lexer.specs.Steps.{tokens_from, all_tokens}
 use Rattle.tangle_lexer.proofs.laws.Points.{Point, point_at, text-is}
 use Rattle.tangle_lexer.proofs.laws.TokenOrder.{line_after, AreFromLine}
-use Rattle.tangle_scan.specs.declared.items.Item.{Item}
 use Rattle.tangle_scan.specs.Rules.{is_line_backslash, without_backslashes, macro_tokens, macro_blanks, unmarked_items}
 use Rattle.tangle_scan.specs.Rules.{macro_items, is_macro}
 use Rattle.tangle_scan.specs.Web.{Block, BlockKind, blocks, piece_of, kind_piece, macro_of, kind_macro}
@@ -38,8 +39,7 @@ module _ (texts : List (List ℕ)) where
   spans-from : (line : ℕ) (p : Point) (ts : List Token)
       → AreFromLine texts line ts → Lead (λ q. Unit {0}) p ts → AreFrom p (token_spans ts)
   spans-from line p [] o h = tt
-  spans-from line p (token.Span kind s ∷ ts) o h =
-      ((h.0, o.0.1), spans-from line (point_at s.line s.end) ts o.1 h.1)
+  spans-from line p (token.Span kind s ∷ ts) o h = ((h.0, o.0.1), spans-from line (point_at s.line s.end) ts o.1 h.1)
   spans-from line p (t ∷ ts) o h = spans-from (line_after line t) p ts o.1 h
 
   earlier : (p q : Point) (ss : List Span) → Precedes p q → AreFrom q ss → AreFrom p ss
@@ -67,23 +67,15 @@ module _ (texts : List (List ℕ)) where
 
   some-none : (ts : List Span) → AreSome [] ts
   some-none [] p rest h = h
-  some-none (t ∷ ts) p rest h =
-      some-none ts p rest (earlier p (point_at t.line t.end) (ts ++ rest) (grind arith) h.1)
+  some-none (t ∷ ts) p rest h = some-none ts p rest (earlier p (point_at t.line t.end) (ts ++ rest) (grind arith) h.1)
 
   backslashes-some : (es : List Token) → AreSome (token_spans (without_backslashes texts es)) (token_spans es)
   backslashes-some [] p rest h = h
   backslashes-some (token.Span kind s ∷ es) p rest h =
-      let end = point_at s.line s.end in
-      let left = backslashes-some es end rest h.1 in
-      by (is_line_backslash texts (token.Span kind s) es) (earlier p end _ (grind arith) left) (h.0, left)
-    where
-      some : List Span
-      some = token_spans (without_backslashes texts es) ++ rest
-
-      by : (b : Bool) → AreFrom p some → AreFrom p (s ∷ some)
-          → AreFrom p (token_spans ((if b then [] else token.Span kind s ∷ []) ++ without_backslashes texts es) ++ rest)
-      by true without with = without
-      by false without with = with
+      let left = backslashes-some es (point_at s.line s.end) rest h.1 in
+      cond_both (is_line_backslash texts (token.Span kind s) es) [] (token.Span kind s ∷ [])
+      (λ ts. AreFrom p (token_spans (ts ++ without_backslashes texts es) ++ rest))
+      (λ _. earlier p (point_at s.line s.end) _ (grind arith) left) (λ _. (h.0, left))
   backslashes-some (e ∷ es) p rest h = backslashes-some es p rest h
 
   unmarked-spans : (es : List Token) → item_spans (unmarked_items es) ≡ token_spans es
@@ -106,20 +98,15 @@ module _ (texts : List (List ℕ)) where
     begun : (n : ℕ) (kind : BlockKind) (es : List Token) (p : Point)
         → AreFrom p (token_spans (body es) ++ flat_map f (blocks n es))
         → AreFrom p (f (record { section = n; kind = kind; tokens = body es }) ++ flat_map f (blocks n es))
-    begun n kind es p h =
-        picks (record { section = n; kind = kind; tokens = body es }) p (flat_map f (blocks n es)) h
+    begun n kind es p h = picks (record { section = n; kind = kind; tokens = body es }) p (flat_map f (blocks n es)) h
 
     -- the spans of the tokens up to the first head, and those of the blocks after it
     blocks-from : (n : ℕ) (es : List Token) (p : Point)
         → AreFrom p (token_spans es) → AreFrom p (token_spans (body es) ++ flat_map f (blocks n es))
     blocks-from n [] p h = tt
     blocks-from n (token.Section ∷ es) p h = some-none (token_spans (body es)) p _ (blocks-from (n + 1) es p h)
-    blocks-from n (token.MacroStart line ∷ es) p h = begun n (OfMacro line) es p (blocks-from n es p h)
-    blocks-from n (token.UnnamedPart line ∷ es) p h = begun n (OfPiece None line) es p (blocks-from n es p h)
-    blocks-from n (token.NamedPart line occurrence ∷ es) p h =
-        begun n (OfPiece (Some occurrence) line) es p (blocks-from n es p h)
     blocks-from n (token.Span kind s ∷ es) p h = (h.0, blocks-from n es (point_at s.line s.end) h.1)
-    blocks-from n (_ ∷ es) p h = blocks-from n es p h
+    blocks-from n (e ∷ es) p h = search (rules, begun, blocks-from n es)
 
     some-from : (es : List Token) → AreFrom (point_at 0 0) (token_spans es)
         → AreFrom (point_at 0 0) (flat_map f (blocks 0 es))
@@ -147,15 +134,12 @@ module _ (lines : List SourceLine) where
   kept_macro-some : (kind : BlockKind) (b : Block)
       → AreSome (texts_of lines) (flat_map item_spans (kind_macro lines kind b)) (token_spans b.tokens)
   kept_macro-some (OfPiece occurrence line) b = some-none (texts_of lines) (token_spans b.tokens)
-  kept_macro-some (OfMacro line) b = by (is_macro (texts_of lines) (macro_items (texts_of lines) b.tokens))
-    where
-      items : List Item
-      items = macro_items (texts_of lines) b.tokens
-
-      by : (c : Bool) → AreSome (texts_of lines) (flat_map item_spans (if c then items ∷ [] else [])) (token_spans b.tokens)
-      by true = subst (λ ss. AreSome (texts_of lines) ss (token_spans b.tokens)) (sym (append-nil (item_spans items)))
-          (macro-some (texts_of lines) b.tokens)
-      by false = some-none (texts_of lines) (token_spans b.tokens)
+  kept_macro-some (OfMacro line) b =
+      let items = macro_items (texts_of lines) b.tokens in
+      let P : List Span → Type 0 = λ ss. AreSome (texts_of lines) ss (token_spans b.tokens) in
+      cond_both (is_macro (texts_of lines) items) (items ∷ []) [] (λ ms. P (flat_map item_spans ms))
+      (λ _. subst P (sym (append-nil (item_spans items))) (macro-some (texts_of lines) b.tokens))
+      (λ _. some-none (texts_of lines) (token_spans b.tokens))
 
   -- the spans of the pieces, and those of the macros
 

@@ -21,17 +21,15 @@ use Rattle.tangle_text.specs.Bytes.{holds, is_line_end}
 use Rattle.tangle_text.specs.Text.{Cell, byte_at, span_at}
 use Rattle.tangle_text.specs.Regions.{count_before}
 use Rattle.tangle_text.specs.Words.{word_more}
-use Rattle.tangle_lexer.specs.Lexemes.{Lexeme, lexeme_of, in_mode, fault_if}
+use Rattle.tangle_lexer.specs.Lexemes.{Lexeme, fault_if, is_c_part}
 use Rattle.tangle_lexer.specs.LinesOfC.{inner_end_in}
 use Rattle.tangle_lexer.specs.Comments.{line_ends, has_end_code, two_if}
 use Rattle.tangle_lexer.specs.Quoted.{cut_range, cut_tokens, quote_end, one_if, quoted_text}
 use Rattle.tangle_lexer.specs.Quoted.{verbatim_end, verbatim_tokens, verbatim_text}
 use Rattle.tangle_lexer.specs.declared.constants.AsciiConstant.{AsciiConstant}
 use Rattle.tangle_lexer.specs.Constants.{constant_at, constant_lexeme, ascii_constant}
-use Rattle.tangle_lexer.specs.Names.{definition_count, definition_or_mention, use_of_name, name_in_documentation}
-use Rattle.tangle_lexer.specs.CText.{section_start, code_fault}
-use Rattle.tangle_lexer.specs.Steps.{documentation_code, limbo_code, c_lexeme, lexeme, lexemes}
-use Rattle.tangle_lexer.specs.declared.modes.Mode.TheVariants as mode
+use Rattle.tangle_lexer.specs.Names.{definition_count, definition_or_mention, name_in_documentation}
+use Rattle.tangle_lexer.specs.Steps.{c_lexeme, lexeme, lexemes}
 use Rattle.tangle_lexer.specs.declared.tokens.SpanKind.TheVariants as span_kind
 use Rattle.tangle_lexer.proofs.lemmas.PlainTokens.{HasNone, none-append}
 use Rattle.tangle_lexer.proofs.lemmas.LexemeCases.{OpensLexeme, IsPlainKind, lexeme-by}
@@ -50,17 +48,11 @@ Lead P p [] = P p
 Lead P p (token.Span kind s ∷ ts) = Precedes p (point_at s.line s.start) × Lead P (point_at s.line s.end) ts
 Lead P p (_ ∷ ts) = Lead P p ts
 
-lead-append : (P : Point → Type 0) (us : List Token) (p : Point) (ts : List Token)
-    → Lead (λ q. Lead P q us) p ts → Lead P p (ts ++ us)
-lead-append P us p [] h = h
-lead-append P us p (token.Span kind s ∷ ts) h = (h.0, lead-append P us (point_at s.line s.end) ts h.1)
-lead-append P us p (_ ∷ ts) h = lead-append P us p ts h
-
-lead-weaker : (P Q : Point → Type 0) → ((p : Point) → P p → Q p)
-    → (p : Point) (ts : List Token) → Lead P p ts → Lead Q p ts
-lead-weaker P Q weaker p [] h = weaker p h
-lead-weaker P Q weaker p (token.Span kind s ∷ ts) h = (h.0, lead-weaker P Q weaker (point_at s.line s.end) ts h.1)
-lead-weaker P Q weaker p (_ ∷ ts) h = lead-weaker P Q weaker p ts h
+lead-append : (P Q : Point → Type 0) (us : List Token) → ((q : Point) → P q → Lead Q q us)
+    → (p : Point) (ts : List Token) → Lead P p ts → Lead Q p (ts ++ us)
+lead-append P Q us next p [] h = next p h
+lead-append P Q us next p (token.Span kind s ∷ ts) h = (h.0, lead-append P Q us next (point_at s.line s.end) ts h.1)
+lead-append P Q us next p (_ ∷ ts) h = lead-append P Q us next p ts h
 
 -- tokens without spans
 
@@ -88,12 +80,16 @@ inner-none b (t ∷ ts) h = grind (arith, nat_tests, inner-none b ts)
 -- a comment or a control text
 white-none : (r : Region) (text : List Cell) (inner b : Bool) (kind : FaultKind) (line : ℕ)
     → HasNone is_span (token.White ∷ map (inner_end_in inner) (line_ends r text) ++ fault_if b kind line)
-white-none r text inner b kind line =
-    search (rules, none-append, inner-none, flat-none, fault-none)
+white-none r text inner b kind line = search (rules, none-append, inner-none, flat-none, fault-none)
 
 constant-none : (o : Option AsciiConstant) (s : LexerState) (text : List Cell)
     → HasNone is_span (constant_lexeme o s text).tokens
 constant-none o s text = grind arith
+
+-- a name that is defined or mentioned
+mention-none : (o : Option ℕ) (s : LexerState) (text : List Cell) → HasNone is_span (definition_or_mention o s text).tokens
+mention-none None s text = search (rules, none-append, fault-none)
+mention-none (Some k) s text = refl
 
 -- a point is not after the first cell of a text, if there is one
 abbrev pub Reaches : List Cell → Point → Type 0
@@ -142,13 +138,11 @@ module _ (texts : List (List ℕ)) where
 
   range-leads : (r : Region) (line start end : ℕ) (P : Point → Type 0) (ts : List Token)
       → start ≤ end → LeadFrom line end P ts → LeadFrom line start P (cut_range r line start end ++ ts)
-  range-leads r line start end P ts le next p h =
-      grind (arith, nat_tests, next p, next (point_at line end))
+  range-leads r line start end P ts le next p h = grind (arith, nat_tests, next p, next (point_at line end))
 
   range-alone : (r : Region) (line start end : ℕ) (P : Point → Type 0) → start ≤ end
       → ((q : Point) → Precedes q (point_at line end) → P q) → LeadFrom line start P (cut_range r line start end)
-  range-alone r line start end P le next p h =
-      grind (arith, nat_tests, next p, next (point_at line end))
+  range-alone r line start end P le next p h = grind (arith, nat_tests, next p, next (point_at line end))
 
   fault-alone : (b : Bool) (kind : FaultKind) (line : ℕ) (P : Point → Type 0) (p : Point)
       → P p → Lead P p (fault_if b kind line)
@@ -166,17 +160,10 @@ module _ (texts : List (List ℕ)) where
       → LeadFrom at.line start (final (drop (count_before r text) text)) (cut_tokens ends r 0 start text)
   cut-leads r cut ends final stop =
       cut-by texts r cut ends Leads stop
-      (λ at start c cs ts n h is byte alone next p k.
-      fault-leads _ _ c.line (final (drop n cs)) p ts (next p (rw is.line k)))
-      (λ at start c d cs ts n h is cell byte second sign same next.
-      rw (← is.line) (range-leads r c.line start (c.column + 1) (final (drop n cs)) ts (omega (arith, is.column))
-      (λ p k. next p (rw cell.line (k.0, λ e. let le = k.1 e in omega (arith, le))))))
-      (λ at start c d cs ts n h is cell byte second other same next p k.
-      next p (rw (cell.line, is.line) k))
-      (λ at start c d cs ts n h is cell byte none other next.
-      rw (← is.line) (range-leads r c.line start (c.column + 1) (final (drop n cs)) (token.QuoteBreak c.line ∷ ts)
-      (omega (arith, is.column))
-      (λ p k. next p (omega (arith, k.0, cell.line), λ e. absurd (omega (arith, k.0, cell.line, e))))))
+      (search (rules, fault-leads))
+      (grind (arith, nat_tests, range-leads))
+      (λ at start c d cs ts n h is cell byte second other same next p k. next p (rw (cell.line, is.line) k))
+      (grind (arith, nat_tests, range-leads))
     where
       Leads : Point → ℕ → List Token → ℕ → List Cell → Type 0
       Leads at start ts n text = LeadFrom at.line start (final (drop n text)) ts
@@ -191,21 +178,7 @@ module _ (texts : List (List ℕ)) where
       → LeadFrom at.line start (quote-final close text) (quote_end r close last start text)
   quote_end-leads r close last at start [] h is p k = tt
   quote_end-leads r close last at start (c ∷ cs) h is p k =
-      by (holds close c.byte) refl
-    where
-      Final : Bool → Point → Type 0
-      Final b q = Reaches (drop (one_if b) (c ∷ cs)) q
-
-      by : (b : Bool) → holds close c.byte ≡ b
-          → Lead (Final b) p (if b then cut_range r c.line start (c.column + 1)
-          else cut_range r c.line start c.column ++ token.Fault fault.StringEnd c.line ∷ [])
-      by true e =
-          range-alone r c.line start (c.column + 1) (Final true) (omega (arith, is.0.column))
-          (λ q j. text-reaches (point_at c.line (c.column + 1)) q cs (text-next texts at c cs is (grind arith)) j)
-          p (rw is.0.line k)
-      by false e =
-          range-leads r c.line start c.column (Final false) (token.Fault fault.StringEnd c.line ∷ []) (omega (arith, is.0.column))
-          (λ q j. j) p (rw is.0.line k)
+      grind (arith, nat_tests, range-alone, text-reaches, text-next, range-leads)
 
   quoted-leads : (r : Region) → IsCut r → (close : ℕ) (s : LexerState) (at : Point) (c : Cell) (cs : List Cell)
       → IsTextAt texts at (c ∷ cs) → IsByte c.byte → Law c cs (quoted_text r close s (c ∷ cs))
@@ -268,20 +241,10 @@ module _ (texts : List (List ℕ)) where
   kind-leads (lexeme_kind.Control code.Name) s at c cs plain o is = absurd plain
   kind-leads (lexeme_kind.Control code.DoubleAt) s at c cs plain o is =
       span-leads span_kind.Sign at 1 1 c cs is (omega arith) (code-bytes code.DoubleAt (c ∷ cs) (λ e. cc) o)
-  kind-leads (lexeme_kind.Control code.ControlText) s at c cs plain o is =
-      search (rules, spanless, white-none)
   kind-leads (lexeme_kind.Control code.Verbatim) s at c cs plain o is =
       verbatim-leads s at c cs is (code-bytes code.Verbatim (c ∷ cs) (λ e. cc) o)
-  kind-leads (lexeme_kind.Control code.AllMacros) s at c cs plain o is =
-      search (rules, spanless, fault-none)
   kind-leads (lexeme_kind.Control code.AsciiConstant) s at c cs plain o is =
       spanless at c cs (ascii_constant s (c ∷ cs)) is (constant-none (constant_at (drop 1 cs)) s (c ∷ cs))
-  kind-leads (lexeme_kind.Control kind) s at c cs plain o is =
-      spanless at c cs (c_lexeme (lexeme_kind.Control kind) s (c ∷ cs)) is refl
-  kind-leads lexeme_kind.BlockComment s at c cs plain o is =
-      search (rules, spanless, white-none)
-  kind-leads lexeme_kind.LineComment s at c cs plain o is =
-      search (rules, spanless, fault-none)
   kind-leads lexeme_kind.DoubleQuote s at c cs plain o is =
       quoted-leads region.DoubleQuote double_quote-cut _ s at c cs is (some-byte c.byte o.0)
   kind-leads lexeme_kind.Apostrophe s at c cs plain o is =
@@ -295,33 +258,14 @@ module _ (texts : List (List ℕ)) where
       (subst (λ i. HoldsBytes i (c ∷ cs)) e (word-bytes c cs (some-byte c.byte o.0)))
   kind-leads lexeme_kind.Other s at c cs plain o is =
       span-leads span_kind.Sign at 1 0 c cs is (omega arith) (some-byte c.byte o.0, tt)
-  kind-leads kind s at c cs plain o is = spanless at c cs (c_lexeme kind s (c ∷ cs)) is refl
+  kind-leads kind s at c cs plain o is = search (rules, spanless, white-none, fault-none)
 
   lexeme-leads : (s : LexerState) (at : Point) (c : Cell) (cs : List Cell)
       → IsTextAt texts at (c ∷ cs) → Law c cs (lexeme s (c ∷ cs))
   lexeme-leads s at c cs is =
-      lexeme-by (Law c cs) s text (record {
-        section = none (section_start s) refl;
-        macro = λ o. none (documentation_code code.Macro s text) refl;
-        part = λ o. none (documentation_code code.UnnamedPart s text) refl;
-        used = λ m o. none (use_of_name s text) (search (rules, none-append, fault-none));
-        name = λ out. none (name_in_documentation s text) (named (definition_count text));
-        limbo = λ m b. none (limbo_code b s text) (fault-none b fault.LimboCode _);
-        skip = λ out n. none (lexeme_of [] n s) refl;
-        format = λ m. none (lexeme_of [] 1 (in_mode mode.Documentation s)) refl;
-        misplaced = λ m o. none (code_fault fault.MisplacedH s text) refl;
-        inside = λ inside kind p o. kind-leads kind s at c cs p o is;
-      })
-    where
-      text : List Cell
-      text = c ∷ cs
-
-      none : (here : Lexeme) → HasNone is_span here.tokens → Law c cs here
-      none here h = spanless at c cs here is h
-
-      named : (o : Option ℕ) → HasNone is_span (definition_or_mention o s text).tokens
-      named None = search (rules, none-append, fault-none)
-      named (Some k) = refl
+      let named : is_c_part s.mode ≡ false → Law c cs (name_in_documentation s (c ∷ cs)) =
+      λ out. spanless at c cs (name_in_documentation s (c ∷ cs)) is (mention-none (definition_count (c ∷ cs)) s (c ∷ cs)) in
+      lexeme-by (Law c cs) s (c ∷ cs) (search (rules, spanless, none-append, fault-none, kind-leads))
 
   -- all lexemes of a text
   pub lexemes-lead : (k : ℕ) (s : LexerState) (text : List Cell) (at p : Point) → IsTextAt texts at text
@@ -330,7 +274,5 @@ module _ (texts : List (List ℕ)) where
   lexemes-lead (suc k) s (c ∷ cs) at p is h = lexemes-lead k s cs (after_cell c) p is.1 h
   lexemes-lead zero s (c ∷ cs) at p is h =
       let here : Lexeme = lexeme s (c ∷ cs) in
-      lead-append (λ q. Unit {0}) (flat_map (λ l. l.tokens) (lexemes here.more here.after cs)) p here.tokens
-      (lead-weaker (Reaches (drop here.more cs)) _
-      (λ q reached. lexemes-lead here.more here.after cs (after_cell c) q is.1 reached) p here.tokens
-      (lexeme-leads s at c cs is p h))
+      lead-append (Reaches (drop here.more cs)) (λ q. Unit {0}) (flat_map (λ l. l.tokens) (lexemes here.more here.after cs))
+      (λ q. lexemes-lead here.more here.after cs (after_cell c) q is.1) p here.tokens (lexeme-leads s at c cs is p h)

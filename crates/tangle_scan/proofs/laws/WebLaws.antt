@@ -1,4 +1,5 @@
 -- The tokens of a source are in order, and the source items of a web are at their lines.
+use Rattle.std.proofs.Common.{rules}
 use Rattle.std.proofs.Common.{arith}
 use Rattle.std.proofs.lemmas.Bool.Decides.{nat_tests}
 use Rattle.std.proofs.Common.{ℕ, List, [], ◌∷◌, flat_map}
@@ -19,17 +20,13 @@ use Rattle.tangle_scan.proofs.laws.LineTruthLemmas.{part-true}
 -- the tokens of a source are in order
 pub all-in_order : (lines : List SourceLine) → AreFromLine (texts_of lines) 0 (all_tokens lines)
 unfolding tokens_from
-all-in_order lines =
-    grind (arith, nat_tests, lexemes-in_order, text-is lines)
+all-in_order lines = grind (arith, nat_tests, lexemes-in_order, text-is lines)
 
 module _ (texts : List (List ℕ)) where
   body-by_line : (line : ℕ) (es : List Token) → AreFromLine texts line es → AreByLine texts line (body es)
   body-by_line line [] ordered = tt
   body-by_line line (token.Section ∷ es) ordered = tt
-  body-by_line line (token.MacroStart at ∷ es) ordered = tt
-  body-by_line line (token.UnnamedPart at ∷ es) ordered = tt
-  body-by_line line (token.NamedPart at occurrence ∷ es) ordered = tt
-  body-by_line line (e ∷ es) ordered = (ordered.0, body-by_line (line_after line e) es ordered.1)
+  body-by_line line (e ∷ es) ordered = search (rules, body-by_line (line_after line e) es)
 
 module _ (lines : List SourceLine) where
   -- the source items of each C part are at their own lines
@@ -39,9 +36,8 @@ module _ (lines : List SourceLine) where
   parts-true n line [] ordered = tt
   parts-true n line (token.UnnamedPart at ∷ es) ordered =
       (part-true lines at (body es) (body-by_line (texts_of lines) at es ordered.1), parts-true n at es ordered.1)
-  parts-true n line (token.NamedPart at occurrence ∷ es) ordered =
-      (part-true lines at (body es) (body-by_line (texts_of lines) at es ordered.1), parts-true n at es ordered.1)
-  parts-true n line (e ∷ es) ordered = parts-true (section_after n e) (line_after line e) es ordered.1
+  parts-true n line (e ∷ es) ordered =
+      search (rules, part-true, body-by_line, parts-true (section_after n e) (line_after line e) es)
 
 -- the source items of each piece are at their own origins, outside stretches
 pub web-line-truth : (source : SourceRead) → PiecesAreAtTheirLines source (web_of source)

@@ -11,8 +11,7 @@ use Rattle.tangle_scan.specs.declared.items.Item.{Item}
 use Rattle.tangle_scan.specs.Rules.{texts_of, part_tokens, macro_tokens, without_backslashes}
 use Rattle.tangle_scan.specs.ItemBytes.{piece_item_bytes}
 use Rattle.tangle_scan.specs.MacroBytes.{macro_bytes}
-use Rattle.tangle_scan.specs.Web.{web_of, PieceRead, Block, BlockKind, blocks, piece_of, kind_piece, macro_of}
-use Rattle.tangle_scan.specs.Web.BlockKind.{OfMacro, OfPiece}
+use Rattle.tangle_scan.specs.Web.{web_of, PieceRead, Block, blocks, piece_of, macro_of}
 use Rattle.tangle_scan.specs.ReadAsMeant.{ItemsAreReadAsMeant, IsMacroReadAsMeant, IsPieceReadAsMeant}
 use Rattle.tangle_scan.proofs.laws.MacrosAsMeant.{macro-as-meant}
 use Rattle.tangle_scan.proofs.laws.PiecesAsMeant.{piece-as-meant}
@@ -46,18 +45,7 @@ module _ (lines : List SourceLine) where
         → AllZip IsPieceOf (flat_map (piece_of lines) bs)
         (flat_map (λ b. map (λ p. tokens_of_part b) (piece_of lines b)) bs)
     pieces-as-meant [] = tt
-    pieces-as-meant (b ∷ bs) = by b.kind (pieces-as-meant bs)
-      where
-        all : List PieceRead
-        all = flat_map (piece_of lines) bs
-
-        each : List (List Token)
-        each = flat_map (λ b. map (λ p. tokens_of_part b) (piece_of lines b)) bs
-
-        by : (kind : BlockKind) → AllZip IsPieceOf all each → AllZip IsPieceOf (kind_piece lines kind b ++ all)
-            (map (λ p. tokens_of_part b) (kind_piece lines kind b) ++ each)
-        by (OfMacro line) rest = rest
-        by (OfPiece occurrence line) rest = (piece-as-meant lines used mark macros line b.tokens, rest)
+    pieces-as-meant (b ∷ bs) = grind (arith, nat_tests, pieces-as-meant bs, piece-as-meant lines used mark macros)
 
 pub web-as-meant : (source : SourceRead) → ItemsAreReadAsMeant source (web_of source)
 web-as-meant source =

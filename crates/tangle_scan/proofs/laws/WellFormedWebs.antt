@@ -47,11 +47,7 @@ module _ (lines : List SourceLine) (count : ℕ) where
   below-kept : (es : List Token) → AreBelow count (kept es) → AreBelow count es
   below-kept [] h = tt
   below-kept (token.White ∷ es) h = (tt, below-kept es h)
-  below-kept (token.LineEnd line ∷ es) h = (tt, below-kept es h)
-  below-kept (token.InnerLineEnd line ∷ es) h = (tt, below-kept es h)
-  below-kept (token.Join ∷ es) h = (tt, below-kept es h)
-  below-kept (token.Fault kind line ∷ es) h = (tt, below-kept es h)
-  below-kept (e ∷ es) h = (h.0, below-kept es h.1)
+  below-kept (e ∷ es) h = search (rules, below-kept es)
 
   uses_by_origin : (before : Option Token) (at : Turn) (origin : Origin) (es : List Token)
       → AreBelow count es → AllByRecursion (IsUseBelow count) (items_by_origin lines before at origin es)

@@ -40,9 +40,7 @@ module _ (source : SourceRead) (stored : StoredBuilder) (read : WebBuilderRead) 
       → IsGathered texts (record stored { faults = stored.faults ++ token_faults source.files source.lines None tokens })
       (builder_with source read (unfolded texts tokens))
   front-stored none runs h =
-      subst (IsGathered texts (record stored { faults = stored.faults ++ token_faults source.files source.lines None tokens }))
-      (front-whole source read (unfolded texts tokens) (unfolded-no_head texts tokens none))
-      (search (rules, faults-unfolded))
+      rw (← front-whole source read (unfolded texts tokens) (unfolded-no_head texts tokens none)) (search (rules, faults-unfolded))
 
   pub section-stored : list_any is_head tokens ≡ false → All (IsRunIn texts) tokens → IsGathered texts stored read
       → IsGathered texts (record stored {
@@ -50,11 +48,7 @@ module _ (source : SourceRead) (stored : StoredBuilder) (read : WebBuilderRead) 
         faults = stored.faults ++ token_faults source.files source.lines None tokens;
       }) (builder_with source read (token.Section ∷ unfolded texts tokens))
   section-stored none runs h =
-      subst (IsGathered texts (record stored {
-        sections = stored.sections + 1;
-        faults = stored.faults ++ token_faults source.files source.lines None tokens;
-      }))
-      (section-gathered source read (unfolded texts tokens) (unfolded-no_head texts tokens none))
+      rw (← section-gathered source read (unfolded texts tokens) (unfolded-no_head texts tokens none))
       (search (rules, faults-unfolded))
 
 pub macro-stored : (source : SourceRead) (stored : StoredBuilder) (read : WebBuilderRead) (line : ℕ) (tokens : List Token)
@@ -89,17 +83,15 @@ macro-stored source stored read line tokens none h =
 zip-push : {X Y : Type 0} (P : X → Y → Type 0) (xs : List X) (ys : List Y) (x : X) (y : Y)
     → AllZip P xs ys → P x y → AllZip P (xs ++ x ∷ []) (ys ++ y ∷ [])
 zip-push P [] [] x y h k = search tt
-zip-push P [] (y' ∷ ys) x y h k = absurd h
-zip-push P (x' ∷ xs) [] x y h k = absurd h
 zip-push P (x' ∷ xs) (y' ∷ ys) x y h k = (h.0, zip-push P xs ys x y h.1 k)
+zip-push P xs ys x y h k = absurd h
 
 zip-at : {X Y : Type 0} (P : X → Y → Type 0) (xs : List X) (ys : List Y) (x : X) (y : Y) (n : ℕ)
     → P x y → AllZip P xs ys → P (get_or xs n x) (get_or ys n y)
 zip-at P [] [] x y n none h = none
-zip-at P [] (y' ∷ ys) x y n none h = absurd h
-zip-at P (x' ∷ xs) [] x y n none h = absurd h
 zip-at P (x' ∷ xs) (y' ∷ ys) x y zero none h = h.0
 zip-at P (x' ∷ xs) (y' ∷ ys) x y (suc n) none h = zip-at P xs ys x y n none h.1
+zip-at P xs ys x y n none h = absurd h
 
 row-of : {X : Type 0} (f : PieceRead → List X) (pieces : List PieceRead) (n : ℕ) → f no_piece ≡ []
     → row_at (map f pieces) n ≡ f (get_or pieces n no_piece)

@@ -58,15 +58,12 @@ module _ (texts : List (List ℕ)) where
   word-is : (xs : List Item) → is_turn_word (first_word texts xs) ≡ is_whole (after_sign xs)
   word-is [] = refl
   word-is (item.Blank ∷ xs) = word-is xs
-  word-is (item.LineEnd ∷ xs) = word-is xs
-  word-is (x ∷ xs) = grind arith
+  word-is (x ∷ xs) = grind (arith, word-is xs)
 
   pub turn-is : (xs : List Item) → is_turn texts xs ≡ is_whole (turn_of xs)
   turn-is [] = refl
   turn-is (item.Blank ∷ xs) = turn-is xs
-  turn-is (item.LineEnd ∷ xs) = turn-is xs
-  turn-is (item.Sign s ∷ xs) = grind (arith, word-is xs)
-  turn-is (x ∷ xs) = grind arith
+  turn-is (x ∷ xs) = grind (arith, turn-is xs, word-is xs)
 
 module _ (lines : List SourceLine) where
   abbrev texts : List (List ℕ)
@@ -140,39 +137,25 @@ module _ (lines : List SourceLine) where
       → is_gap_item x ≡ false → turn_of texts line ≡ at → IsMade e rest
       → made (Some e) (line ++ x ∷ []) counted rest
       ≡ items_by_origin lines (Some e) (turn_after_item texts at (Some x)) counted rest
-  made-one e x line at counted rest solid turns next =
-      search (rules, turn-snoc)
+  made-one e x line at counted rest solid turns next = search (rules, turn-snoc)
 
   made-item : (e : Token) (left before : Option Token) (line : List Item) (at : Turn)
       (counted : Origin) (rest : List Token) → is_front_gap e ≡ false → turn_of texts line ≡ at → IsMade e rest
       → made left line counted (e ∷ rest) ≡ items_by_origin lines before at counted (e ∷ rest)
   made-item token.White left before line at counted rest solid turns next = cc
   made-item (token.LineEnd number) left before line at counted rest solid turns next = cc
-  made-item (token.UseOf number occurrence) left before line at counted rest solid turns next =
-      search rules
-  made-item (token.AllMacros number) left before line at counted rest solid turns next =
-      search rules
-  made-item (token.QuoteBreak number) left before line at counted rest solid turns next =
-      search (rules, made-one)
-  made-item (token.AsciiConstant value number) left before line at counted rest solid turns next =
-      search (rules, made-one)
   made-item (token.Span span_kind.Word s) left before line at counted rest solid turns next =
       ap (λ t. item.Word s ∷ t) (made-one (token.Span span_kind.Word s) (item.Word s) line at counted rest refl turns next)
   made-item (token.Span span_kind.Sign s) left before line at counted rest solid turns next =
       ap (λ t. item.Sign s ∷ t) (made-one (token.Span span_kind.Sign s) (item.Sign s) line at counted rest refl turns next)
-  made-item (token.Span span_kind.Quoted s) left before line at counted rest solid turns next =
-      search (rules, made-one)
-  made-item (token.Span span_kind.Verbatim s) left before line at counted rest solid turns next =
-      search (rules, made-one)
-  made-item e left before line at counted rest solid turns next = next line at counted turns
+  made-item e left before line at counted rest solid turns next = search (rules, made-one)
 
   -- an item, with a blank before it or not
   made-blank : (blank : Bool) (e : Token) (left before : Option Token) (line : List Item) (at : Turn)
       (counted : Origin) (rest : List Token) → is_front_gap e ≡ false → turn_of texts line ≡ at → IsMade e rest →
       let tokens : List Token = (if blank then token.White ∷ [] else []) ++ e ∷ rest in
       made left line counted tokens ≡ items_by_origin lines before at counted tokens
-  made-blank true e left before line at counted rest solid turns next =
-      search (rules, made-item, turn-snoc)
+  made-blank true e left before line at counted rest solid turns next = search (rules, made-item, turn-snoc)
   made-blank false e left before line at counted rest solid turns next =
       made-item e left before line at counted rest solid turns next
 

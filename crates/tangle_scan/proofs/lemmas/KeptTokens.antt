@@ -47,9 +47,7 @@ with_spaces-kept texts (e ∷ f ∷ es) =
 with_name_space-kept : (texts : List (List ℕ)) (es : List Token) → kept (with_name_space texts es) ≡ kept es
 with_name_space-kept texts [] = refl
 with_name_space-kept texts (token.White ∷ es) = with_name_space-kept texts es
-with_name_space-kept texts (token.LineEnd line ∷ es) = with_name_space-kept texts es
-with_name_space-kept texts (token.Join ∷ es) = with_name_space-kept texts es
-with_name_space-kept texts (e ∷ es) = (grind arith)
+with_name_space-kept texts (e ∷ es) = grind (arith, with_name_space-kept texts es)
 
 left-kept : (run : List Token) → kept run ≡ [] → kept (left_of_run run) ≡ []
 left-kept run none = grind arith
@@ -58,16 +56,7 @@ left-kept run none = grind arith
 without_joins-kept : (run es : List Token) → kept run ≡ [] → kept (without_joins run es) ≡ kept es
 without_joins-kept run [] none = left-kept run none
 without_joins-kept run (e ∷ es) none =
-    by (is_gap e) refl (without_joins-kept (run ++ e ∷ []) es) (without_joins-kept [] es refl)
-  where
-    by : (b : Bool) → is_gap e ≡ b
-        → (kept (run ++ e ∷ []) ≡ [] → kept (without_joins (run ++ e ∷ []) es) ≡ kept es)
-        → kept (without_joins [] es) ≡ kept es
-        → kept (if b then without_joins (run ++ e ∷ []) es else left_of_run run ++ e ∷ without_joins [] es)
-        ≡ keep e ++ kept es
-    by true gap more rest =
-        search (rules, flat_map-append)
-    by false gap more rest = search (rules, flat_map-append)
+    grind (arith, nat_tests, flat_map-append, left-kept, without_joins-kept (run ++ e ∷ []) es, without_joins-kept [] es refl)
 
 last-kept : (b : Bool) → kept (if b then token.White ∷ [] else []) ≡ []
 last-kept x = grind arith
@@ -93,8 +82,7 @@ macro_blanks-kept texts in_name before white (e ∷ es) =
 without_front-kept : (es : List Token) → kept (without_front_gaps es) ≡ kept es
 without_front-kept [] = refl
 without_front-kept (token.White ∷ es) = without_front-kept es
-without_front-kept (token.LineEnd line ∷ es) = without_front-kept es
-without_front-kept (_ ∷ es) = refl
+without_front-kept (e ∷ es) = search (rules, without_front-kept es)
 
 -- the tokens of a C part after rules 1 to 3
 pub part-kept : (texts : List (List ℕ)) (es : List Token) → kept (blanks texts None false (part_tokens texts es)) ≡ kept es

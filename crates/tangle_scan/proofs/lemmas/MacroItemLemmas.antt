@@ -1,4 +1,5 @@
 -- The items of a macro, from item to item.
+use Rattle.std.proofs.Common.{rules}
 use Rattle.std.proofs.lemmas.Bool.Decides.{nat_tests}
 use Rattle.std.proofs.Common.{◌≡◌, ℕ, zero, suc, ◌+◌, Bool, true, false, ◌==◌, ◌&&◌, ◌||◌, not, List, [], ◌∷◌, ◌++◌, replicate}
 use Rattle.std.proofs.Common.{refl, ap, ◌∙◌, if◌then◌else◌, Option, Some, None, option_to_list}
@@ -21,10 +22,8 @@ use Rattle.tangle_scan.proofs.lemmas.SpacingLemmas.{item-ahead, macro-begin, lef
 
 front-white : (texts : List (List ℕ)) (es : List Token)
     → macro_blanks texts false None true es ≡ macro_blanks texts false None false es
-front-white texts [] = refl
 front-white texts (token.White ∷ es) = refl
-front-white texts (token.LineEnd line ∷ es) = refl
-front-white texts (e ∷ es) = refl
+front-white texts es = refl
 
 one-more : (n : ℕ) (items : List Item)
     → replicate n item.LineEnd ++ item.LineEnd ∷ items ≡ replicate (suc n) item.LineEnd ++ items
@@ -69,16 +68,12 @@ gap-on_line texts in_name before white (_ ∷ gap) es h = cc
 
 -- the items after a gap, at an item and at the end
 
-solid-front : (e : Token) → is_solid e ≡ true → is_front_gap e ≡ false
-solid-front x h = grind arith
-
 solid-items : (texts : List (List ℕ)) (in_name : Bool) (before : Option Token) (white : Bool) (ends : ℕ) (e : Token)
     (es : List Token) → is_solid e ≡ true → items_from texts in_name before (gap_with white ends) (e ∷ es)
     ≡ blank_if (has_blank texts in_name before (gap_with white ends) e) ++ (replicate ends item.LineEnd
     ++ (option_to_list (item_of e) ++ unmarked_items
     (macro_blanks texts (in_name && (ends == 0 && not white) && is_name_part e) (Some e) false es)))
-solid-items texts in_name before white ends e es h =
-    grind (arith, nat_tests)
+solid-items texts in_name before white ends e es h = grind (arith, nat_tests)
 
 end-items : (texts : List (List ℕ)) (in_name : Bool) (before : Option Token) (white : Bool) (ends : ℕ)
     → items_from texts in_name before (gap_with white ends) [] ≡ replicate ends item.LineEnd
@@ -102,12 +97,8 @@ gap-ends_line (_ ∷ gap) es h none = cc
 
 item-ends_line : (texts : List (List ℕ)) (es : List Token) → ends_line (joined_from texts false (from_item es)) ≡ false
 item-ends_line texts [] = refl
-item-ends_line texts (token.Fault kind line ∷ es) = item-ends_line texts es
-item-ends_line texts (token.Join ∷ es) = item-ends_line texts es
 item-ends_line texts (token.White ∷ es) = item-ends_line texts es
-item-ends_line texts (token.LineEnd line ∷ es) = item-ends_line texts es
-item-ends_line texts (token.InnerLineEnd line ∷ es) = item-ends_line texts es
-item-ends_line texts (e ∷ es) = rw (item-ahead texts false e es refl) refl
+item-ends_line texts (e ∷ es) = search (rules, item-ahead, item-ends_line texts es)
 
 drops : (texts : List (List ℕ)) (e : Token) (gap es : List Token) → list_all is_front_gap gap ≡ true
     → ends_line es ≡ false → is_line_backslash texts e (gap ++ es) ≡ is_dropped texts e (gap_of gap)
@@ -153,9 +144,5 @@ ahead-end texts at first es none is = grind (arith, nat_tests, end-items)
 
 pub first-solid : (es : List Token) → list_all is_solid (take 1 (from_item es)) ≡ true
 first-solid [] = refl
-first-solid (token.Fault kind line ∷ es) = first-solid es
-first-solid (token.Join ∷ es) = first-solid es
 first-solid (token.White ∷ es) = first-solid es
-first-solid (token.LineEnd line ∷ es) = first-solid es
-first-solid (token.InnerLineEnd line ∷ es) = first-solid es
-first-solid (_ ∷ es) = refl
+first-solid (e ∷ es) = search (rules, first-solid es)

@@ -52,9 +52,6 @@ white_if b = if b then token.White ∷ [] else []
 
 -- rule 1 puts no white space before a gap, which goes on
 
-apart : (a b : Bool) → (a && false || b && false) ≡ false
-apart a b = rw (and-false a, and-false b) refl
-
 spaced-gap : (texts : List (List ℕ)) (gap : List Token) (prev e : Token) (es : List Token)
     → is_gap e ≡ true → white_inner_end e ≡ e
     → without_joins gap (spaced_after texts prev (e ∷ es)) ≡ without_joins (gap ++ e ∷ []) (spaced_after texts e es)
@@ -70,9 +67,8 @@ passed-fault lines whole items kept at kind line es h = record { read = h.read; 
 
 blanks-at-front : (texts : List (List ℕ)) (b : Option Token) (es : List Token)
     → is_some b ≡ false → blanks texts b true es ≡ blanks texts b false es
-blanks-at-front texts None [] h = refl
 blanks-at-front texts None (token.White ∷ es) h = refl
-blanks-at-front texts None (e ∷ es) h = refl
+blanks-at-front texts None es h = refl
 blanks-at-front texts (Some x) es h = cc
 
 pub passed-white : (lines : List SourceLine) (whole items kept : List Item) (at : PartState) (es : List Token)
@@ -382,14 +378,9 @@ first-turn : (texts : List (List ℕ)) (at : Turn) (s : Span) (p : RunPart) (ps 
     → run_parts texts s ≡ p ∷ ps → is_number_sign texts (part_item p) ≡ false → has_single_spaces true (p ∷ ps) ≡ true
     → turn_after texts at (part_token p) ≡ turn_after_run texts at s
 first-turn texts at s part.Space ps is number spaces = cc
-first-turn texts turn.NoItem s (part.Word w) ps is number spaces = refl
-first-turn texts turn.NumberSign s (part.Word w) ps is number spaces = rw is refl
-first-turn texts turn.Whole s (part.Word w) ps is number spaces = refl
-first-turn texts turn.Other s (part.Word w) ps is number spaces = refl
 first-turn texts turn.NoItem s (part.Sign w) ps is number spaces = rw number refl
-first-turn texts turn.NumberSign s (part.Sign w) ps is number spaces = rw is refl
-first-turn texts turn.Whole s (part.Sign w) ps is number spaces = refl
-first-turn texts turn.Other s (part.Sign w) ps is number spaces = refl
+first-turn texts turn.NumberSign s p ps is number spaces = rw is refl
+first-turn texts at s p ps is number spaces = refl
 
 -- the parts of a run after the first one
 parts-ahead : (lines : List SourceLine) (e : Token) (at : Turn) (counted : Origin) (ps : List RunPart) (es : List Token)
@@ -403,8 +394,6 @@ parts-ahead lines e at counted (part.Word s ∷ ps) es settled plain h =
 parts-ahead lines e at counted (part.Sign s ∷ ps) es settled plain h =
     rw (plain, and-false (may_merge (texts_of lines) e), stays at (first_byte (texts_of lines) s == number_sign) false settled)
     (ap (λ t. item.Sign s ∷ t) (parts-ahead lines (token.Span span_kind.Sign s) at counted ps es settled refl h))
-parts-ahead lines e at counted (part.Space ∷ []) es settled plain h = cc
-parts-ahead lines e at counted (part.Space ∷ part.Space ∷ ps) es settled plain h = cc
 parts-ahead lines e at counted (part.Space ∷ part.Word s ∷ ps) es settled plain h =
     rw (plain, and-false (may_merge (texts_of lines) e), stays at false (is_turn_word (span_text (texts_of lines) s)) settled)
     (ap (λ t. item.Blank ∷ item.Word s ∷ t)
@@ -413,6 +402,7 @@ parts-ahead lines e at counted (part.Space ∷ part.Sign s ∷ ps) es settled pl
     rw (plain, and-false (may_merge (texts_of lines) e), stays at (first_byte (texts_of lines) s == number_sign) false settled)
     (ap (λ t. item.Blank ∷ item.Sign s ∷ t)
     (parts-ahead lines (token.Span span_kind.Sign s) at counted ps es settled refl h))
+parts-ahead lines e at counted ps es settled plain h = cc
 
 -- a part that is no space, before others
 part-ahead : (lines : List SourceLine) (whole items kept : List Item) (at : PartState) (s : Span) (p : RunPart)
@@ -501,5 +491,4 @@ passed-begin lines line at es front none turns start_turn is start_is = record {
 pub passed-whole : (lines : List SourceLine) (whole items kept : List Item) (at : PartState) (es : List Token)
     → es ≡ [] → IsPassed lines whole items kept at es
     → items ++ blank_if (ends_open (texts_of lines) at) ≡ whole
-passed-whole lines whole items kept at es none h =
-    grind (arith, append-nil (left_of_run h.read.gap))
+passed-whole lines whole items kept at es none h = grind (arith, append-nil (left_of_run h.read.gap))

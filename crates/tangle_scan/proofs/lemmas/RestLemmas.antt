@@ -4,10 +4,8 @@ use Rattle.std.proofs.Common.{arith}
 use Rattle.std.proofs.lemmas.Grind.{common_steps}
 use Rattle.std.proofs.Common.{◌≡◌, ◌≤◌, ◌-◌, suc, List, [], ◌∷◌, ◌++◌, length, take, drop, get_or, Option, None}
 use Rattle.std.proofs.Common.{if◌then◌else◌}
-use Rattle.std.specs.List.{All, list_any}
-use Rattle.std.proofs.Common.{◌+◌, ◌||◌, false}
-use Rattle.std.proofs.lemmas.Bool.{or_parts}
-use Rattle.tangle_lexer.specs.Heads.{is_head}
+use Rattle.std.specs.List.{All}
+use Rattle.std.proofs.Common.{◌+◌, ◌||◌}
 use Rattle.tangle_files.specs.Lines.{FileTable}
 use Rattle.tangle_lines.specs.Reading.{SourceLine}
 use Rattle.tangle_text.specs.declared.spans.Span.{Span}
@@ -15,7 +13,7 @@ use Rattle.tangle_lexer.specs.declared.tokens.Token.{Token}
 use Rattle.tangle_lexer.specs.declared.tokens.Token.TheVariants as token
 use Rattle.tangle_lexer.specs.LinesOfParts.{is_between_items}
 use Rattle.tangle_scan.specs.Rules.{texts_of}
-use Rattle.tangle_scan.specs.Web.{is_all_macros, own_fault, raw_fault, token_faults, macro_token_faults, quoted_ahead, word_at_end}
+use Rattle.tangle_scan.specs.Web.{own_fault, raw_fault, token_faults, macro_token_faults, quoted_ahead, word_at_end}
 
 abbrev pub first : List Token → Token
 first ts = get_or ts 0 token.Section
@@ -37,8 +35,7 @@ pub faults-step : (files : FileTable) (lines : List SourceLine) (word : Option S
     ≡ (raw_fault files lines word (quoted_ahead ts) ++ own_fault files lines (first ts))
     ++ token_faults files lines (word_at_end (texts_of lines) (first ts)) (rest ts)
 faults-step files lines word [] h = absurd (omega arith)
-faults-step files lines word (t ∷ ts) h =
-    search (rules, common_steps)
+faults-step files lines word (t ∷ ts) h = search (rules, common_steps)
 
 pub macro-step : (files : FileTable) (lines : List SourceLine) (ts : List Token) → 1 ≤ length ts
     → macro_token_faults files lines ts
@@ -46,21 +43,4 @@ pub macro-step : (files : FileTable) (lines : List SourceLine) (ts : List Token)
     ++ (if is_between_items (first ts) then macro_token_faults files lines (rest ts)
     else token_faults files lines None (rest ts))
 macro-step files lines [] h = absurd (omega arith)
-macro-step files lines (t ∷ ts) h =
-    search (rules, common_steps)
-
-pub length-rest : (ts : List Token) → 1 ≤ length ts → length (rest ts) + 1 ≡ length ts
-length-rest [] h = absurd (omega arith)
-length-rest (t ∷ ts) h =
-    search (rules, common_steps)
-
-pub macros-step : (ts : List Token) → 1 ≤ length ts
-    → list_any is_all_macros ts ≡ (is_all_macros (first ts) || list_any is_all_macros (rest ts))
-macros-step [] h = absurd (omega arith)
-macros-step (t ∷ ts) h =
-    search (rules, common_steps)
-
-pub heads-step : (ts : List Token) → 1 ≤ length ts → list_any is_head ts ≡ false → list_any is_head (rest ts) ≡ false
-heads-step [] h none = absurd (omega arith)
-heads-step (t ∷ ts) h none =
-    search (rules, common_steps, or_parts)
+macro-step files lines (t ∷ ts) h = search (rules, common_steps)

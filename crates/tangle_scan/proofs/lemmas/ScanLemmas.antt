@@ -47,8 +47,7 @@ pub front-builder : (source : SourceRead) (before : WebBuilderRead) (s after : L
     → IfSome next_head (λ head. is_head head ≡ true) → IfNone next_head (rest ≡ [])
     → builder_with source (builder_with source before block) (option_to_list next_head ++ tokens_from after rest)
     ≡ builder_with source before (tokens_from s text)
-front-builder source before s after text rest block next_head all some end =
-    search (rules, builder-cut, ends-body)
+front-builder source before s after text rest block next_head all some end = search (rules, builder-cut, ends-body)
 
 -- each head has at least one cell
 pub block-shorter : (text rest : List Cell) (next_head : Option Token)

@@ -48,8 +48,7 @@ run-more : (texts : List (List ℕ)) (first : Bool) (run : List Token) (e : Toke
     → is_gap e ≡ true → white_inner_end e ≡ e →
     without_joins (run ++ e ∷ []) (spaced_from texts first es) ≡ left_of_run ((run ++ e ∷ []) ++ gap_before es) ++ ahead →
     without_joins run (spaced_from texts first (e ∷ es)) ≡ left_of_run (run ++ e ∷ gap_before es) ++ ahead
-run-more texts first run e es ahead h same more =
-    search (rules, append_assoc)
+run-more texts first run e es ahead h same more = search (rules, append_assoc)
 
 run-ahead : (texts : List (List ℕ)) (first : Bool) (run es : List Token)
     → without_joins run (spaced_from texts first es)
@@ -71,13 +70,9 @@ run-ahead texts first run (e ∷ es) = rw (append-nil run, item-spaced texts fir
 pub macro-begin : (texts : List (List ℕ)) (es : List Token)
     → macro_tokens texts es ≡ joined_from texts true (from_item es)
 macro-begin texts [] = refl
-macro-begin texts (token.Fault kind line ∷ es) = macro-begin texts es
-macro-begin texts (token.White ∷ es) = macro-begin texts es
-macro-begin texts (token.LineEnd line ∷ es) = macro-begin texts es
-macro-begin texts (token.InnerLineEnd line ∷ es) = macro-begin texts es
 macro-begin texts (token.Join ∷ es) =
     ap (without_joins []) (gap-spaced texts true token.Join es refl refl) ∙ run-ahead texts true (token.Join ∷ []) es
-macro-begin texts (e ∷ es) = refl
+macro-begin texts (e ∷ es) = search (rules, macro-begin texts es)
 
 -- what is left of a gap, and the tokens from the item after it on
 
@@ -106,12 +101,8 @@ item-ahead texts first e es h = grind (arith, nat_tests, item-spaced, left-ahead
 
 front-gap : (es : List Token) → has_join (gap_before es) ≡ false → list_all is_front_gap (gap_before es) ≡ true
 front-gap [] h = refl
-front-gap (token.Fault kind line ∷ es) h = front-gap es h
 front-gap (token.Join ∷ es) h = cc
-front-gap (token.White ∷ es) h = front-gap es h
-front-gap (token.LineEnd line ∷ es) h = front-gap es h
-front-gap (token.InnerLineEnd line ∷ es) h = front-gap es h
-front-gap (_ ∷ es) h = refl
+front-gap (e ∷ es) h = search (rules, front-gap es)
 
 pub left-front_gap : (texts : List (List ℕ)) (first : Bool) (before : Token) (es : List Token)
     → list_all is_front_gap (left_gap texts first before es) ≡ true

@@ -110,8 +110,7 @@ module _ (texts : List (List ℕ)) where
   part-tagged : (line column : ℕ) (c rest : List ℕ)
       → IsChunk c → drop column (get_or texts line []) ≡ c ++ rest
       → tag_of texts (part_item (part_of line column c)) ≡ chunk_tag c
-  part-tagged line column c rest h is =
-      search (rules, part_moved, kind-tagged, part_bytes, chunk_size)
+  part-tagged line column c rest h is = search (rules, part_moved, kind-tagged, part_bytes, chunk_size)
 
   parts-tagged : (line column : ℕ) (cs : List (List ℕ)) (rest : List ℕ)
       → AreChunks cs → drop column (get_or texts line []) ≡ joined cs ++ rest

@@ -59,18 +59,14 @@ parts-faults : (files : FileTable) (lines : List SourceLine) (word : Option Span
 parts-faults files lines word [] ts = refl
 parts-faults files lines None (part.Word s ∷ xs) ts = parts-faults files lines (Some s) xs ts
 parts-faults files lines (Some w) (part.Word s ∷ xs) ts = parts-faults files lines (Some s) xs ts
-parts-faults files lines None (part.Sign s ∷ xs) ts = parts-faults files lines None xs ts
-parts-faults files lines (Some w) (part.Sign s ∷ xs) ts = parts-faults files lines None xs ts
-parts-faults files lines None (part.Space ∷ xs) ts = parts-faults files lines None xs ts
-parts-faults files lines (Some w) (part.Space ∷ xs) ts = parts-faults files lines None xs ts
+parts-faults files lines word (x ∷ xs) ts = parts-faults files lines None xs ts
 
 -- a run has parts
 first-word : (word : Option Span) (xs : List RunPart) → has_single_spaces true xs ≡ true
     → last_word word xs ≡ last_word None xs
 first-word word [] h = cc
-first-word word (part.Word s ∷ xs) h = refl
-first-word word (part.Sign s ∷ xs) h = refl
 first-word word (part.Space ∷ xs) h = refl
+first-word word (x ∷ xs) h = refl
 
 run-faults : (files : FileTable) (lines : List SourceLine) (word : Option Span) (s : Span) (ts : List Token)
     → token_faults files lines word (token.Run s ∷ ts)
@@ -82,9 +78,8 @@ run-faults files lines (Some w) s ts = refl
 ahead-parts : (xs : List RunPart) (ts : List Token) → has_single_spaces true xs ≡ true
     → quoted_ahead (map part_token xs ++ ts) ≡ None
 ahead-parts [] ts h = cc
-ahead-parts (part.Word s ∷ xs) ts h = refl
-ahead-parts (part.Sign s ∷ xs) ts h = refl
 ahead-parts (part.Space ∷ xs) ts h = refl
+ahead-parts (x ∷ xs) ts h = refl
 
 ahead-unfolded : (lines : List SourceLine) (ts : List Token) → All (IsRunIn (texts_of lines)) ts
     → quoted_ahead (unfolded (texts_of lines) ts) ≡ quoted_ahead ts
@@ -121,5 +116,4 @@ unfolded-no_head texts ts none = any-unfolded is_head texts refl (λ kind s. ref
 pub unfolded-same : (texts : List (List ℕ)) (ts : List Token) → HasNoRun ts → unfolded texts ts ≡ ts
 unfolded-same texts [] none = refl
 unfolded-same texts (token.Run s ∷ ts) none = cc
-unfolded-same texts (t ∷ ts) none =
-    grind (arith, nat_tests, unfolded-same texts ts)
+unfolded-same texts (t ∷ ts) none = grind (arith, nat_tests, unfolded-same texts ts)

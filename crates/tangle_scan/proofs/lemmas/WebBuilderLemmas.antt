@@ -52,16 +52,14 @@ pub front-whole : (source : SourceRead) (before : WebBuilderRead) (es : List Tok
     → record before { faults = before.faults ++ token_faults source.files source.lines None es }
     ≡ builder_with source before es
 unfolding builder_with
-front-whole source before es h =
-    search (rules, no-section, no-blocks, body-whole, no-head_faults)
+front-whole source before es h = search (rules, no-section, no-blocks, body-whole, no-head_faults)
 
 -- a head, and then tokens without one
 pub block-whole : (source : SourceRead) (before : WebBuilderRead) (head : Token) (es : List Token)
     → is_head head ≡ true → list_any is_head es ≡ false
     → with_block source before head es ≡ builder_with source before (head ∷ es)
 unfolding builder_with
-block-whole source before head es is h =
-    search (rules, no-section, no-blocks, body-whole, no-head_faults)
+block-whole source before head es is h = search (rules, no-section, no-blocks, body-whole, no-head_faults)
 
 -- a section, and then tokens without a head
 pub section-gathered : (source : SourceRead) (before : WebBuilderRead) (es : List Token) → list_any is_head es ≡ false

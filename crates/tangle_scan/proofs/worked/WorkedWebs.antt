@@ -101,8 +101,7 @@ cut_texts =
 
 -- bytes past 127, a zero byte, and a tab and a carriage return at a line's end
 abbrev other_bytes : List (List ℕ)
-other_bytes =
-    codes "@ A." ∷ codes "@c" ∷ (99 ∷ 97 ∷ 102 ∷ 233 ∷ 0 ∷ 61 ∷ 49 ∷ 32 ∷ 9 ∷ 13 ∷ []) ∷ []
+other_bytes = codes "@ A." ∷ codes "@c" ∷ (99 ∷ 97 ∷ 102 ∷ 233 ∷ 0 ∷ 61 ∷ 49 ∷ 32 ∷ 9 ∷ 13 ∷ []) ∷ []
 
 abbrev kind_letter : SegmentKind → List ℕ
 kind_letter Kept = codes "k"

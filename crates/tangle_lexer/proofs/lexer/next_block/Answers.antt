@@ -45,44 +45,31 @@ loop-front-preserved c =
     let lines = c.args.source.now.lines in
     let texts = texts_of lines in
     let before = c.loop-front.invariant in
+    let s = c.loop-front.state in
+    let text = c.loop-front.reader in
     let inside = c.in-Some.ensures.front.inside in
     let read = c.in_ok-state.ensures.read in
     let adds = c.in_ok-state.ensures.occurrences in
     let kept = c.in_default-pop_head.ensures in
     let simple = c.in_ok-state-2.ensures in
-    let here = lexeme c.loop-front.state c.loop-front.reader in
-    let plain : IsPlain c.loop-front.state here =
-    not-taken _ _ c.loop-front.state _ c.loop-front.reader _ read kept.1 in
-    let no_run : HasNone is_run here.tokens = no-run here.tokens plain.0 in
-    let ours = read-ours lines _ _ c.loop-front.state _ c.loop-front.reader _ read before.ours in
+    let plain : IsPlain s (lexeme s text) = not-taken _ _ s _ text _ read kept.1 in
+    let no_run : HasNone is_run (lexeme s text).tokens = no-run (lexeme s text).tokens plain.0 in
+    let ours = read-ours lines _ _ s _ text _ read before.ours in
     let more = simple.read lines ours in
     record {
       tokens = more.tokens
           ∙ (ap (λ ts. unfolded texts ts ++ tokens_from c.in_ok-state.state c.step.new.reader) kept.0
-          ∙ (plain-tokens texts _ _ c.loop-front.state _ c.loop-front.reader _ inside read no_run
-          ∙ before.tokens));
+          ∙ (plain-tokens texts _ _ s _ text _ inside read no_run ∙ before.tokens));
       ours = more.ours;
-      runs = more.runs (subst (All (IsRunIn texts)) (sym kept.0)
-          (plain-runs texts _ _ c.loop-front.state _ c.loop-front.reader _ read no_run before.runs));
+      runs = more.runs (subst (All (IsRunIn texts)) (sym kept.0) (plain-runs texts _ _ s _ text _ read no_run before.runs));
       no_run = λ other. simple.adds.no_run
           (λ part. other (before.mode (plain.1 (sym (ap (λ s. s.mode) read.state) ∙ part))))
-          (ap (list_any is_run) kept.0
-          ∙ plain-none is_run _ _ c.loop-front.state _ c.loop-front.reader _ read no_run (before.no_run other));
+          (ap (list_any is_run) kept.0 ∙ plain-none is_run _ _ s _ text _ read no_run (before.no_run other));
       mode = λ part. before.mode (plain.1 (sym (ap (λ s. s.mode) read.state) ∙ (sym simple.mode ∙ part)));
       no_head = simple.adds.no_head (ap (list_any is_head) kept.0
-          ∙ plain-none is_head _ _ c.loop-front.state _ c.loop-front.reader _ read
-          (no-head here.tokens plain.0) before.no_head);
-      occurrences = ap (λ ns. c.step.new.buffers.occurrences.items ++ map (occurrence_of lines) ns)
-          more.occurrences
-          ∙ (step-occurrences lines _ _ _ _ c.loop-front.state _ c.loop-front.reader _ inside read adds
-          ∙ before.occurrences);
-      count =
-          simple.count
-          ∙ step-count lines _ _ _ _ c.loop-front.state _ c.loop-front.reader _ read adds before.count;
-      shorter = omega (
-        arith,
-        simple.shorter,
-        step-shorter _ _ c.loop-front.state _ c.loop-front.reader _ inside read,
-        before.shorter,
-      );
+          ∙ plain-none is_head _ _ s _ text _ read (no-head (lexeme s text).tokens plain.0) before.no_head);
+      occurrences = ap (λ ns. c.step.new.buffers.occurrences.items ++ map (occurrence_of lines) ns) more.occurrences
+          ∙ (step-occurrences lines _ _ _ _ s _ text _ inside read adds ∙ before.occurrences);
+      count = simple.count ∙ step-count lines _ _ _ _ s _ text _ read adds before.count;
+      shorter = omega (arith, step-shorter _ _ s _ text _ inside read);
     }

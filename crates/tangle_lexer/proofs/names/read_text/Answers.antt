@@ -46,12 +46,7 @@ returns-clause-ahead c = grind (arith, nat_tests, if_ok, region_end-nothing)
 pub loop-front-smaller : goal.loop-front-smaller
 loop-front-smaller c =
     let text = c.loop-front.reader in
-    let more = more_by c.unit_of-unit.result in
-    omega (
-      arith,
-      c.in_ok-slice-2.ensures.shorter,
-      ap length c.pass.ensures,
-      length-drop more (drop 1 text),
-      length-drop 1 text,
-      c.in-Some.ensures.front.inside,
-    )
+    let passed = ap length c.pass.ensures in
+    let shorter = c.in_ok-slice-2.ensures.shorter in
+    let inside = c.in-Some.ensures.front.inside in
+    omega (arith, length-drop (more_by c.unit_of-unit.result) (drop 1 text), length-drop 1 text)

@@ -16,8 +16,7 @@ pub returns-in-Some-clause-read : goal.returns-in-Some-clause-read
 returns-in-Some-clause-read c = λ lines ours.
     let text = c.args.reader.now in
     let state = with_line c.args.line.now c.args.from in
-    let begins : begins_run state.mode state.line.include c.args.simple (byte_at 0 text) ≡ true
-    = search rules in
+    let begins : begins_run state.mode state.line.include c.args.simple (byte_at 0 text) ≡ true = search rules in
     let run = run_at-is text c.in-Some.run' (sym c.take_run.ensures.span ∙ c.in-Some.is) in
     rw (c.set.ensures, c.elsewhere.ensures, c.with_line-state.ensures)
     (run-reads-on lines _ _ state text _ c.in-Some.run'
@@ -46,18 +45,12 @@ returns-clause-read c = λ lines ours.
     c.in_ok-after.ensures in
     let again = simple-again _ _ c.args.line.now c.args.from _ _ text _ c.args.simple c.with_line-state.ensures here in
     let read = simple-read _ _ state _ text _ c.args.simple c.requires.simple c.requires.mode again in
-    rw c.set-2.ensures
-    (search (rules, plain-reads-on, no-run, simple-special, simple-occurrences_from))
+    rw c.set-2.ensures (search (rules, plain-reads-on, no-run, simple-special, simple-occurrences_from))
 
 pub returns-clause-shorter : goal.returns-clause-shorter
 returns-clause-shorter c =
-    let text = c.args.reader.now in
-    let here = c_lexeme (simple_kind c.args.simple) c.with_line-state.result c.if-begins_run.reader in
-    omega (
-      arith,
-      c.requires.simple.inside,
-      ap length c.in_ok-after.ensures.ahead,
-      length-drop here.more (drop 1 c.if-begins_run.reader),
-      length-drop 1 c.if-begins_run.reader,
-      ap length (same-place c),
-    )
+    let text = c.if-begins_run.reader in
+    let here = c_lexeme (simple_kind c.args.simple) c.with_line-state.result text in
+    let ahead = ap length c.in_ok-after.ensures.ahead in
+    let place = ap length (same-place c) in
+    omega (arith, c.requires.simple.inside, length-drop here.more (drop 1 text), length-drop 1 text)

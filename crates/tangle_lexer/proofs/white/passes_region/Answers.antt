@@ -4,11 +4,8 @@ use Rattle.tangle_text.proofs.RegionLemmas.{unit_at-front, region_end-stop, regi
 use Rattle.tangle_lexer.proofs.lemmas.WhiteLemmas.{ends-here, never-ends, line-goes, no-line_end}
 use Rattle.tangle_lexer.proofs.white.passes_region.Goals as goal
 
-pub returns-in-Stop-clause-ends : goal.returns-in-Stop-clause-ends
-returns-in-Stop-clause-ends c = grind (arith, nat_tests, unit_at-front, ends-here)
-
-pub returns-in-Stop-clause-ahead : goal.returns-in-Stop-clause-ahead
-returns-in-Stop-clause-ahead c h = grind (arith, nat_tests, unit_at-front, region_end-stop)
+pub returns-in-Stop : goal.returns-in-Stop
+returns-in-Stop c = grind (arith, nat_tests, unit_at-front, ends-here, region_end-stop)
 
 pub loop-front-preserved : goal.loop-front-preserved
 loop-front-preserved c = grind (arith, nat_tests, unit_at-front, no-line_end, region_end-go, line-goes)

@@ -7,25 +7,16 @@ use Rattle.tangle_lexer.proofs.lemmas.OpenedRegions.{drop-two, mid-is, after-two
 use Rattle.tangle_lexer.proofs.lemmas.WhiteLemmas.{region-white, region-ahead, line-white, code-dark, kind-dark}
 use Rattle.tangle_lexer.proofs.white.passes_white.Goals as goal
 
-pub returns-in-BlockComment-clause-white : goal.returns-in-BlockComment-clause-white
-returns-in-BlockComment-clause-white c =
-    grind (arith, nat_tests, drop-two, region-white region.BlockComment fault.CommentEnd after_a_name)
+pub returns-in-BlockComment : goal.returns-in-BlockComment
+returns-in-BlockComment c =
+    grind (arith, nat_tests, drop-two, region-white region.BlockComment fault.CommentEnd after_a_name, region-ahead)
 
-pub returns-in-BlockComment-clause-ahead : goal.returns-in-BlockComment-clause-ahead
-returns-in-BlockComment-clause-ahead c h = grind (arith, nat_tests, region-ahead)
+pub returns-in-LineComment : goal.returns-in-LineComment
+returns-in-LineComment c = grind (arith, nat_tests, mid-is, line-white, after-two)
 
-pub returns-in-LineComment-clause-white : goal.returns-in-LineComment-clause-white
-returns-in-LineComment-clause-white c = grind (arith, nat_tests, mid-is, line-white)
-
-pub returns-in-LineComment-clause-ahead : goal.returns-in-LineComment-clause-ahead
-returns-in-LineComment-clause-ahead c h = grind (arith, nat_tests, mid-is, after-two)
-
-pub returns-in-ControlText-clause-white : goal.returns-in-ControlText-clause-white
-returns-in-ControlText-clause-white c =
-    grind (arith, nat_tests, drop-two, region-white region.ControlText fault.ControlText after_a_name)
-
-pub returns-in-ControlText-clause-ahead : goal.returns-in-ControlText-clause-ahead
-returns-in-ControlText-clause-ahead c h = grind (arith, nat_tests, region-ahead)
+pub returns-in-ControlText : goal.returns-in-ControlText
+returns-in-ControlText c =
+    grind (arith, nat_tests, drop-two, region-white region.ControlText fault.ControlText after_a_name, region-ahead)
 
 pub returns-in_default-code : goal.returns-in_default-code
 returns-in_default-code c = grind (arith, nat_tests, code-dark)

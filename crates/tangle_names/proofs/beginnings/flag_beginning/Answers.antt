@@ -17,5 +17,4 @@ returns-then-begins_at c =
     (sym (at_text c.args.sorted.now c.args.position _ c.requires.inside)))
 
 pub returns-else-begins_at : goal.returns-else-begins_at
-returns-else-begins_at c =
-    flags-kept _ _ _ (search (rules, begins_none-read))
+returns-else-begins_at c = flags-kept _ _ _ (search (rules, begins_none-read))

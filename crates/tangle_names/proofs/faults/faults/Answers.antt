@@ -8,5 +8,4 @@ pub add_warnings-requires-clause-inside : goal.add_warnings-requires-clause-insi
 add_warnings-requires-clause-inside c = grind (arith, nat_tests, numbers_inside)
 
 pub returns : goal.returns
-returns c =
-    search (rules, faults_of_numbers, warnings_of_numbers)
+returns c = search (rules, faults_of_numbers, warnings_of_numbers)

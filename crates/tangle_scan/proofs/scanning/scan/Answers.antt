@@ -8,8 +8,7 @@ use Rattle.tangle_scan.proofs.laws.WellFormedWebs.{web-well-formed}
 use Rattle.tangle_scan.proofs.scanning.scan.Goals as goal
 
 pub new-requires-clause-gathered : goal.new-requires-clause-gathered
-new-requires-clause-gathered c =
-    search (rules, gathered-whole)
+new-requires-clause-gathered c = search (rules, gathered-whole)
 
 pub new-requires-clause-well_formed : goal.new-requires-clause-well_formed
 new-requires-clause-well_formed c = web-well-formed c.args.source.now

@@ -1,11 +1,21 @@
 use Rattle.std.proofs.Common.{inr}
 use Rattle.std.proofs.lemmas.Result.{err_from_is_err_and}
+use Rattle.tangle_files.specs.Lines.{FileTable}
 use Rattle.tangle_files.specs.Roles.{RolesRead}
+use Rattle.tangle_files.specs.declared.marks.MarkMode.{MarkMode}
+use Rattle.tangle_graph.specs.Affected.{EditedShapes}
 use Rattle.tangle_session.specs.Headline.{web_at}
 use Rattle.tangle_session.specs.Sessions.{shapes_of}
 use Rattle.tangle_session.proofs.EditLemmas.{fits_made}
 use Rattle.tangle_session.proofs.TangleLemmas.{lists_titles}
 use Rattle.tangle_session.proofs.tangling.tangle_again.Goals as goal
+
+-- the shapes of the web before and after
+abbrev edit_between : FileTable → FileTable → RolesRead → MarkMode → EditedShapes
+edit_between before after roles marks = record {
+  old = shapes_of (web_at before roles);
+  new = shapes_of (web_at after (record roles { marks = marks }));
+}
 
 pub build-requires-clause-fits : goal.build-requires-clause-fits
 build-requires-clause-fits c =
@@ -21,36 +31,22 @@ expand_again-requires-clause-new_shapes c = rw c.deref.ensures.value c.in_ok-ana
 
 pub expand_again-requires-clause-edit : goal.expand_again-requires-clause-edit
 expand_again-requires-clause-edit c =
-    let after : RolesRead = record c.args.roles.now { marks = c.args.marks } in (
-      record {
-        old = shapes_of (web_at c.args.old.now.files c.args.roles.now);
-        new = shapes_of (web_at c.in_ok-files.files after);
-      },
-      record {
-        before = c.requires.agrees.analysis.store;
-        after = c.in_ok-analysis.ensures.made.store;
-        expansions = c.requires.agrees.kept;
-      },
+    let was = c.requires.agrees in (
+      edit_between c.args.old.now.files c.in_ok-files.files c.args.roles.now c.args.marks,
+      record { before = was.analysis.store; after = c.in_ok-analysis.ensures.made.store; expansions = was.kept },
     )
 
 pub returns-clause-agrees : goal.returns-clause-agrees
 returns-clause-agrees c =
-    let after : RolesRead = record c.args.roles.now { marks = c.args.marks } in
+    let was = c.requires.agrees in
+    let made = c.in_ok-analysis.ensures.made in
     record {
       files_fit = fits_made c.args.old.now.files c.in_ok-files.files c.args.roles.now
           c.args.edits.now
-          c.in_ok-files.ensures.made c.requires.agrees.files_fit c.in_ok-files.ensures.unrefused;
-      analysis = c.in_ok-analysis.ensures.made;
-      kept = c.in_ok-kept.ensures.kept
-          (record {
-            old = shapes_of (web_at c.args.old.now.files c.args.roles.now);
-            new = shapes_of (web_at c.in_ok-files.files after);
-          })
-          (record {
-            before = c.requires.agrees.analysis.store;
-            after = c.in_ok-analysis.ensures.made.store;
-            expansions = c.requires.agrees.kept;
-          });
+          c.in_ok-files.ensures.made was.files_fit c.in_ok-files.ensures.unrefused;
+      analysis = made;
+      kept = c.in_ok-kept.ensures.kept (edit_between c.args.old.now.files c.in_ok-files.files c.args.roles.now c.args.marks)
+          (record { before = was.analysis.store; after = made.store; expansions = was.kept });
     }
 
 pub returns-in_err-kept-clause-refused : goal.returns-in_err-kept-clause-refused
@@ -61,16 +57,11 @@ returns-in_err-kept-clause-refused c =
 
 pub returns-clause-work : goal.returns-clause-work
 returns-clause-work c =
-    let after : RolesRead = record c.args.roles.now { marks = c.args.marks } in
-    let old = web_at c.args.old.now.files c.args.roles.now in
-    let new = web_at c.in_ok-files.files after in
+    let was = c.requires.agrees in
     let store = c.in_ok-analysis.ensures.made in
-    let made = c.in_ok-kept.ensures.work (record { old = shapes_of old; new = shapes_of new })
-    (record {
-      before = c.requires.agrees.analysis.store;
-      after = store.store;
-      expansions = c.requires.agrees.kept;
-    }) in
-    let listed = lists_titles old new c.in_ok-analysis.analysis.store made.0 store.store
-    store.store_names made.2 in
-    rw (made.1, c.new-work.ensures) listed
+    let made = c.in_ok-kept.ensures.work
+    (edit_between c.args.old.now.files c.in_ok-files.files c.args.roles.now c.args.marks)
+    (record { before = was.analysis.store; after = store.store; expansions = was.kept }) in
+    rw (made.1, c.new-work.ensures) (lists_titles (web_at c.args.old.now.files c.args.roles.now)
+    (web_at c.in_ok-files.files (record c.args.roles.now { marks = c.args.marks })) c.in_ok-analysis.analysis.store
+    made.0 store.store store.store_names made.2)

@@ -11,8 +11,7 @@ use Rattle.tangle_scan.proofs.lemmas.WebBuilderLemmas.{piece-gathered}
 use Rattle.tangle_scan.proofs.web_builder.WebBuilder.add_block.Goals as goal
 
 pub returns-in-Section-clause-builder : goal.returns-in-Section-clause-builder
-returns-in-Section-clause-builder c =
-    search (rules, on_ok_weaker, section-stored)
+returns-in-Section-clause-builder c = search (rules, on_ok_weaker, section-stored)
 
 pub returns-in-MacroStart-clause-builder : goal.returns-in-MacroStart-clause-builder
 returns-in-MacroStart-clause-builder c =

@@ -1,6 +1,5 @@
 use Rattle.std.proofs.Common.{◌≡◌, ◌∙◌, ◌++◌, ℕ, List, ap, refl, subst, sym}
 use Rattle.tangle_files.specs.Roles.{RolesRead}
-use Rattle.tangle_lines.specs.Reading.{SourceRead}
 use Rattle.tangle_scan.specs.Web.{WebRead, web_of}
 use Rattle.tangle_names.specs.Faults.{name_faults}
 use Rattle.tangle_names.specs.NameTable.{TableRead, table_of}
@@ -17,10 +16,8 @@ build-requires-clause-names c =
     c.names.ensures ∙ c.in_ok-made.ensures.store.names ∙ ap (λ (t : TableRead). t.names) c.in_ok-table.ensures
 
 pub build-requires-clause-pieces : goal.build-requires-clause-pieces
-build-requires-clause-pieces c =
-    let web = c.in_ok-web.web in
-    subst (IsGroupedBy web (table_of web)) (sym c.pieces.ensures)
-    (subst (λ t. IsGroupedBy web t c.in_ok-made.made.store.pieces)
+build-requires-clause-pieces c = subst (IsGroupedBy c.in_ok-web.web (table_of c.in_ok-web.web)) (sym c.pieces.ensures)
+    (subst (λ t. IsGroupedBy c.in_ok-web.web t c.in_ok-made.made.store.pieces)
     c.in_ok-table.ensures c.in_ok-made.ensures.store.grouped)
 
 pub returns-clause-made : goal.returns-clause-made

@@ -9,9 +9,8 @@ use Rattle.tangle_session.proofs.session.Session.output_names.Goals as goal
 
 pub returns : goal.returns
 returns c =
-    let files = c.self.inside.state.files in
     let roles = c.self.inside.roles in
-    let web = web_at files roles in
+    let web = web_at c.self.inside.state.files roles in
     c.new.ensures ∙ ap (map (λ (o : OutputRead). o.name)) (c.outputs.ensures ∙ c.self.invariant.analysis.outputs_are)
-    ∙ names_written (output_bytes files roles) (outputs web (table_of web) roles.out)
+    ∙ names_written (output_bytes c.self.inside.state.files roles) (outputs web (table_of web) roles.out)
     ∙ ap (λ (s : SessionRead). map (λ f. f.0) (output_files s.files s.roles)) c.self.view_is

@@ -6,8 +6,7 @@ use Rattle.tangle_session.proofs.session.Session.output_size.Goals as goal
 
 pub file_size-requires : goal.file_size-requires
 file_size-requires c =
-    let s = c.self.inside in
-    is_ready s.state s.roles _ c.self.view_is c.self.invariant c.args.name.now
+    is_ready c.self.inside.state c.self.inside.roles _ c.self.view_is c.self.invariant c.args.name.now
     c.in-Some.output.now (sym c.find_output.ensures ∙ ap option_copied c.in-Some.is)
 
 pub returns-in-Some : goal.returns-in-Some
@@ -18,7 +17,5 @@ returns-in-Some c =
     c.in-Some.output.now (sym c.find_output.ensures ∙ ap option_copied c.in-Some.is)
 
 pub returns-in-None : goal.returns-in-None
-returns-in-None c =
-    let s = c.self.inside in
-    no_size s.state s.roles _ c.self.view_is c.self.invariant c.args.name.now
+returns-in-None c = no_size c.self.inside.state c.self.inside.roles _ c.self.view_is c.self.invariant c.args.name.now
     (sym c.find_output.ensures ∙ ap option_copied c.in-None.is)

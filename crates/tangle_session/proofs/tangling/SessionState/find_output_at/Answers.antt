@@ -7,10 +7,8 @@ use Rattle.tangle_session.proofs.OutputLemmas.{find_here}
 use Rattle.tangle_session.proofs.tangling.SessionState.find_output_at.Goals as goal
 
 pub returns-in-Some : goal.returns-in-Some
-returns-in-Some c =
-    let name = c.args.name.now in
-    find_here name c.outputs.result.now c.args.index c.in-Some.output.now
+returns-in-Some c = find_here c.args.name.now c.outputs.result.now c.args.index c.in-Some.output.now
     (subst (λ os. IsDistinct bytes_eq (map (λ (o : OutputRead). o.name) os)) (sym c.outputs.ensures) c.requires)
     c.in-Some.ensures.lookup.3.0 c.in-Some.ensures.lookup.1
-    (ap (bytes_eq name) (sym c.name.ensures) ∙ sym c.eq.ensures ∙ c.if-eq.true)
-    ∙ ap (find (λ (o : OutputRead). bytes_eq name o.name)) c.outputs.ensures
+    (ap (bytes_eq c.args.name.now) (sym c.name.ensures) ∙ sym c.eq.ensures ∙ c.if-eq.true)
+    ∙ ap (find (λ (o : OutputRead). bytes_eq c.args.name.now o.name)) c.outputs.ensures

@@ -4,8 +4,6 @@ use Rattle.std.proofs.Common.{arith}
 use Rattle.tangle_text.proofs.OrdinaryBytes.{region_end-ordinary}
 use Rattle.tangle_text.proofs.reader.Reader.skip_inside.Goals as goal
 
-pub returns-then-skips_ordinary-clause-same : goal.returns-then-skips_ordinary-clause-same
-returns-then-skips_ordinary-clause-same c = grind (arith, nat_tests, region_end-ordinary)
-
-pub returns-then-skips_ordinary-clause-shorter : goal.returns-then-skips_ordinary-clause-shorter
-returns-then-skips_ordinary-clause-shorter c = grind (arith, common_steps)
+pub returns-then-skips_ordinary : goal.returns-then-skips_ordinary
+returns-then-skips_ordinary c =
+    record { same = grind (arith, nat_tests, region_end-ordinary); shorter = grind (arith, common_steps) }

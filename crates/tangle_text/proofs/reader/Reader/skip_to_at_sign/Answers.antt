@@ -11,11 +11,7 @@ pub returns-clause-shorter : goal.returns-clause-shorter
 returns-clause-shorter c =
     let r = c.self.inside in
     let found = c.at_sign_from-self-inside in
-    omega (
-      arith,
-      ap length
-          (rest_of-after r.source.now.lines r.bytes.now r.line r.column found.result
-          found.ensures.low found.ensures.high found.ensures.before r.is_done),
-      length-drop (found.result - r.column) (rest_of r.source.now.lines r.bytes.now r.line r.column r.is_done),
-      ap length c.self.view_is,
-    )
+    let after = ap length (rest_of-after r.source.now.lines r.bytes.now r.line r.column found.result
+    found.ensures.low found.ensures.high found.ensures.before r.is_done) in
+    let view = ap length c.self.view_is in
+    omega (arith, length-drop (found.result - r.column) (rest_of r.source.now.lines r.bytes.now r.line r.column r.is_done))

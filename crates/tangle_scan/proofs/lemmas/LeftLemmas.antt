@@ -1,4 +1,4 @@
--- The unfolded tags that remain of a body.
+-- The unfolded tags that remain of a text.
 use Rattle.std.proofs.Common.{rules}
 use Rattle.std.proofs.Common.{◌≡◌, ◌∙◌, ℕ, ◌-◌, ◌≤◌, List, [], ◌∷◌, ◌++◌, length, take, drop, slice_get, refl, ap}
 use Rattle.std.proofs.Common.{sym, arith, Some, None, min, drop-drop}

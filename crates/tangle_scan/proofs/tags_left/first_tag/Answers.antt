@@ -1,6 +1,6 @@
 use Rattle.std.proofs.Common.{◌∙◌, ◌-◌, slice_get, ap, sym, arith}
-use Rattle.tangle_bodies.proofs.LeftLemmas.{first_tag_is, no_tag_is}
-use Rattle.tangle_bodies.proofs.tags_left.first_tag.Goals as goal
+use Rattle.tangle_scan.proofs.lemmas.LeftLemmas.{first_tag_is, no_tag_is}
+use Rattle.tangle_scan.proofs.tags_left.first_tag.Goals as goal
 
 pub returns-in-Some : goal.returns-in-Some
 returns-in-Some c =

@@ -1,5 +1,5 @@
 use Rattle.std.proofs.Common.{◌≡◌, length}
-use Rattle.tangle_bodies.proofs.shapes.same_tags_left.Given as goal
+use Rattle.tangle_scan.proofs.tags.same_tags_left.Given as goal
 
 abbrev pub invariant-loop-tag : goal.invariant-loop-tag
 invariant-loop-tag l =

@@ -1,15 +1,15 @@
-//! The tags of a body one after another, where each run is unfolded to its words, signs and spaces.
+//! The tags of a text one after another, where each run is unfolded to its words, signs and spaces.
 ghost use Rattle.std.specs.Prelude.{◌≡◌, ◌∷◌, ◌≤◌, true, false, List};
 ghost use Rattle.std.specs.Prelude.{length, take, drop, min, slice_get, MatchOption};
 ghost use Rattle.tangle_scan.specs.UnfoldedTags.{part_tag, run_tags, unfolded_tags};
 ghost use Rattle.tangle_scan.specs.declared.texts.ItemTag.{ItemTag as TagRead};
 
 use crate::tags::same_tag;
+use crate::texts::{ItemKind, ItemTag};
 use std::marker::Model;
-use tangle_scan::{ItemKind, ItemTag};
 use tangle_text::{RunPart, RunParts, Span};
 
-/// The tags and bytes of a body that remain.
+/// The tags and bytes of a text that remain.
 #[derive(Drop)]
 pub(crate) struct TagsLeft<'o> {
     tags: &'o [ItemTag],
@@ -71,7 +71,7 @@ fn size_within(size: u16, bytes: &[u8]) -> u16
 }
 
 impl<'o> TagsLeft<'o> {
-    /// All tags of a body that has these tags and bytes.
+    /// All tags of a text that has these tags and bytes.
     pub(crate) fn new(tags: &'o [ItemTag], bytes: &'o [u8]) -> Self
         ensures { result ≡ unfolded_tags tags.now bytes.now }
     {

@@ -1,6 +1,6 @@
 use Rattle.std.proofs.Common.{◌≡◌, ◌≤◌, length}
 use Rattle.tangle_scan.specs.UnfoldedTags.{tags_left}
-use Rattle.tangle_bodies.proofs.tags_left.TagsLeft.next.Given as goal
+use Rattle.tangle_scan.proofs.tags_left.TagsLeft.next.Given as goal
 
 abbrev pub invariant-loop-self : goal.invariant-loop-self
 invariant-loop-self l = record {

@@ -1,0 +1,368 @@
+-- How the items of a piece lie in its row: those of parts, with a blank, a line end or a mark between two of them, and
+-- each use by itself.
+use Rattle.std.proofs.Common.{rules, arith}
+use Rattle.std.proofs.Common.{◌≡◌, ℕ, Bool, true, false, ◌&&◌, ◌||◌, if◌then◌else◌, List, [], ◌∷◌, ◌++◌, flat_map, map, drop}
+use Rattle.std.proofs.Common.{append_assoc, append-nil, Option, Some, None, is_some, refl, ap, sym, ◌∙◌, subst}
+use Rattle.std.proofs.Math.Bool.{and-false, and-true}
+use Rattle.std.specs.List.{last_or, list_all}
+use Rattle.std.proofs.lemmas.Bool.{false≢true, or_left, or_right, and_from}
+use Rattle.std.proofs.lemmas.List.Concat.{flat_map-append}
+use Rattle.std.proofs.lemmas.List.Folds.{list_all-append}
+use Rattle.tangle_lines.specs.declared.origin.Origin.{Origin}
+use Rattle.tangle_lines.specs.Reading.{SourceLine, origin_at}
+use Rattle.tangle_lexer.specs.declared.tokens.Token.{Token}
+use Rattle.tangle_lexer.specs.declared.tokens.Token.TheVariants as token
+use Rattle.tangle_lexer.specs.LinesOfParts.{is_use}
+use Rattle.tangle_scan.specs.declared.items.Item.{Item}
+use Rattle.tangle_scan.specs.declared.items.Item.TheVariants as item
+use Rattle.tangle_scan.specs.Rules.{texts_of, is_open, is_continued, ends_line, is_front_gap, blanks, next_line}
+use Rattle.tangle_scan.specs.Rules.{part_tokens, part_items, next_item}
+use Rattle.tangle_scan.specs.LineTruth.{counted_after_line_end}
+use Rattle.tangle_scan.specs.Passes as passes
+use Rattle.tangle_scan.specs.Passes.{TurnSoFar, counted_after_token, items_at, items_by_origin, turn_after, is_unmarked}
+use Rattle.tangle_scan.specs.ItemBytes.{piece_item_bytes}
+use Rattle.tangle_scan.specs.ReadAsMeant.{token_bytes}
+use Rattle.tangle_scan.proofs.lemmas.ItemsByOrigin.{by-line_item, part_items-by_origin}
+use Rattle.tangle_scan.proofs.lemmas.RuleLemmas.{blanks-item}
+use Rattle.tangle_c_tokens.specs.Groups.{Group, group_before}
+use Rattle.tangle_c_tokens.specs.Pieces.{Passage, OfPart, OfMark, mark_place, row_after, written_for, part_text}
+use Rattle.tangle_c_tokens.specs.Pieces.{line_feed_follows, is_closed}
+use Rattle.tangle_c_tokens.proofs.GroupLemmas.{last-item}
+use Rattle.tangle_c_tokens.proofs.PartLemmas.{ends_in_use}
+
+abbrev pub is_mark : Item → Bool
+is_mark (item.LineMark origin) = true
+is_mark x = false
+
+-- an item of a part; a line end there continues its line
+abbrev pub is_inner : Item → Bool
+is_inner item.Blank = false
+is_inner (item.LineMark origin) = false
+is_inner (item.UseOf occurrence) = false
+is_inner item.AllMacros = false
+is_inner x = true
+
+pub data IsUseItem : Token → Item → Type 0 where
+  OfUse : (line occurrence : ℕ) → IsUseItem (token.UseOf line occurrence) (item.UseOf occurrence)
+  OfMacros : (line : ℕ) → IsUseItem (token.AllMacros line) item.AllMacros
+
+module _ (lines : List SourceLine) (used : ℕ → List ℕ) (mark : Origin → List ℕ) (macros : List ℕ) where
+  abbrev texts : List (List ℕ)
+  texts = texts_of lines
+
+  abbrev pub item_bytes : Item → List ℕ
+  item_bytes x = piece_item_bytes texts used mark macros x
+
+  abbrev pub text : List Token → List ℕ
+  text items = part_text texts used macros items
+
+  -- items may be directly after those of a part
+  abbrev pub Meets : Group → List Item → Type 0
+  Meets part [] =
+      (ends_in_use (last_or None part.items) ≡ false) × (next_item part.rest ≡ None)
+      × (is_closed texts used macros (last_or None part.items) ≡ true)
+  Meets part (item.Blank ∷ xs) = ends_in_use (last_or None part.items) ≡ false
+  Meets part (item.UseOf occurrence ∷ xs) = ends_in_use (last_or None part.items) ≡ false
+  Meets part (item.LineEnd ∷ xs) = line_feed_follows texts used macros part ≡ true
+  Meets part (item.LineMark origin ∷ xs) = line_feed_follows texts used macros part ≡ true
+  Meets part (item.AllMacros ∷ xs) = line_feed_follows texts used macros part ≡ true
+  Meets part (x ∷ xs) = ⊥
+
+  -- the items of a part, and those after it
+  pub record IsPart (part : Group) (own xs : List Item) : Type 0 where
+    pub bytes : flat_map item_bytes own ≡ text part.items
+    pub inner : list_all is_inner own ≡ true
+    pub meets : Meets part xs
+
+  -- What is true of a row and its items is shown from the end on.
+  module _ (P : List Passage → List Item → Type 0) (ends : P [] [])
+      (blank : (row : List Passage) (xs : List Item) → P row xs → P row (item.Blank ∷ xs))
+      (feed : (row : List Passage) (xs : List Item) → P row xs → P row (item.LineEnd ∷ xs))
+      (of_mark : (origin : Origin) (row : List Passage) (xs : List Item) → P row xs
+      → P (OfMark origin ∷ row) (item.LineMark origin ∷ xs))
+      (of_use : (e : Token) (x : Item) (es : List Token) (origin : Origin) (row : List Passage) (xs : List Item)
+      → IsUseItem e x → P row (item.LineMark origin ∷ xs)
+      → P (OfPart (record { items = e ∷ []; rest = es }) ∷ row) (x ∷ item.LineMark origin ∷ xs))
+      (of_part : (part : Group) (own : List Item) (row : List Passage) (xs : List Item) → IsPart part own xs → P row xs
+      → P (OfPart part ∷ row) (own ++ xs)) where
+    -- where tokens are: what rules 3 to 5 know before them
+    record At : Type 0 where
+      before : Option Token
+      white : Bool
+      turn : TurnSoFar
+      counted : Origin
+
+    abbrev after_white : At → At
+    after_white at = record { before = at.before; white = true; turn = at.turn; counted = at.counted }
+
+    -- directly after a token other than white space and a line end
+    abbrev after : Token → At → At
+    after e at = record {
+      before = Some e;
+      white = false;
+      turn = turn_after texts at.turn e;
+      counted = counted_after_token lines at.counted e;
+    }
+
+    -- after a line end, which does not continue its line, or does
+    abbrev after_end : ℕ → At → At
+    after_end line at = record {
+      before = None;
+      white = false;
+      turn = passes.turn_after_line_end lines false line at.turn;
+      counted = counted_after_line_end lines false at.counted line;
+    }
+
+    abbrev after_continued : ℕ → At → At
+    after_continued line at = record {
+      before = Some (token.LineEnd line);
+      white = false;
+      turn = at.turn;
+      counted = next_line at.counted;
+    }
+
+    abbrev items_from : At → List Token → List Item
+    items_from at es = items_by_origin lines at.before at.turn at.counted (blanks texts at.before at.white es)
+
+    -- the row of these items, where a part has these tokens so far
+    abbrev row_of : List Token → List Item → List Token → List Passage
+    row_of items xs es = row_after texts items (flat_map mark_place xs) es
+
+    abbrev is_continued_at : At → List Token → Bool
+    is_continued_at at es = is_continued texts at.before && ends_line es
+
+    -- The items of a part so far, which goes on: white space is only where the line is continued.
+    record IsOpen (items : List Token) (own : List Item) (at : At) (es : List Token) : Type 0 where
+      bytes : flat_map item_bytes own ≡ text items
+      inner : list_all is_inner own ≡ true
+      last : Token
+      no_use : is_use last ≡ false
+      is : last_or None items ≡ Some last
+      before : at.before ≡ Some last
+      white : at.white ≡ true → is_continued_at at es ≡ true
+
+    -- what is true after a part or at the front of a line, and within a part
+    record Lays (es : List Token) : Type 0 where
+      closed : (at : At) → is_continued_at at es ≡ false → P (row_of [] (items_from at es) es) (items_from at es)
+      within : (items : List Token) (own : List Item) (at : At) → IsOpen items own at es
+          → P (row_of items (items_from at es) es) (own ++ items_from at es)
+
+    close : (items rest : List Token) (own xs : List Item) (at : At) (es : List Token) (row : List Passage)
+        → IsOpen items own at es → Meets (record { items = items; rest = rest }) xs → P row xs
+        → P (map OfPart (group_before rest items) ++ row) (own ++ xs)
+    close [] rest own xs at es row o meets p = absurd (grind (arith, o.is))
+    close (e ∷ items) rest own xs at es row o meets p =
+        of_part (record { items = e ∷ items; rest = rest }) own row xs (record { bytes = o.bytes; inner = o.inner; meets = meets }) p
+
+    no-use : (items : List Token) (own : List Item) (at : At) (es : List Token) → IsOpen items own at es
+        → ends_in_use (last_or None items) ≡ false
+    no-use items own at es o = ap ends_in_use o.is ∙ o.no_use
+
+    more-open : (items : List Token) (own xs : List Item) (e : Token) (at : At) (es : List Token)
+        → flat_map item_bytes own ≡ text items → list_all is_inner own ≡ true
+        → flat_map item_bytes xs ≡ token_bytes texts (written_for texts used macros) e → list_all is_inner xs ≡ true
+        → is_use e ≡ false → at.before ≡ Some e → at.white ≡ false → IsOpen (items ++ e ∷ []) (own ++ xs) at es
+    more-open items own xs e at es bytes inner of_e inner_e no_use before white = record {
+      bytes = flat_map-append item_bytes own xs ∙ (λ i. bytes i ++ of_e i) ∙ sym text-more;
+      inner = list_all-append is_inner own xs ∙ and_from _ _ inner inner_e;
+      last = e;
+      no_use = no_use;
+      is = last-item None items e;
+      before = before;
+      white = λ is. absurd (false≢true (sym white ∙ is));
+    }
+      where
+        text-more : text (items ++ e ∷ []) ≡ text items ++ token_bytes texts (written_for texts used macros) e
+        text-more = search (rules, flat_map-append)
+
+    -- the end of a piece
+
+    at-end : (at : At) → P [] (items_from at [])
+    at-end at = by (is_open texts at.before)
+      where
+        by : (b : Bool) → P [] (items_by_origin lines at.before at.turn at.counted (if b then token.White ∷ [] else []))
+        by true = blank [] [] ends
+        by false = ends
+
+    meets-end : (items rest : List Token) (own : List Item) (at : At) (es : List Token) → IsOpen items own at es → next_item rest ≡ None
+        → Meets (record { items = items; rest = rest }) (items_from at [])
+    meets-end items rest own at es o next = by (is_open texts at.before) refl
+      where
+        by : (b : Bool) → is_open texts at.before ≡ b
+            → Meets (record { items = items; rest = rest }) (items_by_origin lines at.before at.turn at.counted (if b then token.White ∷ [] else []))
+        by true is = no-use items own at es o
+        by false is =
+            (no-use items own at es o, next, ap (is_closed texts used macros) o.is ∙ rw (o.no_use, sym (ap (is_open texts) o.before) ∙ is) refl)
+
+    -- a line end after a part, and white space
+
+    meets-feed : (items rest : List Token) (line : ℕ) (at : At) (es : List Token) → ends_line rest ≡ true
+        → Meets (record { items = items; rest = rest }) (items_from at (token.LineEnd line ∷ es))
+    meets-feed items rest line at es ends =
+        by-line_item (λ x. Meets (record { items = items; rest = rest }) (x ∷ drop 1 (items_from at (token.LineEnd line ∷ es)))) lines _ _ _ line
+        feeds (λ origin. feeds)
+      where
+        feeds : line_feed_follows texts used macros (record { items = items; rest = rest }) ≡ true
+        feeds = or_left _ _ (or_right _ _ ends)
+
+    meets-white : (items rest : List Token) (own : List Item) (at : At) (all : List Token) → IsOpen items own at all
+        → (es : List Token) → ends_line rest ≡ ends_line es → next_item rest ≡ next_item es
+        → Meets (record { items = items; rest = rest }) (items_from (after_white at) es)
+    meets-white items rest own at all o [] line next = meets-end items rest own at all o next
+    meets-white items rest own at all o (token.White ∷ es) line next = meets-white items rest own at all o es line next
+    meets-white items rest own at all o (token.LineEnd n ∷ es) line next = meets-feed items rest n (after_white at) es line
+    meets-white items rest own at all o (e ∷ es) line next = rw o.before (no-use items own at all o)
+
+    lay-white : (es : List Token) → Lays es → Lays (token.White ∷ es)
+    lay-white es next = record {
+      closed = λ at is. next.closed (after_white at) is;
+      within = λ items own at o. by items own at o (is_continued texts (last_or None items) && ends_line es) refl;
+    }
+      where
+        by : (items : List Token) (own : List Item) (at : At) → IsOpen items own at (token.White ∷ es)
+            → (b : Bool) → (is_continued texts (last_or None items) && ends_line es) ≡ b
+            → let xs : List Item = items_from (after_white at) es in
+            P (if b then row_of items xs es else map OfPart (group_before (token.White ∷ es) items) ++ row_of [] xs es) (own ++ xs)
+        by items own at o true is = next.within items own (after_white at) (record {
+          bytes = o.bytes;
+          inner = o.inner;
+          last = o.last;
+          no_use = o.no_use;
+          is = o.is;
+          before = o.before;
+          white = λ white. ap (λ e. is_continued texts e && ends_line es) (o.before ∙ sym o.is) ∙ is;
+        })
+        by items own at o false is =
+            close items (token.White ∷ es) own _ at (token.White ∷ es) _ o (meets-white items (token.White ∷ es) own at _ o es refl refl)
+            (next.closed (after_white at) (ap (λ e. is_continued texts e && ends_line es) (o.before ∙ sym o.is) ∙ is))
+
+    -- a line end
+
+    lay-end : (line : ℕ) (es : List Token) → Lays es → Lays (token.LineEnd line ∷ es)
+    lay-end line es next = record {
+      closed = λ at is. ended at (sym (and-true (is_continued texts at.before)) ∙ is);
+      within = λ items own at o. by items own at o (is_continued texts (last_or None items)) refl;
+    }
+      where
+        ended : (at : At) → is_continued texts at.before ≡ false
+            → P (row_of [] (items_from at (token.LineEnd line ∷ es)) (token.LineEnd line ∷ es)) (items_from at (token.LineEnd line ∷ es))
+        ended at ends = at-mark (is_unmarked lines (passes.is_whole at.turn) at.counted line) refl
+          where
+            at-mark : (b : Bool) → is_unmarked lines (passes.is_whole at.turn) at.counted line ≡ b
+                → P (row_of [] (items_from at (token.LineEnd line ∷ es)) (token.LineEnd line ∷ es)) (items_from at (token.LineEnd line ∷ es))
+            at-mark true same = rw (ends, same) (feed _ _ (next.closed (after_end line at) refl))
+            at-mark false same = rw (ends, same) (of_mark _ _ _ (next.closed (after_end line at) refl))
+
+        by : (items : List Token) (own : List Item) (at : At) → IsOpen items own at (token.LineEnd line ∷ es)
+            → (b : Bool) → is_continued texts (last_or None items) ≡ b
+            → let xs : List Item = items_from at (token.LineEnd line ∷ es) in
+            P (if b then row_after texts (items ++ token.LineEnd line ∷ []) (drop 1 (flat_map mark_place xs)) es
+            else map OfPart (group_before (token.LineEnd line ∷ es) items) ++ row_of [] xs (token.LineEnd line ∷ es)) (own ++ xs)
+        by items own at o true is =
+            rw (ap (is_continued texts) (o.before ∙ sym o.is) ∙ is)
+            (subst (P _) (append_assoc own (item.LineEnd ∷ []) (items_from (after_continued line at) es))
+            (next.within (items ++ token.LineEnd line ∷ []) (own ++ item.LineEnd ∷ []) (after_continued line at)
+            (more-open items own (item.LineEnd ∷ []) (token.LineEnd line) _ es o.bytes o.inner refl refl refl refl refl)))
+        by items own at o false is =
+            close items (token.LineEnd line ∷ es) own _ at _ _ o
+            (meets-feed items (token.LineEnd line ∷ es) line at es refl) (ended at (ap (is_continued texts) (o.before ∙ sym o.is) ∙ is))
+
+    -- a token other than white space and a line end, and a blank before it
+
+    abbrev own_items : Token → At → List Token → List Item
+    own_items e at es = items_at lines e ++ items_from (after e at) es
+
+    abbrev blanked : Bool → List Item → List Item
+    blanked b xs = if b then item.Blank ∷ xs else xs
+
+    at-item : (at : At) (e : Token) (es : List Token) → is_front_gap e ≡ false
+        → items_from at (e ∷ es) ≡ blanked (is_some at.before && at.white) (own_items e at es)
+    at-item at e es solid = rw (blanks-item texts at.before at.white e es solid) (by (is_some at.before && at.white))
+      where
+        one : items_by_origin lines at.before at.turn at.counted (e ∷ blanks texts (Some e) false es) ≡ own_items e at es
+        one = search rules
+
+        by : (b : Bool) → items_by_origin lines at.before at.turn at.counted
+            ((if b then token.White ∷ [] else []) ++ e ∷ blanks texts (Some e) false es) ≡ blanked b (own_items e at es)
+        by true = ap (λ xs. item.Blank ∷ xs) one
+        by false = one
+
+    lay-solid : (e : Token) (es : List Token) → is_front_gap e ≡ false → ends_line (e ∷ es) ≡ false
+        → ((at : At) → P (row_of [] (own_items e at es) (e ∷ es)) (own_items e at es))
+        → ((items : List Token) (own : List Item) (at : At) → IsOpen items own at (e ∷ es)
+        → P (row_of items (own_items e at es) (e ∷ es)) (own ++ own_items e at es)) → Lays (e ∷ es)
+    lay-solid e es solid line first inside = record {
+      closed = λ at is.
+          subst (λ xs. P (row_of [] xs (e ∷ es)) xs) (sym (at-item at e es solid)) (by at (is_some at.before && at.white));
+      within = λ items own at o.
+          subst (λ xs. P (row_of items xs (e ∷ es)) (own ++ xs)) (sym (at-item at e es solid ∙ ap (λ b. blanked b (own_items e at es)) (none at at.white refl o.white)))
+          (inside items own at o);
+    }
+      where
+        by : (at : At) (b : Bool) → P (row_of [] (blanked b (own_items e at es)) (e ∷ es)) (blanked b (own_items e at es))
+        by at true = blank _ _ (first at)
+        by at false = first at
+
+        none : (at : At) (b : Bool) → at.white ≡ b → (at.white ≡ true → is_continued_at at (e ∷ es) ≡ true) → (is_some at.before && at.white) ≡ false
+        none at true is white = absurd (false≢true (sym (and-false (is_continued texts at.before)) ∙ sym (ap (λ b. is_continued texts at.before && b) line) ∙ white is))
+        none at false is white = ap (λ b. is_some at.before && b) is ∙ and-false (is_some at.before)
+
+    lay-item : (e : Token) (es : List Token) → is_front_gap e ≡ false → is_use e ≡ false → ends_line (e ∷ es) ≡ false
+        → ((items : List Token) (places : List (List Origin))
+        → row_after texts items places (e ∷ es) ≡ row_after texts (items ++ e ∷ []) places es) → Lays es → Lays (e ∷ es)
+    lay-item e es solid no_use line more next =
+        lay-solid e es solid line (λ at. goes-on [] [] at refl refl) (λ items own at o. goes-on items own at o.bytes o.inner)
+      where
+        bytes : flat_map item_bytes (items_at lines e) ≡ token_bytes texts (written_for texts used macros) e
+        bytes = search (rules, append-nil)
+
+        inner : list_all is_inner (items_at lines e) ≡ true
+        inner = search rules
+
+        no-places : flat_map mark_place (items_at lines e) ≡ []
+        no-places = search rules
+
+        goes-on : (items : List Token) (own : List Item) (at : At) → flat_map item_bytes own ≡ text items → list_all is_inner own ≡ true
+            → P (row_of items (own_items e at es) (e ∷ es)) (own ++ own_items e at es)
+        goes-on items own at of_own is_own =
+            let rest = items_from (after e at) es in
+            subst (λ row. P row (own ++ own_items e at es))
+            (sym (more items _ ∙ ap (λ places. row_after texts (items ++ e ∷ []) places es)
+            (flat_map-append mark_place (items_at lines e) rest ∙ ap (λ places. places ++ flat_map mark_place rest) no-places)))
+            (subst (P _) (append_assoc own (items_at lines e) rest)
+            (next.within (items ++ e ∷ []) (own ++ items_at lines e) (after e at)
+            (more-open items own (items_at lines e) e _ es of_own is_own bytes inner no_use refl refl)))
+
+    lay-use : (line occurrence : ℕ) (es : List Token) → Lays es → Lays (token.UseOf line occurrence ∷ es)
+    lay-use line occurrence es next =
+        lay-solid _ es refl refl first (λ items own at o. close items _ own _ at _ _ o (no-use items own at _ o) (first at))
+      where
+        first : (at : At) → let e : Token = token.UseOf line occurrence in
+            P (row_of [] (own_items e at es) (e ∷ es)) (own_items e at es)
+        first at = of_use _ _ es _ _ _ (OfUse line occurrence) (of_mark _ _ _ (next.closed (after (token.UseOf line occurrence) at) refl))
+
+    lay-macros : (line : ℕ) (es : List Token) → Lays es → Lays (token.AllMacros line ∷ es)
+    lay-macros line es next =
+        lay-solid _ es refl refl first (λ items own at o. close items _ own _ at _ _ o (or_right _ _ refl) (first at))
+      where
+        first : (at : At) → let e : Token = token.AllMacros line in
+            P (row_of [] (own_items e at es) (e ∷ es)) (own_items e at es)
+        first at = of_use _ _ es _ _ _ (OfMacros line) (of_mark _ _ _ (next.closed (after (token.AllMacros line) at) refl))
+
+    lays : (es : List Token) → Lays es
+    lays [] = record {
+      closed = λ at is. at-end at;
+      within = λ items own at o. subst (λ row. P row (own ++ items_from at [])) (append-nil (map OfPart (group_before [] items)))
+          (close items [] own _ at [] [] o (meets-end items [] own at [] o refl) (at-end at));
+    }
+    lays (token.White ∷ es) = lay-white es (lays es)
+    lays (token.LineEnd line ∷ es) = lay-end line es (lays es)
+    lays (token.UseOf line occurrence ∷ es) = lay-use line occurrence es (lays es)
+    lays (token.AllMacros line ∷ es) = lay-macros line es (lays es)
+    lays (e ∷ es) = lay-item e es refl refl refl (λ items places. refl) (lays es)
+
+    pub piece-lays : (line : ℕ) (es : List Token)
+        → P (row_of [] (part_items lines line es) (part_tokens texts es)) (part_items lines line es)
+    piece-lays line es =
+        subst (λ xs. P (row_of [] xs (part_tokens texts es)) xs) (sym (part_items-by_origin lines line es))
+        ((lays (part_tokens texts es)).closed (record { before = None; white = false; turn = _; counted = origin_at lines line }) refl)
