@@ -25,7 +25,8 @@ PAGES = {
     'docs/names.md': [
         'tangle_text/NameBytes', 'tangle_lexer/Names', 'tangle_lexer/Occurrences', 'tangle_names'],
     'docs/tokens.md': [
-        'c_tokens', 'c_lines', 'tangle_c_tokens', 'tangle_c_lines', 'ctangle_cli/WhatTheCompilerReads'],
+        'c_tokens', 'c_lines', 'tangle_c_tokens', 'tangle_c_lines',
+        'ctangle_cli/WhatTheCompilerReads'],
     'docs/graphs.md': ['digraph'],
     'docs/expansion.md': ['tangle_bodies', 'tangle_expansion', 'tangle_graph'],
     'docs/output.md': [
@@ -432,8 +433,11 @@ def page(crates):
     for name in PAGES:
         texts.append('\n## `%s`\n' % name + ('\n%s\n' % NOTES[name] if name in NOTES else ''))
         parts = [Part(definitions, definitions.specs[at]) for at in files_of(crates, name)]
-        texts += [part.text() + (made_of(definitions, part) if part.specs.place() in LEADING else '')
-                  for part in parts if part.listed()]
+        for part in parts:
+            if part.listed():
+                texts.append(part.text())
+                if part.specs.place() in LEADING:
+                    texts.append(made_of(definitions, part))
     count, others = unlisted_in(definitions)
     texts.append(BOTTOM % count)
     texts += ['- `%s`: %s\n' % (crate, coded(sorted(others[crate]))) for crate in sorted(others)]
