@@ -18,8 +18,7 @@ from sources import crates_in, exported_of, functions_in
 # The page that explains a crate, or a file as CRATE/FILE, which goes before its crate.
 PAGES = {
     'PROOFS.md': [
-        'tangle_session/Headline', 'tangle_session/Sessions', 'ctangle_cli/Histories',
-        'tangle_streams'],
+        'tangle_session/Headline', 'tangle_session/Sessions', 'tangle_streams'],
     'docs/reading.md': ['tangle_files', 'tangle_lines'],
     'docs/scanning.md': ['tangle_text', 'tangle_lexer', 'tangle_scan'],
     'docs/names.md': [

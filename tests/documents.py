@@ -144,10 +144,10 @@ PLANTED = {
         'tangle_session', 'session.rt', '        let mut work = Work::new(alloc);\n',
         '        write_text(&expansion, &analysis.numbers, &mut sink)?;\n        let mut work = Work::new(alloc);\n'),
     'a second session is started for a list of edits': (
-        'tangle_session', 'session.rt', '        let marks = marks_after(&self.roles, edits);\n',
+        'tangle_session', 'session.rt', '        let marks = mode_after(&self.roles, edits);\n',
         '        if let (Ok(files), Ok(roles)) = (self.state.files.copy(), roles_of(&self.roles)) {\n'
         '            drop(Session::start(self.alloc, files, roles));\n        }\n'
-        '        let marks = marks_after(&self.roles, edits);\n'),
+        '        let marks = mode_after(&self.roles, edits);\n'),
     'a session holds the bytes of its outputs': (
         'tangle_session', 'session.rt', '    alloc: Global,\n}\n',
         '    alloc: Global,\n    outputs: IoSink<Vec<u8>>,\n}\n', '        self.state = next;\n',

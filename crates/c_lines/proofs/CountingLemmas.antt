@@ -3,8 +3,9 @@ use Rattle.std.proofs.Common.{rules, arith}
 use Rattle.std.proofs.lemmas.Bool.Decides.{nat_tests}
 use Rattle.std.proofs.Common.{◌≡◌, ℕ, Bool, true, false, List, [], ◌∷◌, ◌++◌, map, drop, length}
 use Rattle.std.proofs.Common.{refl, ap, sym, subst, ◌∙◌}
-use Rattle.std.specs.Prelude.{◌||◌, if◌then◌else◌, filter, flat_map}
+use Rattle.std.specs.Prelude.{◌||◌, filter, flat_map}
 use Rattle.std.specs.Str.{bytes_eq}
+use Rattle.std.proofs.lemmas.Bool.{cond_both}
 use Rattle.std.proofs.lemmas.List.{map-append, append_assoc}
 use Rattle.std.proofs.lemmas.Slice.Eq.{bytes_eq-Decides}
 use Rattle.c_tokens.specs.Bytes.{line_feed}
@@ -26,10 +27,6 @@ tokens_of found = map (λ read. read.token) found
 with_places-texts : (ps : List Place) (es : List (List ℕ)) → map (λ e. e.text) (with_places ps es) ≡ es
 with_places-texts ps [] = refl
 with_places-texts ps (e ∷ es) = ap (λ more. e ∷ more) (with_places-texts (drop (length e) ps) es)
-
-if-same : {A : Type 0} (b : Bool) (x : A) → (if b then x else x) ≡ x
-if-same true x = refl
-if-same false x = refl
 
 -- a line feed is no token
 line-feed-no-token : (e : List ℕ) → bytes_eq e (line_feed ∷ []) ≡ true → is_token e ≡ false
@@ -62,7 +59,7 @@ reads-tokens : (count : LineCount) (ls : List LineOfTokens) → tokens_of (reads
 reads-tokens count [] = refl
 reads-tokens count (line ∷ ls) =
     let words : List (List ℕ) = directive line.tokens in
-    rw (if-same {A = List Bool} (begins_group words || turns_group words) []) (rw (read-after words) (
+    rw (cond_both (begins_group words || turns_group words) [] [] (λ (choices : List Bool). choices ≡ []) (λ _. refl) (λ _. refl)) (rw (read-after words) (
     map-append (λ read. read.token) (read_of count line.tokens) (reads [] true (count_after count line.end words) ls)
     ∙ ap (λ t. t ++ tokens_of (reads [] true (count_after count line.end words) ls))
     (read-texts count (begins_directive line.tokens) line.tokens)

@@ -6,6 +6,8 @@ use Rattle.std.proofs.Common.{append-nil, append_assoc}
 use Rattle.std.specs.Prelude.{◌==◌, ◌&&◌, ◌||◌, not, if◌then◌else◌}
 use Rattle.std.specs.List.{AllByRecursion, list_any, list_all}
 use Rattle.std.proofs.lemmas.Bool.{not-true, false≢true}
+use Rattle.std.proofs.lemmas.List.Folds.{list_any-append}
+use Rattle.std.proofs.lemmas.List.Elements.{All-append, All-from_recursion, recursion_from_All}
 use Rattle.c_tokens.specs.Bytes.{line_feed, backslash, is_white}
 use Rattle.c_tokens.specs.Grammar.{is_token, is_element, is_punctuator}
 use Rattle.c_tokens.specs.Reading.{spliced}
@@ -13,7 +15,7 @@ use Rattle.c_tokens.specs.Borders.{is_whole, have_border, keep_lines}
 use Rattle.c_tokens.specs.Borders.{last_byte}
 use Rattle.c_lines.specs.JoinedLines.{joined_lines, LinesAreWhole}
 use Rattle.c_tokens.proofs.BorderLemmas.{border-elements}
-use Rattle.c_tokens.proofs.TouchingLemmas.{spliced-both}
+use Rattle.c_tokens.proofs.ElementLemmas.{spliced-both}
 use Rattle.std.proofs.lemmas.Bool.Decides.{nat_tests}
 
 -- backslashes before line feeds. `after` says whether a backslash is directly before these bytes.
@@ -92,67 +94,48 @@ pub one-more : (t : List ℕ) (b : ℕ) → IsOneLine t → (b == line_feed && k
     → IsOneLine (t ++ b ∷ [])
 one-more t b one more = grind (arith, nat_tests, taken-append false t (b ∷ []), keep-is t (line_feed ∷ []))
 
--- the first line of these bytes, what is after it, and the lines after it
+-- the first line of these bytes and what is after it, which begins with its line feed
 
-abbrev first_line : Bool → List ℕ → List ℕ
-first_line after [] = []
-first_line after (b ∷ bs) = if b == line_feed && not after then [] else b ∷ first_line (b == backslash) bs
+abbrev cut_line : Bool → List ℕ → List ℕ × List ℕ
+cut_line after [] = ([], [])
+cut_line after (b ∷ bs) =
+    let rest = cut_line (b == backslash) bs in if b == line_feed && not after then ([], b ∷ bs) else (b ∷ rest.0, rest.1)
 
-abbrev rest_of : Bool → List ℕ → List ℕ
-rest_of after [] = []
-rest_of after (b ∷ bs) = if b == line_feed && not after then b ∷ bs else rest_of (b == backslash) bs
+abbrev lines_after : List ℕ → List (List ℕ)
+lines_after [] = []
+lines_after (b ∷ bs) = joined_lines [] bs
 
-abbrev lines_after : Bool → List ℕ → List (List ℕ)
-lines_after after [] = []
-lines_after after (b ∷ bs) =
-    if b == line_feed && not after then joined_lines [] bs else lines_after (b == backslash) bs
-
-pub joined-is : (line bs : List ℕ) → let after = ends_back false line in
-    joined_lines line bs ≡ (line ++ first_line after bs) ∷ lines_after after bs
+pub joined-is : (line bs : List ℕ) → let cut = cut_line (ends_back false line) bs in joined_lines line bs ≡ (line ++ cut.0) ∷ lines_after cut.1
 joined-is line [] = ap (λ l. l ∷ []) (sym (append-nil line))
 joined-is line (b ∷ bs) =
     grind (arith, nat_tests, keep-is line (line_feed ∷ []), back-append false line (b ∷ []), joined-is (line ++ b ∷ []) bs, append_assoc line (b ∷ []), append-nil line)
 
-first-taken : (after : Bool) (a b : List ℕ) → feeds_taken after a ≡ true
-    → first_line after (a ++ b) ≡ a ++ first_line (ends_back after a) b
-first-taken after [] b taken = refl
-first-taken after (x ∷ a) b taken = grind (arith, nat_tests, first-taken (x == backslash) a b)
-
-after-taken : (after : Bool) (a b : List ℕ) → feeds_taken after a ≡ true
-    → lines_after after (a ++ b) ≡ lines_after (ends_back after a) b
-after-taken after [] b taken = refl
-after-taken after (x ∷ a) b taken = grind (arith, nat_tests, after-taken (x == backslash) a b)
+cut-taken : (after : Bool) (a b : List ℕ) → feeds_taken after a ≡ true →
+    let cut = cut_line (ends_back after a) b in cut_line after (a ++ b) ≡ (a ++ cut.0, cut.1)
+cut-taken after [] b taken = refl
+cut-taken after (x ∷ a) b taken = grind (arith, nat_tests, cut-taken (x == backslash) a b)
 
 -- what is directly before bytes matters only if they begin with a line feed
-
-first-same : (after : Bool) (b : List ℕ) → (after && begins_feed b) ≡ false → first_line after b ≡ first_line false b
-first-same after [] same = refl
-first-same after (c ∷ r) same = grind (arith, nat_tests)
-
-after-same : (after : Bool) (b : List ℕ) → (after && begins_feed b) ≡ false → lines_after after b ≡ lines_after false b
-after-same after [] same = refl
-after-same after (c ∷ r) same = grind (arith, nat_tests)
+cut-same : (after : Bool) (b : List ℕ) → (after && begins_feed b) ≡ false → cut_line after b ≡ cut_line false b
+cut-same after b same = grind (arith, nat_tests)
 
 -- a text of one line, and bytes after it
-joined-both : (a b : List ℕ) → IsOneLine a → keep_lines a b ≡ true
-    → joined_lines [] (a ++ b) ≡ (a ++ first_line false b) ∷ lines_after false b
-joined-both a b one kept =
-    search (rules, not-true, keep-is, joined-is, nat_tests, first-taken, after-taken, first-same, after-same)
+joined-both : (a b : List ℕ) → IsOneLine a → keep_lines a b ≡ true →
+    let cut = cut_line false b in joined_lines [] (a ++ b) ≡ (a ++ cut.0) ∷ lines_after cut.1
+joined-both a b one kept = search (rules, not-true, keep-is, joined-is, cut-taken, cut-same)
 
--- the first line and what is after it
+cut-all : (after : Bool) (b : List ℕ) → let cut = cut_line after b in b ≡ cut.0 ++ cut.1
+cut-all after [] = refl
+cut-all after (c ∷ r) = grind (arith, nat_tests, cut-all (c == backslash) r)
 
-first-rest : (after : Bool) (b : List ℕ) → b ≡ first_line after b ++ rest_of after b
-first-rest after [] = refl
-first-rest after (c ∷ r) = grind (arith, nat_tests, first-rest (c == backslash) r)
+cut-kept : (after : Bool) (b : List ℕ) → let cut = cut_line after b in (ends_back after cut.0 && begins_feed cut.1) ≡ false
+cut-kept after [] = grind (arith, nat_tests)
+cut-kept after (c ∷ r) = grind (arith, nat_tests, cut-kept (c == backslash) r)
 
-rest-kept : (after : Bool) (b : List ℕ) → (ends_back after (first_line after b) && begins_feed (rest_of after b)) ≡ false
-rest-kept after [] = grind (arith, nat_tests)
-rest-kept after (c ∷ r) = grind (arith, nat_tests, rest-kept (c == backslash) r)
-
-first-spliced : (b : List ℕ) → spliced b ≡ spliced (first_line false b) ++ spliced (rest_of false b)
-first-spliced b =
-    ap spliced (first-rest false b) ∙ spliced-both (first_line false b) (rest_of false b)
-    (keep-is (first_line false b) (rest_of false b) ∙ ap not (rest-kept false b))
+cut-spliced : (b : List ℕ) → let cut = cut_line false b in spliced b ≡ spliced cut.0 ++ spliced cut.1
+cut-spliced b =
+    let cut = cut_line false b in
+    ap spliced (cut-all false b) ∙ spliced-both cut.0 cut.1 (keep-is cut.0 cut.1 ∙ ap not (cut-kept false b))
 
 border-front : (a b c : List ℕ) → have_border a (b ++ c) ≡ true → have_border a b ≡ true
 border-front a b c border = search rules
@@ -162,40 +145,29 @@ keep-front a b c kept = search rules
 
 -- whole texts
 
-none-append : (test : List ℕ → Bool) (xs ys : List (List ℕ)) → list_any test xs ≡ false
-    → list_any test (xs ++ ys) ≡ list_any test ys
-none-append test [] ys none = refl
-none-append test (x ∷ xs) ys none = grind (arith, nat_tests, none-append test xs ys)
-
 pub whole-apart : (a b : List ℕ) → is_whole a ≡ true → keep_lines a b ≡ true
     → have_border (spliced a) (spliced b) ≡ true → is_whole (a ++ b) ≡ is_whole b
-whole-apart a b whole kept border = search (rules, not-true, spliced-both, border-elements, none-append)
+whole-apart a b whole kept border = search (rules, not-true, spliced-both, border-elements, list_any-append)
 
 pub lines-apart : (a b : List ℕ) → is_whole a ≡ true → IsOneLine a → keep_lines a b ≡ true
     → have_border (spliced a) (spliced b) ≡ true → LinesAreWhole b → LinesAreWhole (a ++ b)
 lines-apart a b whole one kept border lines =
-    let first = first_line false b in
+    let cut = cut_line false b in
     let more = subst (AllByRecursion (λ line. is_whole line ≡ true)) (joined-is [] b) lines in
     subst (AllByRecursion (λ line. is_whole line ≡ true)) (sym (joined-both a b one kept)) (
-      whole-apart a first whole
-          (keep-front a first (rest_of false b) (subst (λ t. keep_lines a t ≡ true) (first-rest false b) kept))
-          (border-front (spliced a) (spliced first) (spliced (rest_of false b))
-          (subst (λ t. have_border (spliced a) t ≡ true) (first-spliced b) border)) ∙ more.0,
+      whole-apart a cut.0 whole (keep-front a cut.0 cut.1 (subst (λ t. keep_lines a t ≡ true) (cut-all false b) kept))
+          (border-front (spliced a) (spliced cut.0) (spliced cut.1)
+          (subst (λ t. have_border (spliced a) t ≡ true) (cut-spliced b) border)) ∙ more.0,
       more.1,
     )
 
 -- a text of one line alone
+border-nothing : (a : List ℕ) → have_border a [] ≡ true
+border-nothing a = search rules
+
 pub lines-one : (a : List ℕ) → is_whole a ≡ true → IsOneLine a → LinesAreWhole a
 lines-one a whole one =
-    subst LinesAreWhole (append-nil a) (lines-apart a [] whole one (kept a) (none (spliced a)) (refl, tt))
-  where
-    kept : (a : List ℕ) → keep_lines a [] ≡ true
-    kept [] = refl
-    kept (x ∷ a) = refl
-
-    none : (a : List ℕ) → have_border a [] ≡ true
-    none [] = refl
-    none (x ∷ a) = refl
+    subst LinesAreWhole (append-nil a) (lines-apart a [] whole one (search rules) (border-nothing (spliced a)) (refl, tt))
 
 -- texts with a line feed between them
 
@@ -206,8 +178,7 @@ joined-feed line (x ∷ a) b ends = grind (arith, nat_tests, joined-feed [] a b,
 
 all-append : {X : Type 0} (P : X → Type 0) (xs ys : List X) → AllByRecursion P xs → AllByRecursion P ys
     → AllByRecursion P (xs ++ ys)
-all-append P [] ys h k = k
-all-append P (x ∷ xs) ys h k = (h.0, all-append P xs ys h.1 k)
+all-append P xs ys h k = recursion_from_All P _ (All-append P xs ys (All-from_recursion P xs h) (All-from_recursion P ys k))
 
 pub lines-feed : (a b : List ℕ) → keep_lines a (line_feed ∷ []) ≡ true → LinesAreWhole a → LinesAreWhole b
     → LinesAreWhole (a ++ line_feed ∷ b)

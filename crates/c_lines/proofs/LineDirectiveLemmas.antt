@@ -2,27 +2,27 @@
 use Rattle.std.proofs.Common.{rules}
 use Rattle.std.proofs.Common.{◌≡◌, ℕ, true, false, List, [], ◌∷◌, ◌++◌, map, drop, length, codes, arith}
 use Rattle.std.proofs.Common.{refl, ap, ◌∙◌}
-use Rattle.std.specs.Prelude.{◌&&◌, not, filter}
+use Rattle.std.specs.Prelude.{◌&&◌, ◌==◌, not, filter}
 use Rattle.std.specs.List.{list_any, list_all}
 use Rattle.std.proofs.lemmas.Bool.{and_parts, and_from, or_right, false≢true}
 use Rattle.std.proofs.lemmas.Bool.Decides.{nat_tests}
-use Rattle.c_tokens.specs.Bytes.{space, is_digit}
-use Rattle.c_tokens.specs.Grammar.{is_token, is_element, is_punctuator, is_string, is_number, is_number_byte, begins_number}
-use Rattle.c_tokens.specs.Grammar.{signs_follow_exponents, apostrophes_separate, has_universal_names}
+use Rattle.c_tokens.specs.Bytes.{line_feed, space, is_digit, is_word_byte}
+use Rattle.c_tokens.specs.Grammar.{is_token, is_element, is_punctuator, is_string, is_number}
+use Rattle.c_tokens.specs.Grammar.{apostrophes_separate}
 use Rattle.c_tokens.specs.Reading.{spliced, elements_from, elements, tokens}
 use Rattle.c_tokens.specs.Borders.{is_unfinished, is_whole, keep_lines, have_border, has_bytes}
 use Rattle.c_lines.specs.Counting.{Place, PlacedElement, places, with_places, tokens_at, begins_directive, directive}
-use Rattle.c_tokens.proofs.GrammarLemmas.{number-from}
-use Rattle.c_tokens.proofs.TouchingLemmas.{one-element, plain-token, token-element}
+use Rattle.c_tokens.proofs.GrammarLemmas.{all-weaker}
+use Rattle.c_tokens.proofs.NumberLemmas.{separated-number, word-separated, separates-word}
+use Rattle.c_tokens.proofs.ElementLemmas.{one-element, plain-token, token-element}
 use Rattle.c_tokens.proofs.BorderLemmas.{number-token, apart-tokens}
 use Rattle.c_lines.proofs.JoinedLemmas.{IsInLine, spliced-other, white-next, white-before}
 
 -- texts without line feeds
 
 pub spliced-line : (t : List ℕ) → IsInLine t → spliced t ≡ t
-spliced-line [] line = refl
-spliced-line (b ∷ []) line = refl
 spliced-line (b ∷ c ∷ t) line = grind (arith, nat_tests, spliced-line (c ∷ t))
+spliced-line t line = refl
 
 -- a text that is one token
 
@@ -30,32 +30,16 @@ one-token : (b : ℕ) (t : List ℕ) → IsInLine (b ∷ t) → is_token (b ∷ 
 one-token b t line is = search (rules, spliced-line, one-element, token-element)
 
 pub digits-line : (t : List ℕ) → list_all is_digit t ≡ true → IsInLine t
-digits-line [] all = refl
-digits-line (b ∷ t) all = grind (arith, nat_tests, digits-line t)
+digits-line = all-weaker is_digit (λ b. not (b == line_feed)) (λ b digit. grind (arith, nat_tests))
 
-digits-bytes : (t : List ℕ) → list_all is_digit t ≡ true → list_all is_number_byte t ≡ true
-digits-bytes [] all = refl
-digits-bytes (b ∷ t) all = grind (arith, nat_tests, digits-bytes t)
-
-digits-signs : (t : List ℕ) → list_all is_digit t ≡ true → signs_follow_exponents t ≡ true
-digits-signs [] all = refl
-digits-signs (b ∷ []) all = refl
-digits-signs (b ∷ c ∷ t) all = grind (arith, nat_tests, digits-signs (c ∷ t))
-
-digits-separate : (t : List ℕ) → list_all is_digit t ≡ true → apostrophes_separate t ≡ true
-digits-separate [] all = refl
-digits-separate (b ∷ []) all = grind (arith, nat_tests)
-digits-separate (b ∷ c ∷ t) all = grind (arith, nat_tests, digits-separate (c ∷ t))
-
-digits-names : (t : List ℕ) → list_all is_digit t ≡ true → has_universal_names t ≡ true
-digits-names [] all = refl
-digits-names (b ∷ t) all = grind (arith, nat_tests, digits-names t)
-
-digits-begin : (b : ℕ) (t : List ℕ) → list_all is_digit (b ∷ t) ≡ true → begins_number (b ∷ t) ≡ true
-digits-begin b t all = search (rules, and_parts)
+words-separate : (t : List ℕ) → list_all is_word_byte t ≡ true → apostrophes_separate t ≡ true
+words-separate [] all = refl
+words-separate (b ∷ t) all = search (rules, and_parts, separates-word, words-separate t)
 
 digits-number : (b : ℕ) (t : List ℕ) → list_all is_digit (b ∷ t) ≡ true → is_number (b ∷ t) ≡ true
-digits-number b t all = search (rules, number-from, digits-begin, digits-bytes, digits-signs, digits-separate, digits-names)
+digits-number b t all =
+    let words = all-weaker is_digit is_word_byte (λ b digit. grind (arith, nat_tests)) (b ∷ t) all in
+    separated-number b t (and_parts (is_digit b) (list_all is_digit t) all).0 (word-separated (b ∷ t) words) (words-separate (b ∷ t) words)
 
 digits-token : (b : ℕ) (t : List ℕ) → list_all is_digit (b ∷ t) ≡ true → tokens (b ∷ t) ≡ (b ∷ t) ∷ []
 digits-token b t all = one-token b t (digits-line (b ∷ t) all) (number-token (b ∷ t) (digits-number b t all))

@@ -1,6 +1,6 @@
 -- A line feed after a whole text ends its line: the line and what is after it are read each by itself.
 use Rattle.std.proofs.Common.{rules}
-use Rattle.std.proofs.Common.{◌≡◌, ℕ, zero, suc, ◌+◌, ◌≤◌, Bool, true, List, [], ◌∷◌, ◌++◌, take, drop, length, ◌-◌}
+use Rattle.std.proofs.Common.{◌≡◌, ℕ, zero, suc, ◌≤◌, Bool, true, List, [], ◌∷◌, ◌++◌, take, drop, length, ◌-◌}
 use Rattle.std.proofs.Common.{refl, ap, sym, ◌∙◌, append_assoc, append-nil, arith, length-append, length-drop}
 use Rattle.std.specs.Prelude.{◌&&◌, not, ◌==◌, filter, Some, None}
 use Rattle.std.specs.List.{list_all, concat, join_with_byte, AllByRecursion}
@@ -18,7 +18,7 @@ use Rattle.c_tokens.specs.Borders.{is_whole, last_byte, keep_lines, has_bytes}
 use Rattle.c_lines.specs.Counting.{Place, PlacedElement, next_place, place_after, places}
 use Rattle.c_lines.specs.Counting.{with_places, elements_at, tokens_at, lines, lines_from}
 use Rattle.c_lines.specs.JoinedLines.{joined_lines, LinesAreWhole, lines_of_each}
-use Rattle.c_tokens.proofs.TouchingLemmas.{spliced-both}
+use Rattle.c_tokens.proofs.ElementLemmas.{spliced-both}
 use Rattle.c_lines.proofs.JoinedLemmas.{IsOneLine, taken-spliced, one-more, joined-is, spliced-other, white-next, white-before}
 use Rattle.c_tokens.proofs.BorderLemmas.{border-elements}
 use Rattle.c_tokens.proofs.LongestLemmas.{longest-one, elements-all}
@@ -158,14 +158,8 @@ lines_of_each-more : (p : Place) (line bs : List ℕ) → lines_of_each p (line 
     ≡ record { tokens = tokens_at p line; end = Some (place_after p line) } ∷ lines_of_each (next_place (place_after p line) line_feed) (joined_lines [] bs)
 lines_of_each-more p line bs = rw (joined-is [] bs) refl
 
-abbrev AreWhole : List (List ℕ) → Type 0
-AreWhole ls = AllByRecursion (λ l. is_whole l ≡ true) ls
-
-abbrev IsReadEach : List ℕ → List ℕ → Type 0
-IsReadEach line text = (p : Place) → IsOneLine line → AreWhole (joined_lines line text) →
+each-line-from : (line text : List ℕ) (p : Place) → IsOneLine line → AllByRecursion (λ l. is_whole l ≡ true) (joined_lines line text) →
     lines_from p (line ++ text) ≡ lines_of_each p (joined_lines line text)
-
-each-line-from : (line text : List ℕ) → IsReadEach line text
 each-line-from line [] p one whole = ap (lines_from p) (append-nil line) ∙ line-last p line one
 each-line-from line (b ∷ bs) p one whole =
     grind (arith, nat_tests, each-line-from [] bs (next_place (place_after p line) line_feed) refl, each-line-from (line ++ b ∷ []) bs p, one-more line b one, line-first p line bs, lines_of_each-more p line bs, append_assoc line (b ∷ []) bs)

@@ -3,7 +3,7 @@ use Rattle.std.proofs.Common.{rules}
 use Rattle.std.proofs.Common.{arith}
 use Rattle.std.proofs.Common.{◌≡◌, ℕ, Bool, true, false, List, [], ◌∷◌, ◌++◌, codes}
 use Rattle.std.proofs.Common.{refl, ap, ◌∙◌}
-use Rattle.std.specs.Prelude.{◌&&◌, ◌||◌, not, ◌==◌, if◌then◌else◌}
+use Rattle.std.specs.Prelude.{◌&&◌, ◌||◌, not, ◌==◌}
 use Rattle.std.specs.List.{list_any, list_all}
 use Rattle.std.specs.Str.{bytes_eq}
 use Rattle.std.proofs.lemmas.Bool.{and_parts, or_cases, false≢true}
@@ -15,13 +15,12 @@ use Rattle.c_tokens.specs.Grammar.{signs_follow_exponents, apostrophes_separate,
 use Rattle.c_tokens.specs.Grammar.{ends_quoted, is_quoted, is_character}
 use Rattle.c_tokens.specs.Grammar.{is_string, has_prefix, is_character_constant, is_string_literal, punctuators}
 use Rattle.c_tokens.specs.Grammar.{is_punctuator}
+use Rattle.c_tokens.specs.Borders.{last_byte}
 use Rattle.std.proofs.lemmas.Bool.Decides.{nat_tests}
 
--- what a test says of each byte of a list, it says of a byte in it
-pub listed : (test : ℕ → Bool) (bs : List ℕ) → list_all test bs ≡ true → (b : ℕ) → list_any (λ c. b == c) bs ≡ true →
-    test b ≡ true
-listed test [] all b any = absurd (false≢true any)
-listed test (c ∷ bs) all b any = grind (arith, nat_tests, listed test bs)
+pub all-weaker : (f g : ℕ → Bool) → ((b : ℕ) → f b ≡ true → g b ≡ true) → (t : List ℕ) → list_all f t ≡ true → list_all g t ≡ true
+all-weaker f g weaker [] h = refl
+all-weaker f g weaker (b ∷ t) h = grind (arith, weaker b, all-weaker f g weaker t)
 
 -- identifiers and numbers
 
@@ -37,11 +36,8 @@ pub number-from : (t : List ℕ) → begins_number t ≡ true → list_all is_nu
     apostrophes_separate t ≡ true → has_universal_names t ≡ true → is_number t ≡ true
 number-from t begins bytes signs separate names = search rules
 
-pub number-start : (t : List ℕ) → is_number t ≡ true → (begins_number t && list_all is_number_byte t) ≡ true
-number-start t h = search rules
-
 pub number-bytes : (t : List ℕ) → is_number t ≡ true → list_all is_number_byte t ≡ true
-number-bytes t h = (and_parts (begins_number t) (list_all is_number_byte t) (number-start t h)).1
+number-bytes t h = (number-parts t h).1
 
 pub number-first : (b : ℕ) (bs : List ℕ) → is_number (b ∷ bs) ≡ true → (is_digit b || b == full_stop) ≡ true
 number-first b bs h = grind (arith, nat_tests)
@@ -100,40 +96,23 @@ pub literal-from_string : (t : List ℕ) → is_string_literal t ≡ true → Is
 literal-from_string t h =
     literal double_quote is_string refl (λ t h. h) ([] ∷ codes "u8" ∷ codes "u" ∷ codes "U" ∷ codes "L" ∷ []) refl t h
 
-pub literal-first : (b : ℕ) (bs : List ℕ) → IsLiteral (b ∷ bs) → (is_quote b || is_prefix_byte b) ≡ true
-literal-first b bs l = grind (arith, nat_tests)
-
 -- the last byte is the closing quote
 
-ends-last : (quote : ℕ) (a : List ℕ) (s : ℕ) → ends_quoted quote (a ++ s ∷ []) ≡ true → s ≡ quote
-ends-last quote [] s h = eqb-true s quote h
-ends-last quote (b ∷ []) s h = grind (arith, nat_tests)
-ends-last quote (b ∷ c ∷ a) s h = grind (arith, nat_tests, ends-last quote a s, ends-last quote (c ∷ a) s)
+ends-last : (quote b : ℕ) (a : List ℕ) → ends_quoted quote (b ∷ a) ≡ true → last_byte b a ≡ quote
+ends-last quote b [] h = eqb-true b quote h
+ends-last quote b (c ∷ []) h = grind (arith, nat_tests)
+ends-last quote b (c ∷ d ∷ a) h = grind (arith, nat_tests, ends-last quote d a, ends-last quote c (d ∷ a))
 
-pub literal-last : (a : List ℕ) (s : ℕ) → IsLiteral (a ++ s ∷ []) → is_quote s ≡ true
-literal-last a s l = go l.prefix a l.has
+pub literal-last : (x : ℕ) (a : List ℕ) → IsLiteral (x ∷ a) → is_quote (last_byte x a) ≡ true
+literal-last x a l = go l.prefix x a l.has
   where
-    go : (prefix a : List ℕ) → has_prefix prefix (is_quoted l.quote) (a ++ s ∷ []) ≡ true → is_quote s ≡ true
-    go [] [] has = grind (arith, nat_tests)
-    go [] (b ∷ a) has = search (rules, ends-last, and_parts, l.quotes)
-    go (p ∷ []) [] has = grind (arith, nat_tests)
-    go (p ∷ q ∷ ps) [] has = grind (arith, nat_tests)
-    go (p ∷ ps) (b ∷ a) has = search (rules, and_parts, go ps a)
-
--- after the word bytes at the front stand a quote and what it encloses
-pub literal-word : (a : List ℕ) (b : ℕ) (bs : List ℕ) → list_all is_word_byte a ≡ true → is_word_byte b ≡ false →
-    IsLiteral (a ++ b ∷ bs) → (is_quote b ≡ true) × (ends_quoted b bs ≡ true)
-literal-word a b bs word other l = go l.prefix a l.word word l.has
-  where
-    go : (prefix a : List ℕ) → list_all is_word_byte prefix ≡ true → list_all is_word_byte a ≡ true →
-        has_prefix prefix (is_quoted l.quote) (a ++ b ∷ bs) ≡ true → (is_quote b ≡ true) × (ends_quoted b bs ≡ true)
-    go [] [] words word has =
-        let parts = and_parts (b == l.quote) (ends_quoted l.quote bs) has in
-        let same = eqb-true b l.quote parts.0 in
-        (ap is_quote same ∙ l.quotes, ap (λ k. ends_quoted k bs) same ∙ parts.1)
-    go [] (x ∷ a) words word has = grind (arith, nat_tests)
-    go (p ∷ ps) [] words word has = grind (arith, nat_tests)
-    go (p ∷ ps) (x ∷ a) words word has = search (rules, and_parts, go ps a)
+    go : (prefix : List ℕ) (x : ℕ) (a : List ℕ) → has_prefix prefix (is_quoted l.quote) (x ∷ a) ≡ true → is_quote (last_byte x a) ≡ true
+    go [] x [] has = grind (arith, nat_tests)
+    go [] x (b ∷ a) has =
+        ap is_quote (ends-last l.quote b a (and_parts (x == l.quote) (ends_quoted l.quote (b ∷ a)) has).1) ∙ l.quotes
+    go (p ∷ []) x [] has = grind (arith, nat_tests)
+    go (p ∷ q ∷ ps) x [] has = grind (arith, nat_tests)
+    go (p ∷ ps) x (b ∷ a) has = search (rules, and_parts, go ps b a)
 
 -- a quoted text ends at its first closing quote
 pub ends-once : (quote : ℕ) (a : List ℕ) (c : ℕ) (q : List ℕ) → (quote == backslash) ≡ false → ends_quoted quote a ≡ true →

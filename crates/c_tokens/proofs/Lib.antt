@@ -1,7 +1,9 @@
 pub mod ReadingLemmas
 pub mod GrammarLemmas
+pub mod NumberLemmas
 pub mod LongerLemmas
-pub mod TouchingLemmas
+pub mod ElementLemmas
 pub mod LongestLemmas
 pub mod BorderLemmas
+pub mod TouchingLemmas
 pub mod WorkedTokens

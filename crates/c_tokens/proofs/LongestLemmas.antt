@@ -7,7 +7,7 @@ use Rattle.std.proofs.lemmas.List.{take-append-drop}
 use Rattle.c_tokens.specs.Grammar.{is_element}
 use Rattle.c_tokens.specs.Reading.{longest, elements_from}
 use Rattle.c_tokens.proofs.ReadingLemmas.{counted, longer}
-use Rattle.c_tokens.proofs.TouchingLemmas.{single-element}
+use Rattle.c_tokens.proofs.ElementLemmas.{single-element}
 use Rattle.std.proofs.lemmas.Bool.Decides.{nat_tests}
 
 pub longest-most : (test : List ℕ → Bool) (b : List ℕ) (n : ℕ) → n ≤ length b → test (take n b) ≡ true → n ≤ longest test b

@@ -1,7 +1,7 @@
 -- The longest front that passes a test, and the elements of two texts that are written together.
 use Rattle.std.proofs.Common.{rules}
 use Rattle.std.proofs.Common.{◌≡◌, ℕ, ◌+◌, ◌-◌, ◌<◌, ◌≤◌, zero, suc, Bool, true, false, List, [], ◌∷◌, ◌++◌, length}
-use Rattle.std.proofs.Common.{refl, ap, subst, ◌∙◌, get_or, arith}
+use Rattle.std.proofs.Common.{refl, ap, ◌∙◌, arith}
 use Rattle.std.specs.Prelude.{nat_lt, if◌then◌else◌}
 use Rattle.std.proofs.lemmas.Bool.{lt-ltb}
 use Rattle.std.proofs.lemmas.List.{take_at, take-append-le}
@@ -15,10 +15,6 @@ NoLonger test a b = (c : ℕ) (q rest : List ℕ) → b ≡ c ∷ q ++ rest → 
 
 pub no-longer-nothing : (test : List ℕ → Bool) (a : List ℕ) → NoLonger test a []
 no-longer-nothing test a c q rest same = absurd (omega (arith, ap length same))
-
-pub no-longer : (test : List ℕ → Bool) (a : List ℕ) (c : ℕ) (r : List ℕ) → ((q : List ℕ) → test (a ++ c ∷ q) ≡ false) →
-    NoLonger test a (c ∷ r)
-no-longer test a c r none d q rest same = subst (λ k. test (a ++ k ∷ q) ≡ false) (ap (λ l. get_or l 0 0) same) (none q)
 
 abbrev pub counted : (List ℕ → Bool) → ℕ → ℕ → ℕ
 counted test b more = if nat_lt 0 more then more + 1 else if test (b ∷ []) then 1 else 0

@@ -1,100 +1,36 @@
--- The elements of two texts that may touch.
+-- The tokens of two texts that may touch.
 use Rattle.std.proofs.Common.{rules}
-use Rattle.std.proofs.Common.{◌≡◌, ℕ, ◌-◌, Bool, true, false, List, [], ◌∷◌, ◌++◌, codes, refl, ap, sym, ◌∙◌}
-use Rattle.std.proofs.Common.{inl, inr, append-nil, arith, length}
+use Rattle.std.proofs.Common.{◌≡◌, ℕ, Bool, true, false, List, [], ◌∷◌, ◌++◌, refl, ap, sym, ◌∙◌}
+use Rattle.std.proofs.Common.{◌⊎◌, inl, inr, arith, length}
 use Rattle.std.specs.Prelude.{◌&&◌, ◌||◌, not, ◌==◌}
 use Rattle.std.specs.List.{list_any, list_all}
-use Rattle.std.specs.Str.{bytes_eq}
-use Rattle.std.proofs.lemmas.Bool.{and_parts, or_cases, or_left, or_right, and_right, false≢true}
-use Rattle.std.proofs.lemmas.Bool.{not-true, eqb-true}
+use Rattle.std.proofs.lemmas.Bool.{and_parts, or_cases, or_left, or_right}
 use Rattle.std.proofs.lemmas.List.Elements.{filter-append}
-use Rattle.c_tokens.specs.Bytes.{space, backslash, line_feed, double_quote, apostrophe, is_word_byte, is_quote}
-use Rattle.c_tokens.specs.Grammar.{is_identifier_byte, is_identifier, has_universal_names}
-use Rattle.c_tokens.specs.Grammar.{is_quoted, ends_quoted, is_character, is_string}
+use Rattle.c_tokens.specs.Bytes.{full_stop, is_digit, space, backslash, line_feed, is_word_byte, is_quote}
+use Rattle.c_tokens.specs.Grammar.{is_character, is_string}
 use Rattle.c_tokens.specs.Grammar.{is_token, is_comment}
-use Rattle.c_tokens.specs.Grammar.{is_white_character, is_element}
+use Rattle.c_tokens.specs.Grammar.{is_element}
 use Rattle.c_tokens.specs.Reading.{spliced, elements_from, elements, tokens, ends_in_comment}
-use Rattle.c_tokens.specs.Touching.{TextKind, is_separator, is_operator, is_one, is_plain_word, is_plain, IsOfKind}
+use Rattle.c_tokens.specs.Touching.{TextKind, is_separator, is_operator, is_plain_word, is_plain, IsOfKind}
 use Rattle.c_tokens.specs.Borders.{is_plain_byte, last_byte, keep_lines}
 use Rattle.c_tokens.specs.Touching.{kinds_may_touch}
-use Rattle.c_tokens.proofs.ReadingLemmas.{no-longer-nothing, no-longer, elements-front, elements-append}
-use Rattle.c_tokens.proofs.LongerLemmas.{separator-longer, separator-last, comment-open, word-longer, quoted-longer}
-use Rattle.c_tokens.proofs.LongerLemmas.{operator-longer}
+use Rattle.c_tokens.proofs.ReadingLemmas.{elements-append}
+use Rattle.c_tokens.proofs.GrammarLemmas.{IsLiteral, literal-last, literal-from_character, literal-from_string}
+use Rattle.c_tokens.proofs.GrammarLemmas.{number-first}
+use Rattle.c_tokens.proofs.LongerLemmas.{separators, operators, listed-not, all-last-byte}
+use Rattle.c_tokens.specs.Borders.{is_unfinished}
+use Rattle.std.specs.Prelude.{filter}
+use Rattle.c_tokens.specs.Grammar.{is_number}
+use Rattle.c_tokens.proofs.ElementLemmas.{single-element, one-element, plain-element, spliced-both, keep-other, last-append}
+use Rattle.c_tokens.proofs.BorderLemmas.{border-literal, apart-tokens}
+use Rattle.c_tokens.specs.Borders.{is_at_operator, are_apart, is_whole, have_border}
+use Rattle.std.proofs.lemmas.Bool.{both_ways, false_from_ne_true, and_from, or_parts}
 use Rattle.std.proofs.lemmas.Bool.Decides.{nat_tests}
 
--- what is an element
-
-pub single-element : (b : ℕ) → is_element (b ∷ []) ≡ true
-unfolding is_element is_token
-single-element b = grind (arith, nat_tests)
-
-pub comment-element : (t : List ℕ) → is_comment t ≡ true → is_element t ≡ true
-unfolding is_element
-comment-element t h = or_left (is_white_character t || is_comment t) (is_token t) (or_right (is_white_character t) (is_comment t) h)
-
-pub token-element : (t : List ℕ) → is_token t ≡ true → is_element t ≡ true
-unfolding is_element
-token-element t h = or_right (is_white_character t || is_comment t) (is_token t) h
-
-word-identifier-bytes : (a : List ℕ) → list_all is_word_byte a ≡ true → list_all is_identifier_byte a ≡ true
-word-identifier-bytes [] h = refl
-word-identifier-bytes (b ∷ a) h = grind (arith, nat_tests, word-identifier-bytes a)
-
-word-names : (a : List ℕ) → list_all is_word_byte a ≡ true → has_universal_names a ≡ true
-word-names [] h = refl
-word-names (b ∷ a) h = grind (arith, nat_tests, word-names a)
-
-word-identifier : (t : List ℕ) → is_plain_word t ≡ true → is_identifier t ≡ true
-word-identifier t h = search (rules, word-identifier-bytes, word-names)
-
-pub plain-token : (t : List ℕ) → is_plain t ≡ true → is_token t ≡ true
-unfolding is_token
-plain-token t h = grind (arith, nat_tests, or_cases, word-identifier)
-
-pub plain-element : (t : List ℕ) → is_plain t ≡ true → is_element t ≡ true
-plain-element t h = token-element t (plain-token t h)
-
--- plain texts
-
--- a plain text is a word, or a quote and what ends with it
-plain-cases : {P : Type 0} (b : ℕ) (a : List ℕ) → is_plain (b ∷ a) ≡ true → (is_plain_word (b ∷ a) ≡ true → P) →
-    (is_quote b ≡ true → ends_quoted b a ≡ true → P) → P
-plain-cases {P} b a h word quoted =
-    elim (or_cases (is_plain_word (b ∷ a) || is_character (b ∷ a)) (is_string (b ∷ a)) h) [
-      | inr string ↦ by_quote double_quote refl string
-      | inl first ↦ elim (or_cases (is_plain_word (b ∷ a)) (is_character (b ∷ a)) first) [
-        | inl is ↦ word is
-        | inr character ↦ by_quote apostrophe refl
-            (and_parts (is_quoted apostrophe (b ∷ a)) (not (bytes_eq (b ∷ a) (codes "''"))) character).0
-      ]
-    ]
-  where
-    by_quote : (quote : ℕ) → is_quote quote ≡ true → is_quoted quote (b ∷ a) ≡ true → P
-    by_quote quote is h =
-        let parts = and_parts (b == quote) (ends_quoted quote a) h in
-        let same : b ≡ quote = eqb-true b quote parts.0 in
-        quoted (ap is_quote same ∙ is) (ap (λ k. ends_quoted k a) same ∙ parts.1)
-
-plain-byte : (b : ℕ) (a : List ℕ) → is_plain (b ∷ a) ≡ true → is_plain_byte b ≡ true
-plain-byte b a h = grind (arith, nat_tests)
-
-plain-longer : (b : ℕ) (a : List ℕ) (o : ℕ) (q : List ℕ) → is_plain (b ∷ a) ≡ true → is_operator o ≡ true →
-    is_element (b ∷ a ++ o ∷ q) ≡ false
-plain-longer b a o q h operator = plain-cases b a h (λ word. word-longer b a o q word operator) (quoted-longer b a o q)
-
--- the elements of two texts, without backslashes before line feeds
+-- a separator after a text that opens no comment
 
 abbrev is_open : List ℕ → Bool
 is_open element = is_comment (element ++ space ∷ [])
-
-separator-elements : (s : ℕ) (b : List ℕ) → is_separator s ≡ true → elements_from 0 (s ∷ b) ≡ (s ∷ []) ∷ elements_from 0 b
-separator-elements s [] h = elements-front s [] [] (single-element s) (no-longer-nothing is_element (s ∷ []))
-separator-elements s (c ∷ r) h =
-    elements-front s [] (c ∷ r) (single-element s) (no-longer is_element (s ∷ []) c r (λ q. separator-longer s c q h))
-
-pub one-element : (b : ℕ) (a : List ℕ) → is_element (b ∷ a) ≡ true → elements_from 0 (b ∷ a) ≡ (b ∷ a) ∷ []
-one-element b a h =
-    ap (elements_from 0) (sym (append-nil (b ∷ a))) ∙ elements-front b a [] h (no-longer-nothing is_element (b ∷ a))
 
 elements-separator : (a : List ℕ) (s : ℕ) → is_separator s ≡ true → list_any is_open (elements_from 0 a) ≡ false →
     elements_from 0 (a ++ s ∷ []) ≡ elements_from 0 a ++ elements_from 0 (s ∷ [])
@@ -102,66 +38,94 @@ elements-separator a s h closed =
     elements-append s [] (λ n a. list_any is_open (elements_from n a) ≡ false) (λ n x a good. good)
     (λ x a good. grind (arith, nat_tests)) stays 0 a (omega arith) closed
   where
-    alone : (x : ℕ) (a : List ℕ) → list_any is_open (elements_from 0 (x ∷ a)) ≡ false → is_comment (x ∷ a ++ s ∷ []) ≡ true → ⊥
-    alone x [] closed comment = grind (arith, nat_tests)
-    alone x (y ∷ a) closed comment =
-        grind (arith, nat_tests, comment-open x y a s [] comment, one-element x (y ∷ a), comment-element (x ∷ y ∷ a))
-
     stays : (x : ℕ) (a : List ℕ) → list_any is_open (elements_from 0 (x ∷ a)) ≡ false → (q rest : List ℕ) → [] ≡ q ++ rest →
         is_element (x ∷ a ++ s ∷ q) ≡ false
-    stays x a closed [] rest same = grind (arith, nat_tests, alone x a closed, separator-last x a s h)
+    stays x a closed [] rest same = false_from_ne_true (is_element (x ∷ a ++ s ∷ [])) λ is.
+        let literal = border-literal [] x a s []
+        (λ one. (or_parts (is_open (x ∷ a)) false (ap (list_any is_open) (sym (one-element x a one)) ∙ closed)).0)
+        (search (rules, or_left, or_right)) is in
+        both_ways (is_quote s) (listed-not is_quote separators refl s h)
+        (ap is_quote (sym (last-append x a s [])) ∙ literal-last x (a ++ s ∷ []) literal)
     stays x a closed (d ∷ q) rest same = absurd (omega (arith, ap length same))
 
-operator-elements : (o : ℕ) (b : List ℕ) → is_operator o ≡ true → is_plain b ≡ true →
-    elements_from 0 (o ∷ b) ≡ (o ∷ []) ∷ elements_from 0 b
-operator-elements o [] operator h = absurd (false≢true h)
-operator-elements o (p ∷ b) operator h =
-    elements-front o [] (p ∷ b) (single-element o)
-    (no-longer is_element (o ∷ []) p b (λ q. operator-longer o p q operator (plain-byte p b h)))
+other-separator : (a : List ℕ) (s : ℕ) → ends_in_comment a ≡ false → is_separator s ≡ true →
+    tokens (a ++ s ∷ []) ≡ tokens a ++ tokens (s ∷ [])
+other-separator a s closed h =
+    let kept = keep-other a s [] (listed-not (λ b. b == line_feed) separators refl s h) in
+    ap (λ t. filter is_token (elements_from 0 t)) (spliced-both a (s ∷ []) kept)
+    ∙ ap (filter is_token) (elements-separator (spliced a) s h closed) ∙ filter-append is_token (elements a) (elements (s ∷ []))
 
-plain-elements : (a : List ℕ) (o : ℕ) (r : List ℕ) → is_plain a ≡ true → is_operator o ≡ true →
-    elements_from 0 (a ++ o ∷ r) ≡ elements_from 0 a ++ elements_from 0 (o ∷ r)
-plain-elements a o r h operator = search (rules, elements-front, plain-element, plain-longer, one-element)
+-- other texts that may touch have a border
 
-plain-closed : (a : List ℕ) → is_plain a ≡ true → list_any is_open (elements_from 0 a) ≡ false
-plain-closed [] h = refl
-plain-closed (b ∷ a) h = grind (arith, nat_tests, one-element, plain-element)
+border-apart : (a b : List ℕ) → is_whole a ≡ true → keep_lines a b ≡ true → have_border (spliced a) (spliced b) ≡ true → are_apart a b ≡ true
+border-apart a b whole kept border = search (rules, and_from)
 
--- backslashes before line feeds
+sign-not : (test : ℕ → Bool) → list_all (λ b. not (test b)) separators ≡ true → list_all (λ b. not (test b)) operators ≡ true → (s : ℕ) →
+    (is_separator s || is_operator s) ≡ true → test s ≡ false
+sign-not test none others s h = search (rules, or_cases, listed-not test separators, listed-not test operators)
 
-spliced-bytes : (x : ℕ) (a : List ℕ) (c : ℕ) (r : List ℕ) → not (last_byte x a == backslash && c == line_feed) ≡ true →
-    spliced (x ∷ a ++ c ∷ r) ≡ spliced (x ∷ a) ++ spliced (c ∷ r)
-spliced-bytes x [] c r kept = rw (not-true (x == backslash && c == line_feed) kept) refl
-spliced-bytes x (d ∷ []) c r kept = grind (arith, nat_tests)
-spliced-bytes x (d ∷ e ∷ a) c r kept = grind (arith, nat_tests, spliced-bytes e a c r kept)
+sign-apart : (s : ℕ) (b : List ℕ) → (is_separator s || is_operator s) ≡ true → have_border (s ∷ []) (spliced b) ≡ true →
+    are_apart (s ∷ []) b ≡ true
+sign-apart s b h border =
+    let quote : is_quote s ≡ false = sign-not is_quote refl refl s h in
+    let back : (s == backslash) ≡ false = sign-not (λ b. b == backslash) refl refl s h in
+    border-apart (s ∷ []) b (grind (arith, nat_tests, one-element s [] (single-element s), quote)) (search (rules, back)) border
 
-pub spliced-both : (a b : List ℕ) → keep_lines a b ≡ true → spliced (a ++ b) ≡ spliced a ++ spliced b
-spliced-both a b kept = search (rules, spliced-bytes)
+separator-before : (s : ℕ) (b : List ℕ) → is_separator s ≡ true → have_border (s ∷ []) b ≡ true
+separator-before s [] h = refl
+separator-before s (c ∷ r) h = search (rules, or_left, or_right)
 
-spliced-append : (a : List ℕ) (c : ℕ) (r : List ℕ) → (c == line_feed) ≡ false → spliced (a ++ c ∷ r) ≡ spliced a ++ spliced (c ∷ r)
-spliced-append a c r other = search (rules, spliced-bytes, and_right)
+separator-next : (a : List ℕ) (s : ℕ) → is_separator s ≡ true → have_border a (s ∷ []) ≡ true
+separator-next [] s h = refl
+separator-next (x ∷ a) s h = search (rules, or_left, or_right)
 
--- texts
+-- after an element that is no number
+operator-border : (x : ℕ) (a : List ℕ) (c : ℕ) (r : List ℕ) → is_element (x ∷ a) ≡ true → (is_digit x || x == full_stop) ≡ false →
+    is_at_operator (last_byte x a) c ≡ true → have_border (x ∷ a) (c ∷ r) ≡ true
+operator-border x a c r is other at =
+    let word = false_from_ne_true (is_number (x ∷ a)) (λ number. both_ways (is_digit x || x == full_stop) other (number-first x a number)) in
+    rw (one-element x a is, word) (search (rules, or_left, or_right))
 
-separator-first : (a b : List ℕ) → is_one is_separator a ≡ true → elements (a ++ b) ≡ elements a ++ elements b
-separator-first a b h = search (rules, separator-elements)
+operator-before : (o : ℕ) (b : List ℕ) → is_operator o ≡ true → is_plain b ≡ true → have_border (o ∷ []) b ≡ true
+operator-before o [] h plain = refl
+operator-before o (c ∷ r) h plain =
+    operator-border o [] c r (single-element o) (listed-not (λ b. is_digit b || b == full_stop) operators refl o h)
+    (or_left (is_operator o && is_plain_byte c) (is_plain_byte o && is_operator c) (and_from (is_operator o) (is_plain_byte c) h (grind (arith, nat_tests))))
 
-separator-second : (a b : List ℕ) → ends_in_comment a ≡ false → is_one is_separator b ≡ true →
-    elements (a ++ b) ≡ elements a ++ elements b
-separator-second a b closed h = search (rules, spliced-append, elements-separator)
+plain-last : (x : ℕ) (a : List ℕ) → is_plain (x ∷ a) ≡ true → is_plain_byte (last_byte x a) ≡ true
+plain-last x a h =
+    elim (or_cases (is_plain_word (x ∷ a) || is_character (x ∷ a)) (is_string (x ∷ a)) h) [
+      | inr string ↦ quoted (literal-from_string (x ∷ a) (or_left (is_string (x ∷ a)) _ string))
+      | inl first ↦ elim (or_cases (is_plain_word (x ∷ a)) (is_character (x ∷ a)) first) [
+        | inl word ↦ or_left (is_word_byte (last_byte x a)) (is_quote (last_byte x a))
+            (all-last-byte is_word_byte x a (and_parts (not (is_digit x)) (list_all is_word_byte (x ∷ a)) word).1)
+        | inr character ↦ quoted (literal-from_character (x ∷ a) (or_left (is_character (x ∷ a)) _ character))
+      ]
+    ]
+  where
+    quoted : IsLiteral (x ∷ a) → is_plain_byte (last_byte x a) ≡ true
+    quoted l = or_right (is_word_byte (last_byte x a)) (is_quote (last_byte x a)) (literal-last x a l)
 
-operator-plain : (a b : List ℕ) → is_one is_operator a ≡ true → is_plain (spliced b) ≡ true →
-    elements (a ++ b) ≡ elements a ++ elements b
-operator-plain a b h plain = search (rules, operator-elements, single-element)
+plain-whole : (t : List ℕ) → is_plain t ≡ true → not (list_any is_unfinished (elements_from 0 t)) ≡ true
+plain-whole [] h = refl
+plain-whole (b ∷ a) h = grind (arith, nat_tests, one-element, plain-element)
 
-plain-operator : (a b : List ℕ) → is_plain (spliced a) ≡ true → is_one is_operator b ≡ true →
-    elements (a ++ b) ≡ elements a ++ elements b
-plain-operator a b plain h = search (rules, spliced-append, plain-elements)
+plain-border : (t : List ℕ) (o : ℕ) → is_plain t ≡ true → is_operator o ≡ true → have_border t (o ∷ []) ≡ true
+plain-border [] o plain h = refl
+plain-border (x ∷ a) o plain h =
+    operator-border x a o [] (plain-element (x ∷ a) plain) (grind (arith, nat_tests)) (search (rules, and_from, or_right, plain-last))
 
-touching-elements : (k g : TextKind) (a b : List ℕ) → IsOfKind k a → IsOfKind g b → kinds_may_touch k g ≡ true →
-    elements (a ++ b) ≡ elements a ++ elements b
-touching-elements k g a b of_a of_b may = search (rules, separator-first, separator-second, plain-closed, operator-plain, plain-operator)
+plain-apart : (a : List ℕ) (s : ℕ) → is_plain (spliced a) ≡ true → (is_separator s || is_operator s) ≡ true →
+    have_border (spliced a) (s ∷ []) ≡ true → are_apart a (s ∷ []) ≡ true
+plain-apart a s plain h border =
+    border-apart a (s ∷ []) (plain-whole (spliced a) plain) (keep-other a s [] (sign-not (λ b. b == line_feed) refl refl s h)) border
+
+touching-apart : (k g : TextKind) (a b : List ℕ) → IsOfKind k a → IsOfKind g b → kinds_may_touch k g ≡ true →
+    (are_apart a b ≡ true) ⊎ (tokens (a ++ b) ≡ tokens a ++ tokens b)
+touching-apart k g a b of_a of_b may =
+    search (rules, or_left, or_right, other-separator, sign-apart, separator-before, separator-next, operator-before, plain-border, plain-apart)
 
 pub touching-tokens : (k g : TextKind) (a b : List ℕ) → IsOfKind k a → IsOfKind g b → kinds_may_touch k g ≡ true →
     tokens (a ++ b) ≡ tokens a ++ tokens b
-touching-tokens k g a b of_a of_b may = search (rules, touching-elements, filter-append)
+touching-tokens k g a b of_a of_b may =
+    elim (touching-apart k g a b of_a of_b may) [ inl apart ↦ apart-tokens a b apart | inr same ↦ same ]

@@ -1,6 +1,7 @@
 -- How a session answers the requests of a script.
 use Rattle.std.specs.Prelude.{◌≡◌, ◌+◌, ℕ, Bool, List, [], ◌∷◌, ◌++◌, codes, decimal, length}
-use Rattle.std.specs.Prelude.{Option, None, Some, Result, Ok, Err}
+use Rattle.std.specs.Prelude.{Option, None, Some, Result, Ok, Err, false, is_some, not}
+use mathlib.Core.Logic.{inl, inr}
 use Rattle.std.specs.Global.{Global}
 use Rattle.std.specs.List.{list_any}
 use Rattle.std.specs.Option.{option_map}
@@ -14,11 +15,12 @@ use Rattle.tangle_files.specs.declared.marks.MarkMode.{MarkMode}
 use Rattle.tangle_files.specs.declared.marks.MarkMode.TheVariants.{Full, Bare}
 use Rattle.tangle_files.specs.declared.refusal.Refusal.{Refusal}
 use Rattle.tangle_files.specs.declared.refusal.Refusal.TheVariants as refusal
-use Rattle.tangle_script.specs.Requests.{Request}
+use Rattle.tangle_script.specs.Requests.{Command, Request, is_edit}
 use Rattle.tangle_script.specs.Requests.Request.{Insert, Replace, Remove, Create, Discard}
 use Rattle.tangle_script.specs.Requests.Request.{Show, MarksFull, MarksNone, Begin, Commit, Cancel}
-use Rattle.tangle_script.specs.Requests.Request.{Faults, Work, Quit, BadCommand}
-use Rattle.tangle_session.specs.Headline.{Apply, ApplyAll, IsAnswered, IsPlainTangling}
+use Rattle.tangle_script.specs.Requests.Request.{Faults, Work, Quit}
+use Rattle.tangle_script.specs.Script.{Dialogue, Replies}
+use Rattle.tangle_session.specs.Headline.{Call, Apply, ApplyAll, IsAnswered, IsPlainTangling}
 use Rattle.tangle_session.specs.Headline.{output_at, output_files}
 use Rattle.tangle_session.specs.Sessions.{SessionRead}
 use Rattle.tangle_session.specs.declared.refusing.ListRefusal.{ListRefusal}
@@ -80,47 +82,6 @@ abbrev pub list_line : {T : Type 0} → Result T ListRefusal → List ℕ
 list_line (Ok done) = codes "ok\n"
 list_line (Err refused) = list_refused_line refused
 
--- an edit is passed to the session while no list is open; else it is added at the end of the open
--- list
-abbrev pub AnswersIn :
-    Option (List Edit) → SessionAndDraft → Edit → List ℕ → SessionAndDraft → Type 0
-AnswersIn None s edit output t =
-    (answer : Result (Unit {0}) Refusal) × IsAnswered s.session (Apply edit answer) t.session
-    × (output ≡ one_line answer) × (t.draft ≡ None)
-AnswersIn (Some held) s edit output t =
-    (output ≡ codes "held\n")
-    × (t ≡ record { session = s.session; draft = Some (held ++ edit ∷ []) })
-
--- the answer to a request for an edit
-abbrev pub AnswersRequest : SessionAndDraft → Request → List ℕ → SessionAndDraft → Type 0
-AnswersRequest s request output t =
-    (made : Edit) × (request_for made ≡ request) × AnswersIn s.draft s made output t
-
-abbrev pub IsBad : SessionAndDraft → List ℕ → SessionAndDraft → Type 0
-IsBad s output t = (output ≡ codes "no BadCommand\n") × (t ≡ s)
-
--- a list is opened, unless one is open
-abbrev pub AnswersBegin :
-    Option (List Edit) → SessionAndDraft → List ℕ → SessionAndDraft → Type 0
-AnswersBegin None s output t =
-    (output ≡ codes "ok\n") × (t ≡ record { session = s.session; draft = Some [] })
-AnswersBegin (Some held) s output t = IsBad s output t
-
--- the open list is passed to the session, and is closed
-abbrev pub AnswersCommit :
-    Option (List Edit) → SessionAndDraft → List ℕ → SessionAndDraft → Type 0
-AnswersCommit None s output t = IsBad s output t
-AnswersCommit (Some held) s output t =
-    (answer : Result (Unit {0}) ListRefusal) × IsAnswered s.session (ApplyAll held answer) t.session
-    × (output ≡ list_line answer) × (t.draft ≡ None)
-
--- the open list is dropped
-abbrev pub AnswersCancel :
-    Option (List Edit) → SessionAndDraft → List ℕ → SessionAndDraft → Type 0
-AnswersCancel None s output t = IsBad s output t
-AnswersCancel (Some held) s output t =
-    (output ≡ codes "ok\n") × (t ≡ record { session = s.session; draft = None })
-
 -- the answer that shows the output file of this name, or says that there is none
 abbrev pub shown : List ℕ → Option (List ℕ) → List ℕ
 shown name None = codes "no NoOutput\n"
@@ -138,26 +99,73 @@ ListsFaults files roles output =
     (faults : List FaultRead) × IsPlainTangling files roles (output_files files roles) faults
     × (output ≡ listed_faults faults)
 
--- The output answers the request, which takes the session with its open list from `s` to `t`.
--- Questions are answered from the session, whether a list is open or not, and change nothing.
+-- whether the request opens, makes or drops a list, and may do so: `Begin` while no list is open,
+-- the others while one is
+abbrev pub is_of_list : Option (List Edit) → Request → Bool
+is_of_list draft Begin = not (is_some draft)
+is_of_list draft Commit = is_some draft
+is_of_list draft Cancel = is_some draft
+is_of_list draft _ = false
+
+-- The answer to a question, which comes from the session, whether a list is open or not; that to
+-- `quit`, and that to a bad command.
+abbrev pub Reports : SessionRead → Request → List ℕ → Type 0
+Reports s (Show file) output = output ≡ shown file (output_at s.files s.roles file)
+Reports s Faults output = ListsFaults s.files s.roles output
+Reports s Work output = output ≡ codes "work " ++ decimal (length s.work) ++ codes "\n"
+Reports s Quit output = output ≡ codes "ok\n"
+Reports s _ output = output ≡ codes "no BadCommand\n"
+
+-- The output is the reply to a request. The request makes these calls of the session, one or none,
+-- and takes the open list of edits, if there is one, from the first state to the second.
+pub data IsReply (session : SessionRead) (request : Request) (output : List ℕ) :
+    Option (List Edit) → List Call → Option (List Edit) → Type 0 where
+  -- an edit is passed to the session while no list is open
+  IsEdit : (edit : Edit) (answer : Result (Unit {0}) Refusal)
+      → request_for edit ≡ request → output ≡ one_line answer
+      → IsReply session request output None (Apply edit answer ∷ []) None
+  -- else it is added at the end of the open list
+  IsHeld : (held : List Edit) (edit : Edit) → request_for edit ≡ request → output ≡ codes "held\n"
+      → IsReply session request output (Some held) [] (Some (held ++ edit ∷ []))
+  -- a list is opened
+  IsOpened : request ≡ Begin → output ≡ codes "ok\n"
+      → IsReply session request output None [] (Some [])
+  -- the open list is passed to the session, and is closed
+  IsCommitted : (held : List Edit) (answer : Result (Unit {0}) ListRefusal) → request ≡ Commit
+      → output ≡ list_line answer
+      → IsReply session request output (Some held) (ApplyAll held answer ∷ []) None
+  -- the open list is dropped
+  IsDropped : (held : List Edit) → request ≡ Cancel → output ≡ codes "ok\n"
+      → IsReply session request output (Some held) [] None
+  -- the request neither asks for an edit nor changes the open list
+  IsReported : (draft : Option (List Edit)) → is_edit request ≡ false
+      → is_of_list draft request ≡ false → Reports session request output
+      → IsReply session request output draft [] draft
+
+-- a history from `s` on: the calls are answered one after another, and `t` is the state then
+abbrev pub HistoryFrom : SessionRead → List Call → SessionRead → Type 0
+HistoryFrom s [] t = t ≡ s
+HistoryFrom s (call ∷ calls) t =
+    (between : SessionRead) × IsAnswered s call between × HistoryFrom between calls t
+
+-- the output answers the request, which takes the session with its open list from `s` to `t`
 abbrev pub answers : SessionAndDraft → Request → List ℕ → SessionAndDraft → Type 0
-answers s (Insert at file text) output t = AnswersRequest s (Insert at file text) output t
-answers s (Replace at file text) output t = AnswersRequest s (Replace at file text) output t
-answers s (Remove at file) output t = AnswersRequest s (Remove at file) output t
-answers s (Create file) output t = AnswersRequest s (Create file) output t
-answers s (Discard file) output t = AnswersRequest s (Discard file) output t
-answers s MarksFull output t = AnswersRequest s MarksFull output t
-answers s MarksNone output t = AnswersRequest s MarksNone output t
-answers s Begin output t = AnswersBegin s.draft s output t
-answers s Commit output t = AnswersCommit s.draft s output t
-answers s Cancel output t = AnswersCancel s.draft s output t
-answers s (Show file) output t =
-    (output ≡ shown file (output_at s.session.files s.session.roles file)) × (t ≡ s)
-answers s Faults output t = ListsFaults s.session.files s.session.roles output × (t ≡ s)
-answers s Work output t =
-    (output ≡ codes "work " ++ decimal (length s.session.work) ++ codes "\n") × (t ≡ s)
-answers s Quit output t = (output ≡ codes "ok\n") × (t ≡ s)
-answers s BadCommand output t = IsBad s output t
+answers s request output t =
+    (calls : List Call) × IsReply s.session request output s.draft calls t.draft
+    × HistoryFrom s.session calls t.session
+
+-- the calls of the answer to a request: none where memory ran out for an edit
+abbrev pub calls_of_answer : {s t : SessionAndDraft} {request : Request} {output : List ℕ}
+    → Replies answers s request output t → List Call
+calls_of_answer (inl answered) = answered.0
+calls_of_answer (inr short) = []
+
+-- the calls of the answers to these commands, one after another
+abbrev pub calls_of : (s t : SessionAndDraft) (commands : List Command) (output : List ℕ)
+    → Dialogue answers s commands output t → List Call
+calls_of s t [] output dialogue = []
+calls_of s t (command ∷ commands) output dialogue =
+    calls_of_answer dialogue.3 ++ calls_of dialogue.2 t commands dialogue.1 dialogue.4
 
 -- whether an error is among the faults of the files
 abbrev pub HasError : SessionAndDraft → Bool → Type 0

@@ -5,4 +5,3 @@ pub mod Messages
 pub mod WhatTheCompilerReads
 pub mod Run
 pub mod Conversation
-pub mod Histories

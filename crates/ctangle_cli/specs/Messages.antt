@@ -21,8 +21,6 @@ use Rattle.tangle_files.specs.declared.refusal.Refusal.TheVariants.{
 use Rattle.tangle_faults.specs.Faults.{FaultRead, is_error}
 use Rattle.tangle_faults.specs.FaultLine.{fault_line}
 use Rattle.tangle_folders.specs.declared.folder.FolderFault.{FolderFault}
-use Rattle.tangle_folders.specs.declared.folder.FolderFault.TheVariants.{Missing, TooBig}
-use Rattle.tangle_folders.specs.declared.folder.FolderFault.TheVariants.{Failed as IsFailed}
 use Rattle.tangle_folders.specs.declared.folder.FolderFault.TheVariants.{NoMemory as FolderMemory}
 use Rattle.tangle_loading.specs.Loading.{LoadEnd}
 use Rattle.tangle_loading.specs.Loading.LoadEnd.{CannotRead, Refused, NoMemory as LoadMemory}
@@ -53,18 +51,13 @@ ending_line program (Refused name refusal) =
     program ++ codes ": " ++ name ++ codes ": " ++ refusal_name refusal ++ codes "\n"
 ending_line program LoadMemory = program ++ codes ": NoMemory\n"
 
-abbrev pub no_memory_line : List ℕ
-no_memory_line = ending_line (codes "ctangle") LoadMemory
-
 abbrev pub cannot_write_line : List ℕ → List ℕ
 cannot_write_line name = codes "ctangle: cannot write " ++ name ++ codes "\n"
 
 -- the line that reports an unwritten output
 abbrev pub unwritten_line : FolderFault → List ℕ → List ℕ
-unwritten_line FolderMemory name = no_memory_line
-unwritten_line Missing name = cannot_write_line name
-unwritten_line IsFailed name = cannot_write_line name
-unwritten_line TooBig name = cannot_write_line name
+unwritten_line FolderMemory name = ending_line (codes "ctangle") LoadMemory
+unwritten_line _ name = cannot_write_line name
 
 -- the lines of the faults
 abbrev pub fault_lines : List FaultRead → List ℕ

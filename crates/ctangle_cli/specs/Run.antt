@@ -1,5 +1,5 @@
 -- How a run ends, by what the folder and the streams report before and after it.
-use Rattle.std.specs.Prelude.{◌≡◌, ◌≢◌, ◌⊎◌, ℕ, List, [], ◌∷◌, ◌++◌, codes, Option, None, Some, Ok, Err}
+use Rattle.std.specs.Prelude.{◌≡◌, ◌≢◌, ◌⊎◌, ℕ, List, ◌∷◌, ◌++◌, codes, Option, None, Some, Ok, Err}
 use Rattle.clap.specs.Words.{Text}
 use Rattle.tangle_streams.specs.Streams.{Stream, Failed, TakesAll, TakesPrefix}
 use Rattle.tangle_files.specs.Lines.{FileTable}
@@ -12,7 +12,7 @@ use Rattle.tangle_session.specs.Sessions.{SessionRead}
 use Rattle.tangle_folders.specs.declared.folder.FolderFault.{FolderFault}
 use Rattle.tangle_folders.specs.declared.folder.FolderFault.TheVariants.{NoMemory}
 use Rattle.tangle_folders.specs.Folder.{File, FolderRead, with_created}
-use Rattle.ctangle_cli.specs.Writing.{IsPrefixOf}
+use Rattle.ctangle_cli.specs.Writing.{AddsPrefix}
 use Rattle.ctangle_cli.specs.Arguments.{names_by_arguments}
 use Rattle.ctangle_cli.specs.Conversation.{HasError, SessionAndDraft, answers}
 use Rattle.ctangle_cli.specs.RetangleArguments.{retangle_names_of}
@@ -44,9 +44,6 @@ IsCutOff old new bytes = TakesPrefix old.stream new.stream bytes
 abbrev pub TriesToWrite : Stream → Stream → List ℕ → Type 0
 TriesToWrite old new bytes = TakesAll old new bytes ⊎ TakesPrefix old new bytes
 
-abbrev pub CreatesNothing : Moment → Moment → Type 0
-CreatesNothing old new = new.folder.created ≡ old.folder.created
-
 -- the folder is asked for no file, and so fails at none
 abbrev pub AsksNothing : Moment → Moment → Type 0
 AsksNothing old new =
@@ -55,7 +52,8 @@ AsksNothing old new =
 -- the folder is not used: nothing is created in it, it is asked for nothing, and it does not fail
 abbrev pub LeavesFolder : Moment → Moment → Type 0
 LeavesFolder old new =
-    CreatesNothing old new × AsksNothing old new × (new.folder.failures ≡ old.folder.failures)
+    (new.folder.created ≡ old.folder.created) × AsksNothing old new
+    × (new.folder.failures ≡ old.folder.failures)
 
 -- Each output before the one of this name is created whole. Of this one a prefix is created: no
 -- file, or a file with a prefix of its bytes; no file where memory ran out. No later output is
@@ -66,10 +64,8 @@ pub record StopsAt (outputs : List File) (old new : Option (List File))
   pub bytes : List ℕ
   pub after : List File
   pub split : outputs ≡ before ++ (name, bytes) ∷ after
-  pub prefix : List File
-  pub is_prefix : IsPrefixOf (name, bytes) prefix
-  pub no_prefix : fault ≡ NoMemory → prefix ≡ []
-  pub created : new ≡ with_created old (before ++ prefix)
+  pub created : AddsPrefix (with_created old before) new (name, bytes)
+  pub no_prefix : fault ≡ NoMemory → new ≡ with_created old before
 
 -- Writing the outputs stopped at one of them, because the folder or an allocation failed. The lines
 -- of the faults were written before, and then the line of this output, or a prefix of it.
@@ -166,16 +162,3 @@ pub data RetangleEnds (arguments : List Text) (old new : Moment)
       → History session.files session.roles calls last.session
       → OutputsStayReadAsWritten session.files session.roles
       → RetangleEnds arguments old new before after status
-
--- a moment at which nothing was read, created, asked for or written, and nothing failed
-abbrev pub nothing_done : Moment
-nothing_done = record {
-  folder = record {
-    files = Some [];
-    created = Some [];
-    asked = Some [];
-    failed = Some [];
-    failures = 0;
-  };
-  stream = record { taken = Some []; failures = 0 };
-}

@@ -8,21 +8,21 @@ ghost use Rattle.tangle_script.specs.Requests.Request.{Faults, Show};
 ghost use Rattle.tangle_script.specs.Script.{Dialogue};
 ghost use Rattle.tangle_session.specs.Headline.{Call, History, accepted, files_after, output_at};
 ghost use Rattle.tangle_session.specs.Headline.{roles_with};
-ghost use Rattle.ctangle_cli.specs.Conversation.{ListsFaults, SessionAndDraft, answers, shown};
-ghost use Rattle.ctangle_cli.specs.Histories.{AreCallsOf};
+ghost use Rattle.ctangle_cli.specs.Conversation.{ListsFaults, SessionAndDraft, answers};
+ghost use Rattle.ctangle_cli.specs.Conversation.{calls_of, shown};
 ghost use Rattle.ctangle_cli.specs.WhatTheCompilerReads.{OutputsStayReadAsWritten};
 ghost use Rattle.tangle_c_tokens.specs.LineFeeds.{FilesHaveNoLineFeed};
 
-/// The commands of a script extend the history of the session: each edit that is passed, and each
-/// list of edits, is one more call, with the answer that was written. Held edits and questions
-/// change nothing, nor does an edit for which memory ran out. So the headline holds after each line
-/// of a script.
+/// The commands of a script extend the history of the session by the calls of their answers: each
+/// edit that is passed, and each list of edits, is one more call, with the answer that was written
+/// (`IsReply`). Held edits and questions change nothing, nor does an edit for which memory ran out.
+/// So the headline holds after each line of a script.
 pub fn the_answers_of_a_script_are_a_history()
     ensures { (files : FileTable) (roles : RolesRead) (calls : List Call)
         (old new : SessionAndDraft) (commands : List Command) (output : List ℕ)
-        → History files roles calls old.session → Dialogue answers old commands output new
-        → (more : List Call) × AreCallsOf commands output old.draft more new.draft
-        × History files roles (calls ++ more) new.session }
+        → History files roles calls old.session
+        → (dialogue : Dialogue answers old commands output new)
+        → History files roles (calls ++ calls_of old new commands output dialogue) new.session }
 {}
 
 /// At the end of any history, as after any commands of a script, `show` and `faults` are answered

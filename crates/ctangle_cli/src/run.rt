@@ -1,12 +1,13 @@
 //! Runs of both programs, from their arguments on.
-ghost use Rattle.std.specs.Prelude.{◌≡◌, ℕ, List, Option, None, Some, IfNone, IfSome, codes, map};
+ghost use Rattle.std.specs.Prelude.{◌≡◌, ◌<◌, ◌-◌, ◌^◌, ℕ, List, Option, None, Some, IfNone, IfSome};
+ghost use Rattle.std.specs.Prelude.{IsSome, codes, map};
 ghost use Rattle.ctangle_cli.specs.Arguments.{names_by_arguments};
 ghost use Rattle.ctangle_cli.specs.Messages.{faults_status};
 ghost use Rattle.tangle_files.specs.Roles.{RolesRead};
 ghost use Rattle.tangle_folders.specs.Folder.{FolderRead};
 ghost use Rattle.tangle_script.specs.Script.{conversation};
 ghost use Rattle.ctangle_cli.specs.Run.{EndsUnstarted, RetangleEnds, RunEnds, SessionEnds};
-ghost use Rattle.ctangle_cli.specs.Run.{StartsSession, moment, nothing_done};
+ghost use Rattle.ctangle_cli.specs.Run.{Moment, StartsSession, moment};
 
 use crate::arguments::{WordFault, Words, read_words};
 use crate::conversation::run_retangle;
@@ -249,8 +250,10 @@ pub fn run_retangle_before_exit<A: AsStr, F: Folder, E: Sink, R: Feed, S: Sink>(
     }
 }
 
-/// A run that reads and writes nothing, and in which nothing fails, does not end with status 3. So
-/// the contract refuses a body that always returns 3 without writing a line.
+/// A run that leaves the folder and the error stream as they were does not end with status 3, unless
+/// the failures of the stream were too many to count one more. So the contract refuses a body that
+/// always returns 3 without writing a line.
 pub fn status_3_needs_a_failure()
-    ensures { (arguments : List (List ℕ)) → RunEnds arguments nothing_done nothing_done 3 → ⊥ }
+    ensures { (arguments : List (List ℕ)) (same : Moment) → IsSome same.stream.taken
+        → same.stream.failures < 2 ^ 64 - 1 → RunEnds arguments same same 3 → ⊥ }
 {}

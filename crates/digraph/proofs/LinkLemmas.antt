@@ -1,22 +1,16 @@
 -- Rows as links in one list.
 use Rattle.std.proofs.Common.{rules}
-use Rattle.std.proofs.lemmas.Bool.Decides.{nat_tests}
 use Rattle.std.proofs.Common.{◌≡◌, ◌≤◌, ◌<◌, ◌+◌, ◌-◌, ◌∙◌, ℕ, suc, cond, eqb, List, [], ◌∷◌, ◌++◌, map}
-use Rattle.std.proofs.Common.{length, get_or, set, take, drop, reverse, refl, ap, sym, subst, arith, length-append, All}
-use Rattle.std.proofs.Common.{append_assoc}
-use Rattle.std.proofs.lemmas.Bool.{eq-eqb}
-use Rattle.std.proofs.lemmas.List.{reverse-append, length-reverse, length-take-le, length-map, map-set, get_or-map}
-use Rattle.std.proofs.lemmas.List.{take-append-drop, drop_more}
+use Rattle.std.proofs.Common.{length, get_or, set, reverse, refl, ap, sym, subst, arith, All}
+use Rattle.std.proofs.lemmas.List.{reverse-append, length-reverse, length-map, map-set, get_or-map}
+use Rattle.std.proofs.lemmas.List.{get_or-reverse}
+use Rattle.std.proofs.Math.Decide.{ℕ_discrete}
 use Rattle.digraph.specs.Graph.{row_at}
 use Rattle.digraph.specs.Rows.{GrowsBy, IsRowsOf}
 use Rattle.digraph.specs.Links.{chain, rows_of_links, GoesBack, AreLinked}
 use Rattle.digraph.specs.declared.growing.Link.{Link}
 
 module _ {X : Type 0} where
-  chain_here : (link : Link X) (links : List (Link X))
-      → chain (link ∷ links) (suc (length links)) ≡ chain links link.before ++ link.entry ∷ []
-  chain_here link links = rw (eq-eqb (suc (length links)) (suc (length links)) refl) refl
-
   chain_below : (link : Link X) (links : List (Link X)) (place : ℕ)
       → place ≤ length links → chain (link ∷ links) place ≡ chain links place
   chain_below link links place h = search rules
@@ -25,52 +19,28 @@ module _ {X : Type 0} where
   chain_none [] place h = refl
   chain_none (link ∷ links) place h = chain_below link links place (omega arith) ∙ chain_none links place h
 
-  chain_under : (later links : List (Link X)) (place : ℕ)
-      → place ≤ length links → chain (later ++ links) place ≡ chain links place
-  chain_under [] links place h = refl
-  chain_under (link ∷ later) links place h =
-      grind (arith, nat_tests, length-append later links, chain_under later links place h)
-
-  -- the links that end in this one
-  split : (links : List (Link X)) (k : ℕ) (d : Link X) → k < length links
-      → reverse links ≡ reverse (drop (k + 1) links) ++ get_or links k d ∷ reverse (take k links)
-  split links k d h =
-      ap reverse (sym (take-append-drop k links) ∙ ap (λ r. take k links ++ r) (drop_more links k d h))
-      ∙ (reverse-append (take k links) (get_or links k d ∷ drop (k + 1) links)
-      ∙ (ap (λ r. r ++ reverse (take k links)) (reverse-append (get_or links k d ∷ []) (drop (k + 1) links))
-      ∙ append_assoc (reverse (drop (k + 1) links)) (get_or links k d ∷ []) (reverse (take k links))))
-
-  step_at : (links : List (Link X)) (k : ℕ) (d : Link X) → GoesBack links → k < length links
-      → chain (reverse links) (suc k)
-      ≡ chain (reverse links) (get_or links k d).before ++ (get_or links k d).entry ∷ []
-  step_at links k d back h =
-      rw (split links k d h)
-      (chain_under later (link ∷ ls) (suc k) (omega (arith, size))
-      ∙ (ap (λ n. chain (link ∷ ls) (suc n)) (sym size)
-      ∙ (chain_here link ls
-      ∙ ap (λ r. r ++ link.entry ∷ [])
-      (sym (chain_under later (link ∷ ls) link.before (omega (arith, size))
-      ∙ chain_below link ls link.before (omega (arith, size)))))))
-    where
-      link : Link X
-      link = get_or links k d
-
-      ls : List (Link X)
-      ls = reverse (take k links)
-
-      later : List (Link X)
-      later = reverse (drop (k + 1) links)
-
-      size : length ls ≡ k
-      size = length-reverse (take k links) ∙ length-take-le k links (omega arith)
-
-      low : link.before ≤ k
-      low = back k d h
+  -- an entry of the links from the last to the first, and the entries before it in its row
+  step_in : (links : List (Link X)) (place : ℕ) (link : Link X) → 0 < place → place ≤ length links
+      → link ≡ get_or links (length links - place) link → link.before < place
+      → chain links place ≡ chain links link.before ++ link.entry ∷ []
+  step_in [] place link some within is low = absurd (omega arith)
+  step_in (first ∷ links) place link some within is low = elim (ℕ_discrete place (suc (length links))) [
+    | yes e ↦ search (rules, chain_below)
+    | no other ↦ (let next : suc (length links) - place ≡ suc (length links - place) = omega arith in
+        rw (chain_below first links place (omega arith), chain_below first links link.before (omega arith))
+        (step_in links place link some (omega arith) (is ∙ ap (λ k. get_or (first ∷ links) k link) next) low))
+  ]
 
   pub chain_step : (links : List (Link X)) (place : ℕ) (link : Link X)
       → GoesBack links → 0 < place → place ≤ length links → link ≡ get_or links (place - 1) link
       → chain (reverse links) place ≡ chain (reverse links) link.before ++ link.entry ∷ []
-  chain_step links place link back some within read = search (rules, step_at)
+  chain_step links place link back some within read =
+      let size = length-reverse links in
+      let back_to = back (place - 1) link (omega arith) in
+      step_in (reverse links) place link some (omega arith)
+      (read ∙ sym (get_or-reverse links (length (reverse links) - place) link (omega arith)
+      ∙ ap (λ k. get_or links k link) (omega arith)))
+      (omega (arith, back_to, ap (λ (l : Link X). l.before) read))
 
   same_rows : (link : Link X) (links : List (Link X)) (lasts : List ℕ) → All (λ place. place ≤ length links) lasts
       → map (chain (link ∷ links)) lasts ≡ map (chain links) lasts

@@ -5,7 +5,7 @@ use Rattle.std.proofs.Common.{◌≡◌, ◌<◌, ◌∙◌, ℕ, zero, suc, Lis
 use Rattle.std.proofs.Common.{length-take}
 use Rattle.std.proofs.lemmas.List.{get_or_default, get_or-take}
 use Rattle.digraph.specs.Graph.{Graph, HasUse, InRange}
-use Rattle.digraph.specs.Reach.{Reaches, here, on, ContainsItself, ReachesCycle, HasPath}
+use Rattle.digraph.specs.Reach.{Reaches, here, on, ContainsItself, ReachesCycle}
 use Rattle.digraph.specs.Order.{IsAfterUses, IsOrder}
 use Rattle.digraph.proofs.GraphLemmas.{use_in}
 
@@ -46,8 +46,3 @@ pub ordered_acyclic : (graph : Graph) (order : List ℕ) (n : ℕ)
     → IsOrder graph order → Contains order n → ReachesCycle (HasUse graph) n → ⊥
 ordered_acyclic graph order n is = along graph order is.after_uses (λ k. ReachesCycle (HasUse graph) k → ⊥)
     (λ k below c. let next = cycle_used graph k c.0 c.1 c.2 in below next.0 next.1 next.2) n
-
-pub left_out_paths : (graph : Graph) (order : List ℕ) (n steps : ℕ)
-    → IsOrder graph order → InRange graph → n < length graph → (Contains order n → ⊥) → HasPath (HasUse graph) steps n
-left_out_paths graph order n steps is range = left_out_deep graph order is range
-    (λ k m. HasPath (HasUse graph) k m) (λ m. tt) (λ k a b u path. (b, u, path)) steps n

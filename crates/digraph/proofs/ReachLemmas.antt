@@ -1,8 +1,8 @@
 -- Reaching along several uses, and what ranks that never fall exclude.
 use Rattle.std.proofs.Common.{rules}
-use Rattle.std.proofs.Common.{◌≡◌, ◌<◌, ◌≤◌, ◌∙◌, ℕ, Bool, true, false, List, length, get_or, set, refl, sym}
-use Rattle.std.proofs.Common.{subst, arith, All, get_or-set_other, length-set}
-use Rattle.std.proofs.Math.Decide.{ℕ_discrete}
+use Rattle.std.proofs.Common.{◌<◌, ◌≤◌, ◌∙◌, ℕ, Bool, true, false, List, length, get_or, set}
+use Rattle.std.proofs.Common.{arith, All, get_or-set_other, length-set}
+use Rattle.std.proofs.lemmas.Bool.Decides.{nat_tests}
 use Rattle.std.proofs.lemmas.List.{get_or_past}
 use Rattle.digraph.specs.Graph.{Graph, HasUse, row_at}
 use Rattle.digraph.specs.Reach.{Reaches, here, on, ContainsItself}
@@ -29,15 +29,8 @@ pub only_set : {HasIt : ℕ → Type 0} (graph : Graph) (flags : List Bool) (n :
     → FlagsOnly graph flags HasIt → HasIt n → FlagsOnly graph (set flags n true) HasIt
 only_set {HasIt} graph flags n only has = record {
   size = length-set flags n true ∙ only.size;
-  sound = λ m f. elim (ℕ_discrete m n) [
-    | yes e ↦ subst HasIt (sym e) has
-    | no other ↦ only.sound m (sym (get_or-set_other flags n m true false other) ∙ f)
-  ];
+  sound = λ m f. grind (arith, nat_tests, get_or-set_other flags n m true false, only.sound m);
 }
 
 pub flagged_in : (flags : List Bool) (n : ℕ) → IsFlagged flags n → n < length flags
 flagged_in flags n f = search (rules, get_or_past)
-
-pub true_unless : (b : Bool) → ((e : b ≡ false) → ⊥) → b ≡ true
-true_unless true h = refl
-true_unless false h = absurd (h refl)

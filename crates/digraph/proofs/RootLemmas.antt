@@ -1,25 +1,11 @@
 -- Flags of the nodes that roots reach, and of those that reach roots, and what both together mean for a node.
 use Rattle.std.proofs.Common.{rules}
-use Rattle.std.proofs.Common.{◌≡◌, ◌⊎◌, ◌∙◌, ℕ, Bool, List, length, get_or, sym, subst, inl, inr, Contains}
+use Rattle.std.proofs.Common.{◌≡◌, ℕ, Bool, List, get_or, subst, Contains}
 use Rattle.digraph.specs.Graph.{Graph, HasUse, row_at}
-use Rattle.digraph.specs.Reach.{Reaches, here, on, ContainsItself}
+use Rattle.digraph.specs.Reach.{Reaches, on, ContainsItself}
 use Rattle.digraph.specs.Flags.{IsFlagged}
 use Rattle.digraph.specs.Roots.{FromRoots, ToRoots}
 use Rattle.digraph.proofs.ReachLemmas.{reaches_trans}
-
-pub from_roots_row : (graph : Graph) (roots : List ℕ) (flags next : List Bool) (n : ℕ)
-    → FromRoots graph roots flags → IsFlagged flags n → length next ≡ length flags
-    → ((m : ℕ) → IsFlagged next m → IsFlagged flags m ⊎ (HasUse graph n m × (get_or roots m 0 ≡ get_or roots n 0)))
-    → FromRoots graph roots next
-from_roots_row graph roots flags next n p flagged size reported = record {
-  size = size ∙ p.size;
-  sound = λ m f. elim (reported m f) [
-    | inl old ↦ p.sound m old
-    | inr new ↦ subst (λ r. Reaches (HasUse graph) r m) (sym new.1)
-        (reaches_trans (HasUse graph) (get_or roots n 0) n m
-        (p.sound n flagged) (on new.0 here))
-  ];
-}
 
 -- a node of the row that has this root and reaches it
 abbrev pub LeadsTo : List ℕ → List Bool → List ℕ → ℕ → Type 0

@@ -48,11 +48,6 @@ rows_push entries row start (first ∷ ends) end is e =
     rw (drop-append-le start entries row begins, take-append-le (first - start) (drop start entries) row short)
     (ap (λ rows. take (first - start) (drop start entries) ∷ rows) (rows_push entries row first ends end is.1 e))
 
--- an entry is pushed to one row
-pub grows_set : {X : Type 0} (rows : List (List X)) (n : ℕ) (extra : List X)
-    → n < length rows → GrowsBy (λ m. cond (eqb n m) extra []) rows (set rows n (row_at rows n ++ extra))
-grows_set rows n extra within = search rules
-
 pub rows_grow : {X : Type 0} (count : ℕ) (f g h : ℕ → List X) (old new : List (List X))
     → IsRowsOf count f old → GrowsBy g old new → ((n : ℕ) → n < count → h n ≡ f n ++ g n) → IsRowsOf count h new
 rows_grow count f g h old new is more sum = search rules

@@ -1,11 +1,11 @@
 -- Orders of the nodes of a graph.
-use Rattle.std.specs.Prelude.{◌≢◌, ◌<◌, ℕ, List, length, take, slice_index, Contains}
+use Rattle.std.specs.Prelude.{◌≢◌, ◌<◌, ℕ, List, length, take, slice_index, Contains, All, AllPairs}
 use Rattle.digraph.specs.Graph.{Graph, HasUse}
 
 -- each node of the list comes once, and after all nodes that it uses
 pub record IsAfterUses (graph : Graph) (order : List ℕ) : Type 0 where
-  pub nodes : (k : ℕ) → k < length order → slice_index order k < length graph
-  pub once : (j k : ℕ) → j < k → k < length order → slice_index order j ≢ slice_index order k
+  pub nodes : All (λ n. n < length graph) order
+  pub once : AllPairs (λ n m. n ≢ m) order
   pub after : (k m : ℕ)
       → k < length order → HasUse graph (slice_index order k) m → Contains (take k order) m
 

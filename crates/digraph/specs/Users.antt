@@ -1,12 +1,12 @@
 -- The list of the nodes that use a node.
-use Rattle.std.specs.Prelude.{◌+◌, ℕ, Bool, List, [], ◌∷◌, ◌++◌, ◌==◌, if◌then◌else◌}
-use Rattle.std.specs.List.{list_any}
+use Rattle.std.specs.Prelude.{ℕ, Bool, List, ◌==◌, filter}
+use Rattle.std.specs.List.{list_any, range_with_len}
+use Rattle.digraph.specs.Graph.{Graph, row_at}
 
--- the positions of the items that pass the test, where the first item has the position `k`
-abbrev pub positions : {X : Type 0} → (X → Bool) → ℕ → List X → List ℕ
-positions p k [] = []
-positions p k (x ∷ xs) = (if p x then k ∷ [] else []) ++ positions p (k + 1) xs
+-- the numbers below `n` that pass the test
+abbrev pub numbers_where : (ℕ → Bool) → ℕ → List ℕ
+numbers_where p n = filter p (range_with_len 0 n)
 
--- the numbers of the rows that have `m`
-abbrev pub users_of : List (List ℕ) → ℕ → List ℕ
-users_of rows m = positions (list_any (λ x. x == m)) 0 rows
+-- the numbers of the rows that have `m`, of the first `n` rows
+abbrev pub users_of : Graph → ℕ → ℕ → List ℕ
+users_of rows n m = numbers_where (λ k. list_any (λ x. x == m) (row_at rows k)) n

@@ -7,7 +7,7 @@ ghost use Rattle.digraph.specs.Evidence.{IsEvidence};
 
 use crate::evidence::Evidence;
 use crate::nodes::Node;
-use crate::reach::{any_flagged, reaching};
+use crate::reach::{any_with, reaching};
 use crate::rows::Rows;
 use std::alloc::{AllocError, Global};
 
@@ -96,5 +96,5 @@ fn search(
     let mut flags = vec![in alloc; false; uses.len()]?;
     flags[n] = true;
     let found = reaching(alloc, uses, users, &flags)?;
-    Ok(any_flagged(uses.row(n), &found))
+    Ok(any_with(uses.row(n), &found, true))
 }

@@ -52,13 +52,6 @@ impl<T: Copy> GrowingRows<T> {
         })
     }
 
-    /// The number of rows.
-    pub fn len(&self) -> usize
-        ensures { result ≡ length self.now }
-    {
-        self.lasts.len()
-    }
-
     /// Adds an entry at the end of row `n`.
     ///
     /// # Errors

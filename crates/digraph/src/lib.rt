@@ -22,6 +22,5 @@ pub use growing::GrowingRows;
 pub use laws::order_holds_what_reaches_no_cycle;
 pub use nodes::Node;
 pub use ordering::order;
-pub use reach::reaching;
 pub use reversing::{once_each, users};
 pub use rows::Rows;

@@ -1,12 +1,12 @@
 //! A topological order of a graph's nodes: each comes after those that it uses.
-ghost use Rattle.std.specs.Prelude.{◌≡◌, ◌<◌, ℕ, IfOk, true, false, All, Contains, length};
+ghost use Rattle.std.specs.Prelude.{◌≡◌, ◌<◌, ℕ, IfOk, true, false, length};
 ghost use Rattle.digraph.specs.Graph.{InRange};
-ghost use Rattle.digraph.specs.Flags.{IsFlagged};
 ghost use Rattle.digraph.specs.Order.{IsOrder};
 ghost use Rattle.digraph.specs.OrderSoFar.{IsOrderSoFar, IsStuck, unflagged};
 
 use crate::nodes::Node;
 use crate::proposals::topological_order;
+use crate::reach::any_with;
 use crate::rows::Rows;
 use std::alloc::{AllocError, Global};
 
@@ -75,24 +75,10 @@ fn add_to_order(
         × (order.new.items ≡ order.old.items)) }
     ensures stuck { IfOk result (λ now. now ≡ false → IsStuck uses.now order.old.items n) }
 {
-    if flags[n] || !all_flagged(uses.row(n), flags) {
+    if flags[n] || any_with(uses.row(n), flags, false) {
         return Ok(false);
     }
     order.push(Node::new(n))?;
     flags[n] = true;
     Ok(true)
-}
-
-/// Whether each node of the row is flagged.
-fn all_flagged(row: &[Node], flags: &[bool]) -> bool
-    requires { All (λ m. m < length flags.now) row.now }
-    ensures all { result ≡ true → All (λ m. IsFlagged flags.now m) row.now }
-    ensures one { result ≡ false → (m : ℕ) × Contains row.now m × (¬ (IsFlagged flags.now m)) }
-{
-    for m in row {
-        if !flags[m.number()] {
-            return false;
-        }
-    }
-    true
 }

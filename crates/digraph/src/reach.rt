@@ -1,7 +1,8 @@
 //! Finds the nodes that reach a flagged one.
-ghost use Rattle.std.specs.Prelude.{◌≡◌, ◌<◌, ℕ, IfOk, true, false, All, Contains, length, vec_len};
+ghost use Rattle.std.specs.Prelude.{◌≡◌, ◌≢◌, ◌<◌, ℕ, IfOk, true, false, All, Contains, length};
+ghost use Rattle.std.specs.Prelude.{slice_index_or, vec_len};
 ghost use Rattle.digraph.specs.Graph.{InRange};
-ghost use Rattle.digraph.specs.Flags.{FlagsJust, IsFlagged, ReachesFlagged};
+ghost use Rattle.digraph.specs.Flags.{FlagsJust, ReachesFlagged};
 ghost use Rattle.digraph.specs.Finding.{IsFinding, IsDecided};
 ghost use Rattle.digraph.specs.OrderSoFar.{unflagged};
 
@@ -88,21 +89,23 @@ fn find(uses: &Rows<Node>, n: usize, flags: &[bool], found: &mut [bool]) -> bool
     ensures same { result ≡ false → found.new ≡ found.old }
     ensures decided { result ≡ false → IsDecided uses.now flags.now found.old n }
 {
-    if found[n] || !(flags[n] || any_flagged(uses.row(n), found)) {
+    if found[n] || !(flags[n] || any_with(uses.row(n), found, true)) {
         return false;
     }
     found[n] = true;
     true
 }
 
-/// Whether some node of the row is flagged.
-pub fn any_flagged(row: &[Node], flags: &[bool]) -> bool
+/// Whether some node of the row has this flag.
+pub fn any_with(row: &[Node], flags: &[bool], flag: bool) -> bool
     requires { All (λ m. m < length flags.now) row.now }
-    ensures one { result ≡ true → (m : ℕ) × Contains row.now m × IsFlagged flags.now m }
-    ensures none { result ≡ false → (m : ℕ) → Contains row.now m → ¬ (IsFlagged flags.now m) }
+    ensures one { result ≡ true
+        → (m : ℕ) × Contains row.now m × (slice_index_or flags.now m false ≡ flag) }
+    ensures none { result ≡ false
+        → (m : ℕ) → Contains row.now m → slice_index_or flags.now m false ≢ flag }
 {
     for m in row {
-        if flags[m.number()] {
+        if flags[m.number()] == flag {
             return true;
         }
     }

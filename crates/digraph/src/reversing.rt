@@ -4,8 +4,7 @@ ghost use Rattle.std.specs.Prelude.{if◌then◌else◌};
 ghost use Rattle.std.specs.List.{list_any};
 ghost use Rattle.std.specs.List.Sorted.{IsStrictlyIncreasing};
 ghost use Rattle.digraph.specs.Graph.{InRange};
-ghost use Rattle.digraph.specs.Rows.{IsRowsOf, GrowsBy, IsOnceEach, IsReversed};
-ghost use Rattle.digraph.specs.Users.{users_of};
+ghost use Rattle.digraph.specs.Rows.{GrowsBy, IsOnceEach, IsReversed};
 
 use crate::growing::GrowingRows;
 use crate::nodes::Node;
@@ -30,15 +29,6 @@ pub fn users(alloc: Global, uses: &Rows<Node>) -> Result<Rows<Node>, AllocError>
     requires range { InRange uses.now }
     requires increasing { All IsStrictlyIncreasing uses.now }
     ensures { IfOk result (λ users. IsReversed uses.now users) }
-{
-    reversed(alloc, uses)
-}
-
-/// For each node, the numbers of the rows that have it, in increasing order.
-fn reversed(alloc: Global, uses: &Rows<Node>) -> Result<Rows<Node>, AllocError>
-    requires range { InRange uses.now }
-    requires increasing { All IsStrictlyIncreasing uses.now }
-    ensures { IfOk result (λ users. IsRowsOf (length uses.now) (users_of uses.now) users) }
 {
     let mut users = GrowingRows::with_rows(alloc, uses.len())?;
     for n in 0..uses.len() {

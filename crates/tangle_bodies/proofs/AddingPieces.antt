@@ -34,19 +34,17 @@ module _ (texts : List (List ℕ)) (table : TableRead) where
       = ap (resolved_tags table (map (tag_of texts) piece.items)) h.uses ∙ tags_held texts table piece.items in
       let start = stand_one piece_start [] refl in
       let end = stand_one piece_end [] refl in
-      subst (λ bytes. StandFor (piece_start ∷ resolved_tags table text.tags text.uses ++ piece_end ∷ []) bytes
-      (piece_start ∷ map item_tag (map (shape_item texts table) piece.items) ++ piece_end ∷ [])) (append-nil text.bytes)
+      rw (append-nil text.bytes) at
       (stand_append (piece_start ∷ []) _ [] _ (piece_start ∷ []) _ start
       (stand_append (resolved_tags table text.tags text.uses) (piece_end ∷ []) text.bytes [] _ (piece_end ∷ [])
-      (subst (StandFor (resolved_tags table text.tags text.uses) text.bytes) held items) end))
+      (rw held at items) end))
 
   -- one more piece at the front
   pub piece_added : (old next new : ItemsRead) (piece : PieceRead) (text : TextRead) (pieces : List PieceRead)
       → IsTextOf texts piece.items text → next ≡ with_piece table old text → AddsPieces texts table next new pieces
       → AddsPieces texts table old new (piece ∷ pieces)
   piece_added old next new piece text pieces is made h =
-      let added : AddsPieces texts table (with_piece table old text) new pieces =
-      subst (λ (n : ItemsRead). AddsPieces texts table n new pieces) made h in
+      let added = rw made at h in
       record {
         bytes = rw (added.bytes, is.bytes, bytes_held texts table piece.items) (append_assoc old.bytes _ _);
         tags = λ before stands.

@@ -2,19 +2,17 @@
 use Rattle.std.proofs.Common.{arith}
 use Rattle.std.proofs.Common.{rules}
 use Rattle.std.proofs.lemmas.Bool.Decides.{nat_tests}
-use Rattle.std.proofs.Common.{◌≡◌, ◌∙◌, ℕ, ◌+◌, List, [], ◌∷◌, ◌++◌, map, take, drop, length, refl, ap, sym, subst, append_assoc}
+use Rattle.std.proofs.Common.{◌≡◌, ◌∙◌, ℕ, ◌+◌, List, [], ◌∷◌, ◌++◌, map, take, drop, length, refl, ap, subst, append_assoc}
 use Rattle.std.specs.Prelude.{flat_map}
 use Rattle.std.proofs.lemmas.List.{map-append, take-append-drop}
 use Rattle.std.proofs.Math.Seq.{take-append_seam, drop-append_seam}
-use Rattle.tangle_files.specs.Bytes.{space}
 use Rattle.tangle_text.specs.Runs.{chunks, part_of}
 use Rattle.tangle_text.specs.declared.runs.RunPart.{RunPart}
 use Rattle.tangle_text.proofs.RunChunks.{AreChunks, joined, chunks_are, chunks_joined}
-use Rattle.tangle_bodies.specs.Shapes.{Title, Kind, ShapeItem, Written, Mark, AllMacros, Use, NoUse, Shape}
-use Rattle.tangle_bodies.specs.Flat.{Symbol, Byte, MarkOf, Opening, items_flat}
+use Rattle.tangle_bodies.specs.Shapes.{Title, Kind, ShapeItem, Written, Shape}
+use Rattle.tangle_bodies.specs.Flat.{Symbol, Byte, items_flat, marks_after_shape_item}
 use Rattle.tangle_bodies.specs.Flat.{pieces_flat}
-use Rattle.tangle_bodies.specs.Flat as symbol
-use Rattle.tangle_bodies.specs.Meaning.{pieces_after, marks_after, with_used, tags_flat, body_flat}
+use Rattle.tangle_bodies.specs.Meaning.{next_piece, next_mark, with_used, tags_flat, body_flat}
 use Rattle.tangle_bodies.specs.Flat.{own_symbols}
 use Rattle.tangle_bodies.specs.NodeBodies.{HoldsShape, body_title, body_uses, names_at}
 use Rattle.tangle_bodies.specs.Tags.{item_tag, item_bytes, piece_end, shape_tags, shape_bytes}
@@ -41,12 +39,15 @@ module _ (node : Title) where
       ≡ map Byte (joined cs) ++ tags_flat node piece marks more tags used
   chunks_flat piece marks [] more tags used h = refl
   chunks_flat piece marks (c ∷ cs) more tags used h =
-      let rest = map chunk_tag cs ++ tags in
-      let whole = tags_flat node piece marks more tags used in
-      ap (λ l. tags_flat node piece marks l (chunk_tag c ∷ rest) used) (append_assoc c (joined cs) more)
-      ∙ part_flat piece marks (part_of 0 0 c) c (joined cs ++ more) rest used (chunk_size c h.0)
-      ∙ ap (λ l. map Byte c ++ l) (chunks_flat piece marks cs more tags used h.1)
-      ∙ sym (ap (λ l. l ++ whole) (map-append Byte c (joined cs)) ∙ append_assoc (map Byte c) (map Byte (joined cs)) whole)
+      grind (
+        arith,
+        nat_tests,
+        append_assoc,
+        map-append {A = ℕ} {B = Symbol},
+        part_flat piece marks (part_of 0 0 c) c,
+        chunk_size c h.0,
+        chunks_flat piece marks cs more tags used h.1,
+      )
 
   run_flat : (piece marks : ℕ) (bytes more : List ℕ) (tags : List ItemTag) (used : List (List Symbol))
       → tags_flat node piece marks (bytes ++ more) (run_tags bytes ++ tags) used
@@ -73,7 +74,7 @@ module _ (node : Title) where
   unfolded_flat piece marks (t ∷ tags) bytes used =
       kind_flat piece marks t t.kind bytes (unfolded_tags tags (drop t.size bytes)) used refl
       ∙ ap (λ rest. map Byte (take t.size bytes) ++ with_used t.kind (own_symbols node piece marks t.kind) used rest)
-      (λ i us. unfolded_flat (pieces_after piece t.kind) (marks_after marks t.kind) tags (drop t.size bytes) us i)
+      (λ i us. unfolded_flat (next_piece piece t.kind) (next_mark marks t.kind) tags (drop t.size bytes) us i)
 
   -- the symbols of a shape
 
@@ -91,37 +92,30 @@ module _ (node : Title) where
         ++ tags_flat node (piece + 1) 0 bytes tags (map symbols names)
     items_shaped piece marks [] bytes tags names = refl
     items_shaped piece marks (Written k written ∷ items) bytes tags names =
-        let rest = flat_map item_bytes items ++ bytes in
-        let left = map item_tag items ++ piece_end ∷ tags in
-        let used = map symbols (flat_map item_names items ++ names) in
-        ap (λ l. tags_flat node piece marks l (item_tag (Written k written) ∷ left) used)
-        (append_assoc written (flat_map item_bytes items) bytes)
-        ∙ written_flat piece marks k written (written ++ rest) left used
-        ∙ (λ i. map Byte (take-append_seam written rest i)
-        ++ tags_flat node piece marks (drop-append_seam written rest i) left used)
-        ∙ ap (λ l. map Byte written ++ l) (items_shaped piece marks items bytes tags names)
-        ∙ sym (append_assoc (map Byte written) _ _)
-    items_shaped piece marks (Mark ∷ items) bytes tags names =
-        ap (λ l. MarkOf node piece (marks + 1) ∷ l) (items_shaped piece (marks + 1) items bytes tags names)
-    items_shaped piece marks (AllMacros ∷ items) bytes tags names =
-        ap (λ l. symbol.AllMacros ∷ l) (items_shaped piece marks items bytes tags names)
-    items_shaped piece marks (Use name ∷ items) bytes tags names =
-        ap (λ l. Byte space ∷ symbols name ++ l) (items_shaped piece marks items bytes tags names)
-        ∙ sym (append_assoc (Byte space ∷ symbols name) _ _)
-    items_shaped piece marks (NoUse ∷ items) bytes tags names =
-        ap (λ l. Byte space ∷ l) (items_shaped piece marks items bytes tags names)
+        grind (
+          arith,
+          nat_tests,
+          append_assoc,
+          written_flat piece marks k written,
+          take-append_seam written,
+          drop-append_seam written,
+          items_shaped piece marks items bytes tags names,
+        )
+    items_shaped piece marks (x ∷ items) bytes tags names =
+        grind (arith, nat_tests, append_assoc, items_shaped piece (marks_after_shape_item marks x) items bytes tags names)
 
     pub shape_flat : (piece marks : ℕ) (shape : Shape)
         → tags_flat node piece marks (shape_bytes shape) (shape_tags shape) (map symbols (shape_names shape))
         ≡ pieces_flat symbols node piece shape
     shape_flat piece marks [] = refl
     shape_flat piece marks (items ∷ pieces) =
-        ap (λ l. Opening node piece ∷ MarkOf node piece 0 ∷ l)
-        (ap (λ l. tags_flat node piece 0 (flat_map item_bytes items ++ shape_bytes pieces) l
-        (map symbols (flat_map item_names items ++ shape_names pieces)))
-        (append_assoc (map item_tag items) (piece_end ∷ []) (shape_tags pieces))
-        ∙ items_shaped piece 0 items (shape_bytes pieces) (shape_tags pieces) (shape_names pieces)
-        ∙ ap (λ l. items_flat symbols node piece 0 items ++ l) (shape_flat (piece + 1) 0 pieces))
+        grind (
+          arith,
+          nat_tests,
+          append_assoc,
+          items_shaped piece 0 items (shape_bytes pieces) (shape_tags pieces) (shape_names pieces),
+          shape_flat (piece + 1) 0 pieces,
+        )
 
 -- the symbols of a body, where each name that it uses has the symbols that it has in the shape
 pub held_flat : (names : List (List ℕ)) (shape : Shape) (body : NodeBody)

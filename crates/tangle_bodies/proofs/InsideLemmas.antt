@@ -1,28 +1,17 @@
 -- An occurrence that resolves to a name resolves to one of the table.
 use Rattle.std.proofs.Common.{rules}
 use Rattle.std.proofs.Common.{◌≡◌, Bool, true, false, List, map, length, get_or, refl}
-use Rattle.std.specs.Prelude.{Contains, ℕ}
+use Rattle.std.specs.Prelude.{Contains}
 use Rattle.std.proofs.lemmas.List.{get_or_default}
 use Rattle.std.proofs.lemmas.List.Elements.{All-map}
 use Rattle.tangle_lexer.specs.Occurrences.{OccurrenceRead}
-use Rattle.tangle_names.specs.declared.Resolved.{Resolved}
 use Rattle.tangle_names.specs.declared.Resolved.TheVariants.{NoFullName}
-use Rattle.tangle_names.specs.Names.{full_names, prefix}
 use Rattle.tangle_names.specs.Resolving.{names_in_order, resolve}
-use Rattle.tangle_names.specs.Laws.{ResolvesFull, ResolvesPrefix}
 use Rattle.tangle_names.specs.NameTable.{table_of}
 use Rattle.tangle_names.proofs.LawLemmas.{full_law, prefix_law}
 use Rattle.tangle_scan.specs.Web.{WebRead}
 use Rattle.tangle_bodies.specs.WebShapes.{IsNameBelow, ResolvesInside}
 use Rattle.tangle_bodies.proofs.EachLemmas.{all_or}
-
-full_inside : (names : List (List ℕ)) (name : List ℕ) (r : Resolved)
-    → ResolvesFull names name r → IsNameBelow (length names) r
-full_inside names name r h = search rules
-
-prefix_inside : (names full : List (List ℕ)) (p : List ℕ) (r : Resolved)
-    → ResolvesPrefix names full p r → IsNameBelow (length names) r
-prefix_inside names full p r h = search rules
 
 -- the table of a web has each name to which an occurrence resolves
 pub table_inside : (web : WebRead) → ResolvesInside (table_of web)
@@ -36,5 +25,5 @@ table_inside web =
 
     by : (o : OccurrenceRead) → Contains os o → (t : Bool)
         → o.is_abbreviation ≡ t → IsNameBelow (length (names_in_order os)) (resolve os o)
-    by o h true e = prefix_inside (names_in_order os) (full_names os) (prefix o.text) (resolve os o) (prefix_law os o h e)
-    by o h false e = full_inside (names_in_order os) o.text (resolve os o) (full_law os o h e)
+    by o h true e = search (rules, prefix_law)
+    by o h false e = search (rules, full_law)

@@ -1,17 +1,13 @@
 -- The tags of a body have at least as many symbols as the weight of what is shared for their uses.
-use Rattle.std.specs.Prelude.{ℕ, ◌+◌, ◌≤◌, length, List, [], ◌∷◌, map, take, drop, Option, unwrap_or}
+use Rattle.std.specs.Prelude.{ℕ, ◌+◌, ◌≤◌, length, List, [], ◌∷◌, drop, Option, unwrap_or}
 use Rattle.std.proofs.Common.{arith, length-append}
 use denote.Param.Weighed.{most}
 use Rattle.tangle_bodies.specs.Shapes.{Title}
-use Rattle.tangle_bodies.specs.Flat.{Symbol, Byte, own_symbols}
-use Rattle.tangle_bodies.specs.Meaning.{left_over, marks_after, pieces_after, tags_flat, with_used}
+use Rattle.tangle_bodies.specs.Flat.{Symbol, own_symbols}
+use Rattle.tangle_bodies.specs.Meaning.{left_over, next_mark, next_piece, shared_symbols, tags_flat, with_used}
 use Rattle.tangle_scan.specs.declared.texts.ItemKind.{ItemKind}
 use Rattle.tangle_scan.specs.declared.texts.ItemKind.TheVariants as tag
 use Rattle.tangle_scan.specs.declared.texts.ItemTag.{ItemTag}
-
--- the symbols of what is shared for each use; there are none where nothing is
-abbrev shared_symbols : List (Option (List Symbol)) → List (List Symbol)
-shared_symbols used = map (λ o. unwrap_or o []) used
 
 -- a weight of what is shared, which is at most one more than the number of its symbols
 module _ (weight : Option (List Symbol) → ℕ)
@@ -19,13 +15,7 @@ module _ (weight : Option (List Symbol) → ℕ)
   left_over_is_longer : (used : List (Option (List Symbol)))
       → most weight used ≤ length (left_over (shared_symbols used))
   left_over_is_longer [] = omega arith
-  left_over_is_longer (o ∷ rest) =
-      omega (
-        arith,
-        within o,
-        left_over_is_longer rest,
-        length-append (unwrap_or o []) (left_over (shared_symbols rest)),
-      )
+  left_over_is_longer (o ∷ rest) = omega (arith, within o, left_over_is_longer rest, length-append (unwrap_or o []))
 
   kind_is_longer : (k : ItemKind) (node : Title) (piece marks : ℕ) (used : List (Option (List Symbol)))
       (rest : List (List Symbol) → List Symbol)
@@ -34,27 +24,16 @@ module _ (weight : Option (List Symbol) → ℕ)
       ≤ length (with_used k (own_symbols node piece marks k) (shared_symbols used) rest)
   kind_is_longer tag.Use node piece marks [] rest longer = omega arith
   kind_is_longer tag.Use node piece marks (o ∷ used) rest longer =
-      omega (
-        arith,
-        within o,
-        longer used,
-        length-append (unwrap_or o []) (rest (shared_symbols used)),
-      )
+      omega (arith, within o, longer used, length-append {A = Symbol})
   kind_is_longer k node piece marks used rest longer =
-      omega (arith, longer used, length-append (own_symbols node piece marks k) (rest (shared_symbols used)))
+      omega (arith, longer used, length-append {A = Symbol})
 
   pub tags_are_longer : (node : Title) (piece marks : ℕ) (bytes : List ℕ) (tags : List ItemTag)
       (used : List (Option (List Symbol)))
       → most weight used ≤ length (tags_flat node piece marks bytes tags (shared_symbols used))
   tags_are_longer node piece marks bytes [] used = left_over_is_longer used
   tags_are_longer node piece marks bytes (t ∷ tags) used =
-      let rest = tags_flat node (pieces_after piece t.kind)
-      (marks_after marks t.kind) (drop t.size bytes) tags in
-      omega (
-        arith,
-        kind_is_longer t.kind node piece marks used rest
-            (λ us. tags_are_longer node (pieces_after piece t.kind)
-            (marks_after marks t.kind) (drop t.size bytes) tags us),
-        length-append (map Byte (take t.size bytes))
-            (with_used t.kind (own_symbols node piece marks t.kind) (shared_symbols used) rest),
-      )
+      let rest = tags_flat node (next_piece piece t.kind) (next_mark marks t.kind) (drop t.size bytes) tags in
+      let longer = kind_is_longer t.kind node piece marks used rest
+      (tags_are_longer node (next_piece piece t.kind) (next_mark marks t.kind) (drop t.size bytes) tags) in
+      omega (arith, longer, length-append {A = Symbol})

@@ -2,7 +2,7 @@
 use Rattle.std.proofs.Common.{arith}
 use Rattle.std.proofs.Common.{rules}
 use Rattle.std.proofs.lemmas.Bool.Decides.{nat_tests}
-use Rattle.std.proofs.Common.{◌≡◌, ◌∙◌, ℕ, List, [], ◌∷◌, ◌++◌, map, take, drop, length, refl, ap, sym, append_assoc}
+use Rattle.std.proofs.Common.{◌≡◌, ◌∙◌, ℕ, List, [], ◌∷◌, ◌++◌, map, take, drop, get_or, length, refl, ap, sym, append_assoc}
 use Rattle.std.specs.Prelude.{flat_map}
 use Rattle.std.proofs.Math.Seq.{take-append_seam, drop-append_seam}
 use Rattle.tangle_bodies.specs.Shapes.{Kind, ShapeItem, Written, Mark, AllMacros, Use, NoUse, Shape}
@@ -19,10 +19,6 @@ onto : ShapeItem → Shape → Shape
 onto x [] = (x ∷ []) ∷ []
 onto x (items ∷ pieces) = (x ∷ items) ∷ pieces
 
-first_name : List (List ℕ) → List ℕ
-first_name [] = []
-first_name (name ∷ names) = name
-
 -- the item with a tag, before the shape that the remaining bytes and names give
 item_from_tag : ItemKind → ℕ → List ℕ → List (List ℕ) → (List ℕ → List (List ℕ) → Shape) → Shape
 item_from_tag tag.Word n bytes names rest = onto (Written kind.Word (take n bytes)) (rest (drop n bytes) names)
@@ -37,11 +33,10 @@ item_from_tag tag.Blank n bytes names rest = onto (Written kind.Blank (take n by
 item_from_tag tag.LineEnd n bytes names rest = onto (Written kind.LineEnd (take n bytes)) (rest (drop n bytes) names)
 item_from_tag tag.Mark n bytes names rest = onto Mark (rest bytes names)
 item_from_tag tag.AllMacros n bytes names rest = onto AllMacros (rest bytes names)
-item_from_tag tag.Use n bytes names rest = onto (Use (first_name names)) (rest bytes (drop 1 names))
+item_from_tag tag.Use n bytes names rest = onto (Use (get_or names 0 [])) (rest bytes (drop 1 names))
 item_from_tag tag.NoUse n bytes names rest = onto NoUse (rest bytes names)
 item_from_tag tag.PieceEnd n bytes names rest = [] ∷ rest bytes names
-item_from_tag tag.PieceStart n bytes names rest = rest bytes names
-item_from_tag tag.Run n bytes names rest = rest bytes names
+item_from_tag _ n bytes names rest = rest bytes names
 
 shape_from_tags : List ItemTag → List ℕ → List (List ℕ) → Shape
 shape_from_tags [] bytes names = []
@@ -56,20 +51,11 @@ piece_from_tags : (items : List ShapeItem) (tags : List ItemTag) (bytes : List �
     → shape_from_tags (map item_tag items ++ piece_end ∷ tags)
     (flat_map item_bytes items ++ bytes) (flat_map item_names items ++ names)
     ≡ items ∷ shape_from_tags tags bytes names
-unfolding shape_from_tags item_from_tag onto first_name
+unfolding shape_from_tags item_from_tag onto
 piece_from_tags [] tags bytes names = refl
 piece_from_tags (Written k written ∷ items) tags bytes names =
-    let rest = flat_map item_bytes items ++ bytes in
-    rw (
-      written_from_tag k (length written),
-      append_assoc written (flat_map item_bytes items) bytes,
-      take-append_seam written rest,
-      drop-append_seam written rest,
-    ) (ap (onto (Written k written)) (piece_from_tags items tags bytes names))
-piece_from_tags (Mark ∷ items) tags bytes names = ap (onto Mark) (piece_from_tags items tags bytes names)
-piece_from_tags (AllMacros ∷ items) tags bytes names = ap (onto AllMacros) (piece_from_tags items tags bytes names)
-piece_from_tags (Use name ∷ items) tags bytes names = ap (onto (Use name)) (piece_from_tags items tags bytes names)
-piece_from_tags (NoUse ∷ items) tags bytes names = ap (onto NoUse) (piece_from_tags items tags bytes names)
+    grind (arith, nat_tests, append_assoc, written_from_tag k (length written), take-append_seam written, drop-append_seam written, piece_from_tags items tags bytes names)
+piece_from_tags (x ∷ items) tags bytes names = ap (onto x) (piece_from_tags items tags bytes names)
 
 shape_from_its_tags : (shape : Shape)
     → shape_from_tags (shape_tags shape) (shape_bytes shape) (shape_names shape) ≡ shape

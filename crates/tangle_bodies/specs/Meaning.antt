@@ -1,6 +1,7 @@
 -- The symbols of a body, with those of the names that it uses in the places of the uses.
 use Rattle.std.specs.Prelude.{ℕ, ◌+◌, List, [], ◌∷◌, ◌++◌, map, flat_map, take, drop}
 use Rattle.std.specs.Prelude.{Option, None, Some, Vec}
+use Rattle.std.specs.Prelude.{unwrap_or}
 use Rattle.std.specs.Global.{Global}
 use Rattle.tangle_files.specs.Bytes.{space}
 use Rattle.tangle_bodies.specs.Shapes.{Title, Program, Named}
@@ -17,15 +18,15 @@ title_of (Some name) = Named name.items
 
 -- the numbers of pieces and marks after a tag of this kind; the opening mark is not counted
 
-abbrev pub pieces_after : ℕ → ItemKind → ℕ
-pieces_after piece tag.PieceEnd = piece + 1
-pieces_after piece _ = piece
+abbrev pub next_piece : ℕ → ItemKind → ℕ
+next_piece piece tag.PieceEnd = piece + 1
+next_piece piece _ = piece
 
-abbrev pub marks_after : ℕ → ItemKind → ℕ
-marks_after marks tag.PieceStart = 0
-marks_after marks tag.PieceEnd = 0
-marks_after marks tag.Mark = marks + 1
-marks_after marks _ = marks
+abbrev pub next_mark : ℕ → ItemKind → ℕ
+next_mark marks tag.PieceStart = 0
+next_mark marks tag.PieceEnd = 0
+next_mark marks tag.Mark = marks + 1
+next_mark marks _ = marks
 
 -- These symbols of a tag of this kind, and then the rest. At a use, those of the next used name are
 -- between; there is nothing at a use for which there are none, and an expansion that is made has some
@@ -35,6 +36,10 @@ abbrev pub with_used : ItemKind → List Symbol → List (List Symbol)
 with_used tag.Use own [] rest = []
 with_used tag.Use own (symbols ∷ used) rest = own ++ (symbols ++ rest used)
 with_used _ own used rest = own ++ rest used
+
+-- the symbols of what is shared for each use; there are none where nothing is
+abbrev pub shared_symbols : List (Option (List Symbol)) → List (List Symbol)
+shared_symbols used = map (λ o. unwrap_or o []) used
 
 -- what is shared for no use comes at the end; no expansion that is made has such
 abbrev pub left_over : List (List Symbol) → List Symbol
@@ -47,7 +52,7 @@ tags_flat node piece marks bytes [] used = left_over used
 tags_flat node piece marks bytes (t ∷ tags) used =
     map Byte (take t.size bytes)
     ++ with_used t.kind (own_symbols node piece marks t.kind) used
-    (tags_flat node (pieces_after piece t.kind) (marks_after marks t.kind) (drop t.size bytes) tags)
+    (tags_flat node (next_piece piece t.kind) (next_mark marks t.kind) (drop t.size bytes) tags)
 
 -- the symbols of a body, where the names that it uses have these ones, in the order of the uses
 abbrev pub body_flat : NodeBody → List (List Symbol) → List Symbol

@@ -24,6 +24,7 @@ pub data Kind : Type 0 where
   AsciiConstant : Kind
   Blank : Kind
   LineEnd : Kind
+  deriving Discrete as kind_discrete
 
 -- an item of a shape
 pub data ShapeItem : Type 0 where
@@ -37,6 +38,7 @@ pub data ShapeItem : Type 0 where
   Use : List ℕ → ShapeItem
   -- a use that does not resolve to a name
   NoUse : ShapeItem
+  deriving Discrete as item_discrete
 
 abbrev pub Shape : Type 0
 Shape = List (List ShapeItem)

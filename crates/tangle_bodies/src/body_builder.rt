@@ -62,7 +62,9 @@ impl BodyBuilder {
         ensures { OnOk result (AreItemsOf web.now.texts table.now
             (pieces_at web.now.pieces numbers.now) self.new) }
     {
-        self.clear();
+        self.made.bytes.clear();
+        self.made.tags.clear();
+        self.made.uses.clear();
         for number in numbers {
             self.add_piece(table, web.piece_text(*number))?;
         }
@@ -112,14 +114,6 @@ impl BodyBuilder {
             tags: Vec::from_slice(alloc, &self.made.tags)?,
             uses: Vec::from_slice(alloc, &self.made.uses)?,
         })
-    }
-
-    fn clear(&mut self)
-        ensures { self.new ≡ nothing_made }
-    {
-        self.made.bytes.clear();
-        self.made.tags.clear();
-        self.made.uses.clear();
     }
 
     /// Adds the tag of a border of a piece.

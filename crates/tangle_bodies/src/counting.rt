@@ -9,7 +9,7 @@ use crate::nodes::NodeBody;
 use tangle_scan::ItemKind;
 
 /// The number of symbols that a tag of this kind gives besides its bytes.
-fn symbols_of_kind(kind: ItemKind) -> usize
+pub fn symbols_of_kind(kind: ItemKind) -> usize
     ensures count { result ≡ length (own_symbols Program 0 0 kind) }
     ensures small { result ≤ 2 }
 {

@@ -11,6 +11,7 @@ mod nodes;
 mod shapes;
 
 pub use body_builder::BodyBuilder;
+pub use counting::symbols_of_kind;
 pub use laws::{names_resolve_inside, tags_settle_the_shape};
 pub use nodes::NodeBody;
 pub use tangle_scan::{ItemKind, ItemTag};

@@ -29,10 +29,8 @@ fn use_same_names(names: &Names, uses: &[usize], other_names: &Names, other_uses
 
 /// Whether the items of two bodies have the same kinds and the same bytes.
 pub(crate) fn same_items(body: &NodeBody, other: &NodeBody) -> bool
-    ensures some { result ≡ true → (body_tags body.now ≡ body_tags other.now)
-        × (body_bytes body.now ≡ body_bytes other.now) }
-    ensures none { result ≡ false → body_tags body.now ≡ body_tags other.now → body_bytes body.now
-        ≡ body_bytes other.now → ⊥ }
+    ensures { (result ≡ true) ↔ ((body_tags body.now ≡ body_tags other.now)
+        × (body_bytes body.now ≡ body_bytes other.now)) }
 {
     body.bytes == other.bytes && have_same_items(&body.tags, &other.tags, &body.bytes)
 }

@@ -1,7 +1,9 @@
 -- One byte after another of a text whose tokens are counted as they are written.
+use Rattle.std.proofs.lemmas.Bool.{cond_both}
+use Rattle.tangle_c_tokens.proofs.ListLemmas.{all-each}
 use Rattle.std.proofs.Common.{rules}
 use Rattle.std.proofs.Common.{arith}
-use Rattle.std.proofs.Common.{◌≡◌, ℕ, ◌+◌, ◌≤◌, zero, suc, Bool, true, false, List, [], ◌∷◌, ◌++◌, map, take, drop, get_or}
+use Rattle.std.proofs.Common.{◌≡◌, ℕ, ◌+◌, ◌≤◌, zero, suc, Bool, true, false, List, [], ◌∷◌, ◌++◌, take, drop, get_or}
 use Rattle.std.proofs.Common.{Option, None, Some, ◌⊎◌, inl, refl, sym, ap, subst, ◌∙◌, append_assoc, drop-drop, le_refl, add-zero}
 use Rattle.std.specs.Prelude.{◌==◌, ◌&&◌, ◌||◌, if◌then◌else◌}
 use Rattle.std.specs.List.{AllByRecursion}
@@ -22,14 +24,6 @@ use Rattle.tangle_expansion.specs.Location.{ByteClass, IsOwnOrigin, border_of}
 use Rattle.tangle_c_lines.specs.CountedLines.{no_class, class_of_byte, is_of_item, later_border, last_border, is_between_regions, IsSeen, IsCountedAtItsLine}
 
 -- lists
-
-pub all-each : {X : Type 0} (P Q : X → Type 0) (xs : List X) → ((x : X) → P x → Q x) → AllByRecursion P xs → AllByRecursion Q xs
-all-each P Q [] f h = tt
-all-each P Q (x ∷ xs) f h = (f x h.0, all-each P Q xs f h.1)
-
-pub all-map : {X Y : Type 0} (P : Y → Type 0) (f : X → Y) (xs : List X) → AllByRecursion (λ x. P (f x)) xs → AllByRecursion P (map f xs)
-all-map P f [] h = tt
-all-map P f (x ∷ xs) h = (h.0, all-map P f xs h.1)
 
 -- the element of a list at a place
 pub at-drop : {X : Type 0} (d : X) (xs : List X) (n : ℕ) (x : X) (rest : List X) → drop n xs ≡ x ∷ rest → get_or xs n d ≡ x
@@ -53,12 +47,9 @@ none-taken xs n = subst (λ k. drop n (take k xs) ≡ []) (add-zero n) (drop-tak
 
 -- borders
 
-later-assoc : (a b c : Border) → later_border a (later_border b c) ≡ later_border (later_border a b) c
-later-assoc a b c = search rules
-
 last-one : (classes : List ByteClass) (k : ByteClass) → last_border (classes ++ k ∷ []) ≡ later_border (last_border classes) (border_of k)
 last-one [] k = search rules
-last-one (c ∷ classes) k = ap (later_border (border_of c)) (last-one classes k) ∙ later-assoc (border_of c) (last_border classes) (border_of k)
+last-one (c ∷ classes) k = ap (later_border (border_of c)) (last-one classes k) ∙ (search rules)
 
 -- the region that is read before a border may be read after it
 pub same-choice : (b : Border) (read : Bool) (T : Bool → Type 0) → ForEachChoice b read T → T read
@@ -155,17 +146,13 @@ module _ (names : List (List ℕ)) (all : List ByteClass) (text : List ℕ) wher
       → IsOwnOrigin read origin k → IsCountedAs count row origin → read ≡ true → IsCountedAtItsLine names k (counted count row)
   own-here read count row origin k is counts now = search rules
 
-  later-last : (x before k : Border) → (x ≡ SameRegion) ⊎ (x ≡ before)
-      → (later_border x k ≡ SameRegion) ⊎ (later_border x k ≡ later_border before k)
-  later-last x before k h = search rules
-
   pub before-more : (border : Border) (n : ℕ) (k : ByteClass) (ks : List ByteClass) → drop n all ≡ k ∷ ks → (p : Place)
       → IsBefore border n p → IsBefore (later_border border (border_of k)) (suc n) p
   before-more border n k ks e p h = record {
     before = omega (arith, h.before);
     last = subst (λ (b : Border). (b ≡ SameRegion) ⊎ (b ≡ later_border border (border_of k)))
         (sym (ap last_border (take-one all p.at n k ks h.before e) ∙ last-one (drop p.at (take n all)) k))
-        (later-last (last_border (drop p.at (take n all))) border (border_of k) h.last);
+        (search (rules, h.last));
   }
 
   pub counts-feed : (count : LineCount) (row : ℕ) (origin : Option Origin) → count.row ≤ row → IsCountedAs count row origin
@@ -204,7 +191,8 @@ module _ (names : List (List ℕ)) (all : List ByteClass) (text : List ℕ) wher
         plain = plain-feed c origin _ (plain-more start line c rest k ks origin s.bytes_are s.classes_are plain s.plain);
         counts = subst (λ (p : Place). IsCountedAs count p.row (after_byte c origin)) (sym next)
             (counts-more count here c origin s.row s.counts);
-        row = subst (λ (p : Place). count.row ≤ p.row) (sym next) (row-more (c == line_feed) s.row);
+        row = subst (λ (p : Place). count.row ≤ p.row) (sym next)
+            (cond_both (c == line_feed) (here.row + 1) here.row (λ row. count.row ≤ row) (λ e. omega (arith, s.row)) (λ e. s.row));
         joined = one-more line c s.joined none;
         whole = subst (λ (b : Bool). AllByRecursion (λ l. is_whole l ≡ true)
             (if b then line ∷ joined_lines [] rest else joined_lines (line ++ c ∷ []) rest)) none s.whole;
@@ -218,8 +206,3 @@ module _ (names : List (List ℕ)) (all : List ByteClass) (text : List ℕ) wher
         bytes_are = subst (λ (p : Place). drop p.at text ≡ rest) (sym next) (rest-drop text here.at c rest s.bytes_are);
         line_is = s.line_is ∙ sym (append_assoc line (c ∷ []) rest);
       }
-    where
-      row-more : (feed : Bool) → count.row ≤ (place_after start line).row
-          → count.row ≤ (if feed then (place_after start line).row + 1 else (place_after start line).row)
-      row-more true le = omega (arith, le)
-      row-more false le = le

@@ -21,7 +21,6 @@ use Rattle.tangle_expansion.proofs.LineTruth.{node_is_located}
 use Rattle.tangle_c_tokens.specs.Files.{SourceHasNoLineFeed, numbers_in, shapes_in, ReachesWholePieces}
 use Rattle.tangle_c_lines.specs.CountedLines.{no_class, classes_of_bytes, classes_of_file, bytes_of_file, FilesAreCountedAsWritten, SourceLinesAreLow}
 use Rattle.tangle_c_tokens.proofs.AllMacroLemmas.{macros-keep}
-use Rattle.tangle_c_tokens.proofs.FeedLemmas.{KeepsFeed}
 use Rattle.tangle_c_tokens.proofs.FileLemmas.{AreWrittenByPieces, file-is_read}
 use Rattle.tangle_c_lines.proofs.LineEndLemmas.{last-read}
 use Rattle.tangle_c_lines.proofs.RunLemmas.{IsReadOn, keeps_after, loose-read}
@@ -43,19 +42,13 @@ module _ (pieces : AreWrittenByPieces) (source : SourceRead) (clear : SourceHasN
   abbrev classes_in : Title → List ByteClass
   classes_in node = classes levels source web node
 
-  abbrev IsReady : Title → Type 0
-  IsReady node = IsExpandableNode (shapes_in source) node × ReachesWholePieces source node
-
-  macros_keep : KeepsFeed numbers.macros
-  macros_keep = macros-keep (texts_of source.lines) web.macros
-
   module _ (all : List ByteClass) (text : List ℕ) where
     -- after the macros
     abbrev Property : Bool → Title → Bool → Type 0
     Property true node now = AreAtTheirOrigins numbers now None (symbols_of node) (classes_in node)
     Property false node now = Unit {0}
 
-    after-macros : (has_piece : Bool) (node : Title) → (has_piece ≡ true → IsReady node)
+    after-macros : (has_piece : Bool) (node : Title) → (has_piece ≡ true → IsExpandableNode (shapes_in source) node × ReachesWholePieces source node)
         → IsReadOn web.file_names all text true None
         (if has_piece then expansion_bytes numbers (symbols_of node) ++ line_feed ∷ [] else [])
         (if has_piece then classes_of_bytes numbers (symbols_of node) (classes_in node) ++ no_class ∷ [] else [])
@@ -63,7 +56,7 @@ module _ (pieces : AreWrittenByPieces) (source : SourceRead) (clear : SourceHasN
     after-macros false node ready = λ start line read count choices border kept s pending.
         last-read web.file_names all text start line read count choices border None [] s
     after-macros true node ready =
-        symbols-read web (table_of web) clear.names (mark-low source low) macros_keep all text
+        symbols-read web (table_of web) clear.names (mark-low source low) (macros-keep (texts_of source.lines) web.macros) all text
         (symbols_of node) (classes_in node) true None
         (node-fits source levels node (web-line-truth source) clear.lines)
         (subst (AreKept true) (append-nil (symbols_of node)) (node-kept source clear.lines levels node (ready refl).1 [] tt))
@@ -74,7 +67,7 @@ module _ (pieces : AreWrittenByPieces) (source : SourceRead) (clear : SourceHasN
 
     front-keeps : (has_macros : Bool) → keeps_after true (front_bytes numbers has_macros) ≡ true
     front-keeps false = refl
-    front-keeps true = keeps_after-from true numbers.macros refl macros_keep
+    front-keeps true = keeps_after-from true numbers.macros refl (macros-keep (texts_of source.lines) web.macros)
 
   pub file-counted : FilesAreCountedAsWritten source
   file-counted name has_macros has_piece node whole ready seen choices =

@@ -2,7 +2,7 @@
 -- line feed with its class, or a space.
 use Rattle.std.proofs.Common.{rules}
 use Rattle.std.proofs.Common.{arith}
-use Rattle.std.proofs.Common.{◌≡◌, ℕ, ◌+◌, ◌-◌, zero, suc, Bool, true, false, List, [], ◌∷◌, ◌++◌, map, drop, get_or}
+use Rattle.std.proofs.Common.{◌≡◌, ℕ, ◌+◌, zero, suc, Bool, true, false, List, [], ◌∷◌, ◌++◌, map}
 use Rattle.std.proofs.Common.{refl, sym, subst}
 use Rattle.std.specs.Prelude.{◌==◌, if◌then◌else◌, filter, flat_map}
 use Rattle.std.specs.List.{AllZip, zip, list_all}
@@ -25,7 +25,7 @@ use Rattle.tangle_bodies.specs.WebShapes.{is_piece_of, use_of, resolved_at, shap
 use Rattle.tangle_expansion.specs.Location.{ByteClass, Other, class_at, resolved_classes, items_classes, classes}
 use Rattle.tangle_c_tokens.specs.LineFeeds.{TextHasNoLineFeed, SourceLinesHaveNoLineFeed}
 use Rattle.tangle_c_tokens.proofs.DecimalLemmas.{decimal-digits}
-use Rattle.tangle_c_tokens.proofs.OneLineLemmas.{no-feed-take, no-feed-drop, line-at}
+use Rattle.tangle_c_tokens.proofs.OneLineLemmas.{span-clear}
 use Rattle.tangle_c_lines.proofs.SymbolLemmas.{FitsClass}
 
 zip-both : {X Y : Type 0} (R : X → Y → Type 0) (xs zs : List X) (ys ws : List Y) → AllZip R xs ys → AllZip R zs ws → AllZip R (xs ++ zs) (ys ++ ws)
@@ -34,10 +34,6 @@ zip-both R [] zs (y ∷ ys) ws h k = absurd h
 zip-both R (x ∷ xs) zs ys ws h k = search (rules, zip-both R xs zs)
 
 -- texts without line feeds
-
-span-none : (lines : List SourceLine) (s : Span) → SourceLinesHaveNoLineFeed lines → TextHasNoLineFeed (span_text (texts_of lines) s)
-span-none lines s clear =
-    no-feed-take (s.end - s.start) (drop s.start (get_or (texts_of lines) s.line [])) (no-feed-drop s.start (get_or (texts_of lines) s.line []) (line-at lines clear s.line))
 
 digits-none : (t : List ℕ) → list_all is_digit t ≡ true → TextHasNoLineFeed t
 digits-none [] all = refl
@@ -55,7 +51,7 @@ module _ (web : WebRead) (lines : List SourceLine) (same : web.texts ≡ texts_o
   bytes-fit (b ∷ bytes) ss ys ds none h = grind (arith, nat_tests, fits-class b ss, bytes-fit bytes ss ys ds)
 
   span-fits : (s : Span) → TextHasNoLineFeed (span_text web.texts s)
-  span-fits s = subst (λ (texts : List (List ℕ)). TextHasNoLineFeed (span_text texts s)) (sym same) (span-none lines s clear)
+  span-fits s = subst (λ (texts : List (List ℕ)). TextHasNoLineFeed (span_text texts s)) (sym same) (span-clear lines clear s)
 
   resolved-fit : (node : Title) (piece marks : ℕ) (items : List ShapeItem) (ds : List ByteClass) (border : Border) (r : Resolved)
       → AllZip FitsClass (items_flat used node piece marks items) ds

@@ -1,7 +1,7 @@
 -- No mark of an expansion is directly after a backslash, if the pieces that it reaches are whole.
 use Rattle.std.proofs.Common.{rules}
 use Rattle.std.proofs.Common.{arith}
-use Rattle.std.proofs.Common.{◌≡◌, ℕ, ◌+◌, zero, suc, Bool, true, false, List, [], ◌∷◌, ◌++◌, map, filter, Option}
+use Rattle.std.proofs.Common.{ℕ, ◌+◌, zero, suc, Bool, true, false, List, [], ◌∷◌, ◌++◌, map, filter, Option}
 use Rattle.std.proofs.Common.{refl, sym, subst, append_assoc, append-nil}
 use Rattle.std.specs.Prelude.{if◌then◌else◌, flat_map}
 use Rattle.std.specs.List.{AllByRecursion}
@@ -26,7 +26,7 @@ use Rattle.tangle_c_tokens.specs.Pieces.{Passage, row_of_piece}
 use Rattle.tangle_c_tokens.specs.Files.{IsWholePassage, ReachesWholePieces, node_row, shapes_in}
 use Rattle.tangle_c_lines.proofs.KeptMarks.{MarksAreKept, IsWholeText, is_kept, after_feed, kept-last, feed-kept, marks-kept}
 use Rattle.tangle_c_tokens.proofs.ListLemmas.{all-front, all-back, each}
-use Rattle.tangle_c_lines.proofs.ByteLemmas.{all-each}
+use Rattle.tangle_c_tokens.proofs.ListLemmas.{all-each}
 use Rattle.tangle_c_lines.proofs.SymbolLemmas.{AreKept}
 
 -- symbols that are kept if what is after them is, and before which no backslash is
@@ -41,16 +41,8 @@ bytes-kept so_far (b ∷ bytes) rest h =
     grind (arith, kept-last so_far b [], bytes-kept (so_far ++ b ∷ []) bytes rest, append_assoc so_far (b ∷ []) bytes)
 
 module _ (texts : List (List ℕ)) (table : TableRead) (used : List ℕ → List Symbol) where
-  abbrev Names : List Item → Type 0
-  Names items = AllByRecursion (λ name. KeepOn (used name)) (flat_map item_names (map (shape_item texts table) items))
-
   abbrev symbols_of : Title → ℕ → ℕ → List Item → List Symbol
   symbols_of node piece marks items = items_flat used node piece marks (map (shape_item texts table) items)
-
-  written-kept : (so_far bytes : List ℕ) (symbols rest : List Symbol) → AreKept (is_kept (so_far ++ bytes)) (symbols ++ rest)
-      → AreKept (is_kept so_far) ((map Byte bytes ++ symbols) ++ rest)
-  written-kept so_far bytes symbols rest h =
-      subst (AreKept (is_kept so_far)) (sym (append_assoc (map Byte bytes) symbols rest)) (bytes-kept so_far bytes (symbols ++ rest) h)
 
   use-kept : (node : Title) (piece marks : ℕ) (items : List ShapeItem) (rest : List Symbol) (kept : Bool) (r : Resolved)
       → AllByRecursion (λ name. KeepOn (used name)) (item_names (use_of table r))
@@ -60,7 +52,8 @@ module _ (texts : List (List ℕ)) (table : TableRead) (used : List ℕ → List
 
   -- the items of a piece
   items-kept : (node : Title) (piece marks : ℕ) (so_far : List ℕ) (items : List Item) (rest : List Symbol)
-      → MarksAreKept texts so_far items → Names items → AreKept true rest
+      → MarksAreKept texts so_far items
+      → AllByRecursion (λ name. KeepOn (used name)) (flat_map item_names (map (shape_item texts table) items)) → AreKept true rest
       → AreKept (is_kept so_far) (symbols_of node piece marks items ++ rest)
   items-kept node piece marks so_far [] rest kept names h = h
   items-kept node piece marks so_far (item.LineMark origin ∷ items) rest kept names h = (kept.0, items-kept node piece (marks + 1) [] items rest kept.1 names h)
@@ -71,8 +64,9 @@ module _ (texts : List (List ℕ)) (table : TableRead) (used : List ℕ → List
       search (rules, use-kept, all-front, all-back, items-kept node piece marks [] items rest kept)
   items-kept node piece marks so_far (item.AllMacros ∷ items) rest kept names h = items-kept node piece marks [] items rest kept names h
   items-kept node piece marks so_far (x ∷ items) rest kept names h =
-      written-kept so_far (bytes_in texts x) (symbols_of node piece marks items) rest
-      (items-kept node piece marks (so_far ++ bytes_in texts x) items rest kept names h)
+      subst (AreKept (is_kept so_far)) (sym (append_assoc (map Byte (bytes_in texts x)) (symbols_of node piece marks items) rest))
+      (bytes-kept so_far (bytes_in texts x) (symbols_of node piece marks items ++ rest)
+      (items-kept node piece marks (so_far ++ bytes_in texts x) items rest kept names h))
 
   pieces-kept : (node : Title) (piece : ℕ) (pieces : List PieceRead) → AllByRecursion (λ p. MarksAreKept texts [] p.items) pieces
       → AllByRecursion (λ name. KeepOn (used name)) (shape_names (shape_of texts table pieces))
@@ -104,9 +98,6 @@ module _ (source : SourceRead) (clear : SourceLinesHaveNoLineFeed source.lines) 
   abbrev AreWhole : List Passage → Type 0
   AreWhole row = AllByRecursion (IsWholePassage source) row
 
-  passage-whole : (p : Passage) → IsWholePassage source p → IsWholeText (texts_of lines) (λ occurrence. []) [] p
-  passage-whole p whole = search rules
-
   -- the pieces of a node whose row is whole
   abbrev AreKeptPieces : Title → List PieceRead → List (List Token) → Type 0
   AreKeptPieces node pieces tokens =
@@ -127,7 +118,7 @@ module _ (source : SourceRead) (clear : SourceLinesHaveNoLineFeed source.lines) 
           → AllByRecursion IsKeptPiece (if is then p ∷ filter (is_piece_of table node) pieces else filter (is_piece_of table node) pieces)
       chosen true whole = (
         marks-kept lines (λ occurrence. []) [] line b.tokens
-            (all-each (IsWholePassage source) (IsWholeText (texts_of lines) (λ occurrence. []) []) _ passage-whole
+            (all-each (IsWholePassage source) (IsWholeText (texts_of lines) (λ occurrence. []) []) _ (λ p whole. search rules)
             (all-front (IsWholePassage source) row _ whole).1),
         more (all-back (IsWholePassage source) row _ whole),
       )

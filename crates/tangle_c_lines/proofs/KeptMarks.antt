@@ -74,14 +74,14 @@ module _ (lines : List SourceLine) (used : ℕ → List ℕ) (macros : List ℕ)
   AreWhole row = AllByRecursion (IsWholeText texts used macros) row
 
   -- the first of these items is within a part, or a mark
-  abbrev goes_on : List Item → Bool
-  goes_on [] = false
-  goes_on (x ∷ xs) = is_inner x || is_mark x
+  abbrev is_within : List Item → Bool
+  is_within [] = false
+  is_within (x ∷ xs) = is_inner x || is_mark x
 
   -- after a line so far that takes out no line feed, unless white space or a use is next
   abbrev AreKept : List Passage → List Item → Type 0
   AreKept row xs =
-      AreWhole row → (so_far : List ℕ) → (goes_on xs ≡ true → is_kept so_far ≡ true) → MarksAreKept texts so_far xs
+      AreWhole row → (so_far : List ℕ) → (is_within xs ≡ true → is_kept so_far ≡ true) → MarksAreKept texts so_far xs
 
   -- the items of a part, which so far has the text `t`
   own-kept : (own xs : List Item) (so_far t : List ℕ) → list_all is_inner own ≡ true → EndsAs so_far t
@@ -94,16 +94,15 @@ module _ (lines : List SourceLine) (used : ℕ → List ℕ) (macros : List ℕ)
       let more = own-kept own xs (so_far ++ bytes_in texts x) (t ++ bytes_in texts x) in
       search (rules, false≢true, ends-more, append_assoc)
 
-  feeds : (part : Group) (xs : List Item) → Meets lines used none macros part xs → goes_on xs ≡ true
-      → line_feed_follows texts used macros part ≡ true
-  feeds part xs meets on = search rules
-
   part-kept : (part : Group) (own : List Item) (row : List Passage) (xs : List Item) → IsPart lines used none macros part own xs
       → AreKept row xs → AreKept (OfPart part ∷ row) (own ++ xs)
   part-kept part [] row xs is next whole so_far kept = next whole.1 so_far kept
   part-kept part (x ∷ own) row xs is next whole so_far kept =
       own-kept (x ∷ own) xs so_far [] is.inner (λ none. kept (or_left (is_inner x) (is_mark x) (and_parts (is_inner x) (list_all is_inner own) is.inner).0))
-      (λ line last. next whole.1 line (λ on. last (ap is_kept is.bytes ∙ whole.0.kept (feeds part xs is.meets on))))
+      (λ line last. next whole.1 line (λ on. last (ap is_kept is.bytes ∙ whole.0.kept (follows is.meets on))))
+    where
+      follows : Meets lines used none macros part xs → is_within xs ≡ true → line_feed_follows texts used macros part ≡ true
+      follows meets on = search rules
 
   use-kept : (e : Token) (x : Item) (es : List Token) (origin : Origin) (row : List Passage) (xs : List Item)
       → IsUseItem e x → AreKept row (item.LineMark origin ∷ xs)

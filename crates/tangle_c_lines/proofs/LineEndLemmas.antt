@@ -1,10 +1,11 @@
 -- The end of a line of C in a text whose tokens are counted as they are written.
+use Rattle.std.proofs.lemmas.Bool.{cond_both, false_from_ne_true, true≢false}
 use Rattle.std.proofs.Common.{rules}
 use Rattle.std.proofs.lemmas.Bool.Decides.{nat_tests}
 use Rattle.std.proofs.Common.{arith}
 use Rattle.std.proofs.Common.{◌≡◌, ℕ, ◌+◌, ◌≤◌, Bool, true, false, List, [], ◌∷◌, ◌++◌, take, drop, get_or}
 use Rattle.std.proofs.Common.{Option, None, Some, refl, sym, ap, subst, ◌∙◌, append-nil}
-use Rattle.std.specs.Prelude.{◌&&◌, ◌||◌, if◌then◌else◌, slice_index_or}
+use Rattle.std.specs.Prelude.{◌||◌, if◌then◌else◌, slice_index_or}
 use Rattle.std.specs.List.{AllByRecursion}
 use Rattle.std.proofs.lemmas.Bool.{false≢true}
 use Rattle.c_tokens.specs.Bytes.{line_feed}
@@ -16,8 +17,9 @@ use Rattle.c_lines.specs.JoinedLines.{joined_lines}
 use Rattle.c_lines.proofs.LineLemmas.{line-first, line-last}
 use Rattle.c_lines.proofs.LineLemmas.{tokens-placed}
 use Rattle.tangle_c_tokens.proofs.ListLemmas.{all-append}
-use Rattle.tangle_c_lines.proofs.ByteLemmas.{all-each, all-map, rest-drop, begins_sign, region-chosen, before-more, counts-feed}
-use Rattle.tangle_c_lines.proofs.ByteLemmas.{Stands, AreRead, IsOwn, IsOwnAt, IsPlainAt, IsBefore, IsCountedAs, ArePlain}
+use Rattle.tangle_c_lines.proofs.ByteLemmas.{rest-drop, begins_sign, region-chosen, before-more, counts-feed}
+use Rattle.tangle_c_tokens.proofs.ListLemmas.{all-each, all-map}
+use Rattle.tangle_c_lines.proofs.ByteLemmas.{Stands, AreRead, IsOwn, IsOwnAt, IsPlainAt, IsBefore, IsCountedAs}
 use Rattle.tangle_c_lines.proofs.SignLemmas.{token-bytes, directive-sign}
 use Rattle.tangle_lines.specs.declared.origin.Origin.{Origin}
 use Rattle.tangle_scan.specs.LineTruth.{with_line_end}
@@ -31,6 +33,13 @@ same-count count end words none = search rules
 
 row-after : (count : LineCount) (end : Place) (words : List (List ℕ)) → count.row ≤ end.row → (count_after count (Some end) words).row ≤ end.row + 1
 row-after count end words le = search rules
+
+-- the first line, if a line feed ends it, and those after it
+whole-lines : (line rest : List ℕ) → keep_lines line (line_feed ∷ []) ≡ true
+    → AllByRecursion (λ l. is_whole l ≡ true) (joined_lines line (line_feed ∷ rest))
+    → AllByRecursion (λ l. is_whole l ≡ true) (line ∷ joined_lines [] rest)
+whole-lines line rest kept = subst (λ (b : Bool). AllByRecursion (λ l. is_whole l ≡ true)
+    (if b then line ∷ joined_lines [] rest else joined_lines (line ++ line_feed ∷ []) rest)) kept
 
 module _ (names : List (List ℕ)) (all : List ByteClass) (text : List ℕ) where
   abbrev Owns : TokenRead → Type 0
@@ -51,9 +60,6 @@ module _ (names : List (List ℕ)) (all : List ByteClass) (text : List ℕ) wher
       → last_border (drop (place_of_first es).at (take n all)) ≡ border
   border-is border n test [] none before is between = absurd (false≢true (sym none ∙ is))
   border-is border n test (e ∷ es) none before is between = grind (arith, before.0.last)
-
-  plain-none : (origin : Option Origin) → ArePlain names all text origin []
-  plain-none origin = search rules
 
   -- A line feed ends a line. `onward`: what is after it is read as it is to be, in a region that the
   -- border permits.
@@ -77,9 +83,10 @@ module _ (names : List (List ℕ)) (all : List ByteClass) (text : List ℕ) wher
       (region-chosen after read (slice_index_or choices 0 true) (begins_group words) (turns_group words) T begins turns pending)
       (record {
         own = λ now. tt;
-        plain = plain-none next;
+        plain = search rules;
         counts = new;
-        row = row-by read;
+        row = cond_both read (count_after count (Some here) words) count (λ c. c.row ≤ here.row + 1)
+            (λ e. row-after count here words s.row) (λ e. omega (arith, s.row));
         joined = refl;
         whole = whole.1;
         borders = tt;
@@ -102,8 +109,7 @@ module _ (names : List (List ℕ)) (all : List ByteClass) (text : List ℕ) wher
       after = later_border border (border_of k)
 
       whole : AllByRecursion (λ l. is_whole l ≡ true) (line ∷ joined_lines [] rest)
-      whole = subst (λ (b : Bool). AllByRecursion (λ l. is_whole l ≡ true)
-          (if b then line ∷ joined_lines [] rest else joined_lines (line ++ line_feed ∷ []) rest)) kept s.whole
+      whole = whole-lines line rest kept s.whole
 
       split : lines_from start (line ++ line_feed ∷ rest) ≡ found ∷ lines_from (next_place here line_feed) rest
       split = line-first start line rest whole.0 s.joined kept
@@ -115,10 +121,6 @@ module _ (names : List (List ℕ)) (all : List ByteClass) (text : List ℕ) wher
       before = tokens-placed (IsBefore names all text after (here.at + 1)) start line
           (subst (λ (n : ℕ). AllByRecursion (IsBefore names all text after n) (places start line)) (omega arith)
           (all-each _ _ (places start line) (before-more names all text border here.at k ks s.classes_are) s.borders))
-
-      row-by : (read : Bool) → (if read then count_after count (Some here) words else count).row ≤ here.row + 1
-      row-by true = row-after count here words s.row
-      row-by false = omega (arith, s.row)
 
       begins : begins_group words ≡ true → is_between_regions after ≡ true
       begins is = ap is_between_regions (sym (border-is after (here.at + 1) begins_group found.tokens refl before is (seen.0.begins is))) ∙ seen.0.begins is
@@ -135,18 +137,17 @@ module _ (names : List (List ℕ)) (all : List ByteClass) (text : List ℕ) wher
       → Stands names all text start line read count border origin (line_feed ∷ rest) ks → keep_lines line (line_feed ∷ []) ≡ true
       → IsSeen all (record { tokens = tokens_at start line; end = Some (place_after start line) })
   first-seen start line read count border origin rest ks s kept =
-      (subst (AllByRecursion (IsSeen all)) (line-first start line rest (whole s.whole) s.joined kept) s.seen).0
-    where
-      whole : AllByRecursion (λ l. is_whole l ≡ true) (joined_lines line (line_feed ∷ rest)) → is_whole line ≡ true
-      whole h = (subst (λ (b : Bool). AllByRecursion (λ l. is_whole l ≡ true)
-          (if b then line ∷ joined_lines [] rest else joined_lines (line ++ line_feed ∷ []) rest)) kept h).0
+      (subst (AllByRecursion (IsSeen all)) (line-first start line rest (whole-lines line rest kept s.whole).0 s.joined kept) s.seen).0
 
   -- the line is no `#line`, if its bytes are plain
   no-line : (start : Place) (line : List ℕ) (read : Bool) (count : LineCount) (border : Border)
       (o : Origin) (rest : List ℕ) (ks : List ByteClass)
       → Stands names all text start line read count border (Some o) (line_feed ∷ rest) ks → keep_lines line (line_feed ∷ []) ≡ true
       → sets_line (directive (tokens_at start line)) ≡ false
-  no-line start line read count border o rest ks s kept = by (sets_line (directive (tokens_at start line))) refl
+  no-line start line read count border o rest ks s kept =
+      false_from_ne_true (sets_line (directive found)) λ is. true≢false
+      (sign found plain ((first-seen start line read count border (Some o) rest ks s kept).marks is)
+      (directive-sign text found (token-bytes text start line (line_feed ∷ rest) s.line_is) (directive-is found is)))
     where
       found : List PlacedElement
       found = tokens_at start line
@@ -161,11 +162,6 @@ module _ (names : List (List ℕ)) (all : List ByteClass) (text : List ℕ) wher
       sign [] plain none h = absurd (grind (arith, h.2))
       sign (e ∷ es) plain none h =
           sym (ap (λ (es : List PlacedElement). begins_sign (get_or text (place_of_first es).at 0)) h.2 ∙ h.3) ∙ plain.0 none
-
-      by : (b : Bool) → sets_line (directive found) ≡ b → b ≡ false
-      by true is = sign found plain ((first-seen start line read count border (Some o) rest ks s kept).marks is)
-          (directive-sign text found (token-bytes text start line (line_feed ∷ rest) s.line_is) (directive-is found is))
-      by false is = refl
 
   -- the count after a line that is no mark
   pub counts-end : (start : Place) (line : List ℕ) (read : Bool) (count : LineCount) (border : Border)

@@ -1,4 +1,5 @@
 -- Bytes, runs of bytes and line marks of a text whose tokens are counted as they are written.
+use Rattle.std.proofs.lemmas.Bool.{cond_both}
 use Rattle.std.proofs.Common.{rules}
 use Rattle.std.proofs.lemmas.Bool.Decides.{nat_tests}
 use Rattle.std.proofs.Common.{arith}
@@ -125,12 +126,9 @@ module _ (names : List (List ℕ)) (all : List ByteClass) (text : List ℕ) wher
   loose-read kept [] rest ks T onward = onward
   loose-read kept (b ∷ bs) rest ks T onward = λ start line read count choices border keeps-so s pending.
       byte-read kept b (bs ++ rest) no_class (no_classes bs ++ ks) None T tt
-      (none-after (is_feed b) (λ o. IsReadOn (keeps b) o (bs ++ rest) (no_classes bs ++ ks) T) (loose-read (keeps b) bs rest ks T onward))
+      (cond_both (is_feed b) None None (λ o. IsReadOn (keeps b) o (bs ++ rest) (no_classes bs ++ ks) T)
+      (λ e. loose-read (keeps b) bs rest ks T onward) (λ e. loose-read (keeps b) bs rest ks T onward))
       start line read count choices border keeps-so s (each-choice border read T _ (λ now h. (tt, h)) pending)
-    where
-      none-after : (feed : Bool) (P : Option Origin → Type 0) → P None → P (if feed then None else None)
-      none-after true P h = h
-      none-after false P h = h
 
   sign-first : (origin : Option Origin) (b : ℕ) (bs : List ℕ) (k : ByteClass) → HasNoSign origin (b ∷ bs) → IsPlainByte names all text origin b k
   sign-first origin b bs k plain = search (rules, and_parts, not-true)
@@ -211,16 +209,13 @@ module _ (names : List (List ℕ)) (all : List ByteClass) (text : List ℕ) wher
       counts : LineCount
       counts = if read then count_after count (Some here) (directive (tokens_at start line)) else count
 
-      words : (directive (tokens_at start line)) ≡ codes "line" ∷ digits ∷ literal ∷ []
-      words = (line-directive start digits literal all_digits some is_text in_line).1
-
       set : count_after count (Some here) (codes "line" ∷ digits ∷ literal ∷ []) ≡ counts_from (here.row + 1) (unescaped (drop 1 literal)) digits
       set = rw all_digits (rw is_text refl)
 
       new : (read : Bool) → IsCountedAs names all text (if read then count_after count (Some here) (directive (tokens_at start line)) else count)
           (here.row + 1) (if read then Some own else with_line_end origin)
       new true = subst (λ (c : LineCount). counted c (here.row + 1) ≡ presumed names all text own)
-          (sym (ap (count_after count (Some here)) words ∙ set))
+          (sym (ap (count_after count (Some here)) (line-directive start digits literal all_digits some is_text in_line).1 ∙ set))
           (ap (λ (f : List ℕ). record { file = f; line = digits_value 10 digits + ((here.row + 1) - (here.row + 1)) }) name
           ∙ ap (λ (n : ℕ). record { file = get_or names own.file []; line = n }) (omega (arith, number)))
       new false = subst (λ (row : ℕ). IsCountedAs names all text count (row + 1) (with_line_end origin)) (sym (rows-same start line no_feed))

@@ -8,15 +8,13 @@ use Rattle.tangle_scan.specs.declared.items.Item.{Item}
 use Rattle.tangle_scan.specs.Rules.{texts_of, macro_items}
 use Rattle.tangle_lexer.specs.Steps.{all_tokens}
 use Rattle.tangle_scan.specs.MacroBytes.{macro_bytes}
-use Rattle.tangle_scan.specs.ReadAsMeant.{written_tokens, all_macro_tokens}
+use Rattle.tangle_scan.specs.ReadAsMeant.{all_macro_tokens}
 use Rattle.tangle_scan.specs.Web.{Block, blocks, macro_of}
 use Rattle.tangle_c_tokens.specs.Reading.{IsReadAsTexts}
-use Rattle.tangle_c_tokens.specs.Groups.{groups}
 use Rattle.tangle_c_tokens.specs.Kinds.{AreTexts}
 use Rattle.tangle_c_tokens.specs.LineFeeds.{SourceLinesHaveNoLineFeed}
 use Rattle.tangle_c_tokens.proofs.OneLineLemmas.{macro-on_line}
-use Rattle.tangle_c_tokens.specs.Macros.{IsReadAlone}
-use Rattle.tangle_c_tokens.specs.Files.{macro_texts}
+use Rattle.tangle_c_tokens.specs.Macros.{GroupsAreReadAlone, macro_texts}
 use Rattle.tangle_c_tokens.proofs.MacroLemmas.{macro-by-groups}
 use Rattle.tangle_c_tokens.proofs.kind_lemmas.WebTexts.{macro_tokens_of, macros-by, blocks-have}
 use Rattle.tangle_c_tokens.proofs.FeedLemmas.{KeepsFeed, keeps-more, keeps-last}
@@ -31,11 +29,8 @@ macros-keep texts (items ∷ macros) =
 -- `rest` is written after all macros, and read as the texts `ts`.
 module _ (lines : List SourceLine) (rest : List ℕ) (ts : List (List ℕ))
     (read : IsReadAsTexts ts rest) (none : SourceLinesHaveNoLineFeed lines) where
-  abbrev IsAlone : List Token → Type 0
-  IsAlone es = AllByRecursion (IsReadAlone (texts_of lines)) (groups (written_tokens (texts_of lines) es))
-
   abbrev AreRead : List (List Item) → List (List Token) → Type 0
-  AreRead macros tokens = AllByRecursion IsAlone tokens →
+  AreRead macros tokens = AllByRecursion (GroupsAreReadAlone (texts_of lines)) tokens →
       IsReadAsTexts (flat_map (macro_texts (texts_of lines)) tokens ++ ts)
       (flat_map (macro_bytes (texts_of lines)) macros ++ rest)
 

@@ -1,5 +1,6 @@
 -- The comments that open and close a piece have no tokens, and are apart from what is before and
 -- after them.
+use Rattle.c_tokens.proofs.GrammarLemmas.{all-weaker}
 use Rattle.std.proofs.Common.{rules}
 use Rattle.tangle_c_tokens.proofs.DecimalLemmas.{decimal-digits}
 use Rattle.c_tokens.specs.Bytes.{is_digit}
@@ -7,14 +8,14 @@ use Rattle.std.proofs.Common.{◌≡◌, ℕ, Bool, true, false, List, []}
 use Rattle.std.proofs.Common.{◌∷◌, ◌++◌, refl, ap, ◌∙◌, append_assoc, codes, arith}
 use Rattle.std.specs.Prelude.{◌&&◌, not, ◌==◌, filter, decimal}
 use Rattle.std.specs.List.{list_all}
-use Rattle.std.proofs.lemmas.Bool.{and_parts, or_right}
+use Rattle.std.proofs.lemmas.Bool.{or_right}
 use Rattle.std.proofs.lemmas.List.Folds.{list_all-append}
 use Rattle.c_tokens.specs.Bytes.{line_feed, space, slash, asterisk, backslash}
 use Rattle.c_tokens.specs.Grammar.{is_token, is_punctuator, is_comment, ends_once}
 use Rattle.c_tokens.specs.Reading.{spliced, elements, elements_from, tokens}
 use Rattle.c_tokens.specs.Borders.{last_element, last_byte}
 use Rattle.c_tokens.specs.Borders.{have_border}
-use Rattle.c_tokens.proofs.TouchingLemmas.{one-element, comment-element}
+use Rattle.c_tokens.proofs.ElementLemmas.{one-element, comment-element, last-append}
 use Rattle.c_lines.proofs.JoinedLemmas.{feeds_taken}
 use Rattle.tangle_c_tokens.proofs.TextLemmas.{Follows, follows-same, apart-from}
 use Rattle.tangle_expansion.specs.Numbers.{opening_bytes, closing_bytes}
@@ -29,27 +30,17 @@ comment inside = slash ∷ asterisk ∷ inside ++ asterisk ∷ slash ∷ []
 
 -- numbers
 
-digits-inside : (t : List ℕ) → list_all is_digit t ≡ true → list_all is_inside t ≡ true
-digits-inside [] all = refl
-digits-inside (b ∷ t) all = grind (arith, nat_tests, digits-inside t)
-
 decimal-inside : (n : ℕ) → list_all is_inside (decimal n) ≡ true
-decimal-inside n = digits-inside (decimal n) (decimal-digits n)
+decimal-inside n = all-weaker is_digit is_inside (λ b digit. grind (arith, nat_tests)) (decimal n) (decimal-digits n)
 
 -- the comment as an element
 
 inside-ends : (inside more : List ℕ) → list_all is_inside inside ≡ true →
     ends_once (inside ++ asterisk ∷ slash ∷ more) ≡ ends_once (asterisk ∷ slash ∷ more)
 inside-ends [] more all = refl
-inside-ends (b ∷ inside) more all =
-    let other : (b == asterisk) ≡ false = search rules in
-    two inside other ∙ inside-ends inside more (and_parts (is_inside b) (list_all is_inside inside) all).1
-  where
-    two : (inside : List ℕ) → (b == asterisk) ≡ false → ends_once (b ∷ inside ++ asterisk ∷ slash ∷ more) ≡ ends_once
-        (inside ++ asterisk ∷ slash ∷ more)
-    two [] other = search rules
-    two (c ∷ []) other = search rules
-    two (c ∷ d ∷ inside) other = search rules
+inside-ends (b ∷ []) more all = grind (arith, nat_tests)
+inside-ends (b ∷ c ∷ []) more all = grind (arith, nat_tests, inside-ends (c ∷ []) more)
+inside-ends (b ∷ c ∷ d ∷ inside) more all = grind (arith, nat_tests, inside-ends (c ∷ d ∷ inside) more)
 
 comment-is : (inside : List ℕ) → list_all is_inside inside ≡ true → is_comment (comment inside) ≡ true
 comment-is inside all = rw (inside-ends inside [] all) refl
@@ -73,10 +64,6 @@ no-token : (inside : List ℕ) → filter is_token (comment inside ∷ []) ≡ [
 unfolding is_token is_punctuator
 no-token inside = refl
 
-pub last-slash : (x : ℕ) (a : List ℕ) → last_byte x (a ++ asterisk ∷ slash ∷ []) ≡ slash
-last-slash x [] = refl
-last-slash x (y ∷ a) = last-slash y a
-
 comment-border : (inside b : List ℕ) → list_all is_inside inside ≡ true → have_border (comment inside) b ≡ true
 comment-border inside [] all = refl
 comment-border inside (c ∷ b) all =
@@ -84,7 +71,7 @@ comment-border inside (c ∷ b) all =
     let d : ℕ = last_byte asterisk (inside ++ asterisk ∷ slash ∷ []) in
     let is : is_comment (last_element [] (elements_from 0 t)) ≡ true =
     grind (arith, nat_tests, one-element slash, comment-element t, comment-is inside all) in
-    search (rules, or_right, last-slash)
+    search (rules, or_right, last-append)
 
 -- bytes after a comment, and before one
 
@@ -96,7 +83,7 @@ comment-one after (b ∷ inside) all = grind (arith, nat_tests, comment-one (b =
 comment-front : (inside rest : List ℕ) → list_all is_inside inside ≡ true → Follows [] rest (comment inside ++ rest)
 comment-front inside rest all =
     let apart = apart-from (comment inside) rest (grind (arith, nat_tests, one-comment, comment-ended))
-    (comment-one false inside all) (search (rules, last-slash)) (search (rules, spliced-comment, comment-border)) in
+    (comment-one false inside all) (search (rules, last-append)) (search (rules, spliced-comment, comment-border)) in
     record {
       read = apart.read ∙ ap (λ es. filter is_token es ++ tokens rest) (one-comment inside all)
           ∙ ap (λ ts. ts ++ tokens rest) (no-token inside);
@@ -105,13 +92,10 @@ comment-front inside rest all =
 
 -- the comments around a piece
 
-opening-is : (n : ℕ) → opening_bytes n ≡ comment (decimal n ++ codes ":")
-opening-is n = search (rules, append_assoc)
-
 pub after-opening : (n : ℕ) (rest : List ℕ) → Follows [] rest (opening_bytes n ++ rest)
 after-opening n rest =
     follows-same [] rest (opening_bytes n ++ rest) (comment (decimal n ++ codes ":") ++ rest)
-    (ap (λ t. t ++ rest) (opening-is n))
+    (search (rules, append_assoc))
     (comment-front (decimal n ++ codes ":") rest (grind (arith, list_all-append is_inside (decimal n) (codes ":"), decimal-inside n)))
 
 pub after-closing : (n : ℕ) (rest : List ℕ) → Follows [] rest (closing_bytes n ++ rest)

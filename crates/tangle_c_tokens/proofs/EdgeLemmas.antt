@@ -2,22 +2,23 @@
 use Rattle.std.proofs.Common.{rules}
 use Rattle.std.proofs.Common.{arith}
 use Rattle.std.proofs.Common.{◌≡◌, ℕ, Bool, true, false, ◌&&◌, ◌||◌, not, List, [], ◌∷◌, ◌++◌}
-use Rattle.std.proofs.Common.{Option, Some, None, ◌⊎◌}
+use Rattle.std.proofs.Common.{Option, Some, None}
 use Rattle.std.specs.List.{AllByRecursion, last_or, list_all}
 use Rattle.std.specs.Option.{IfSome}
 use Rattle.c_tokens.specs.Bytes.{line_feed}
+use Rattle.c_tokens.specs.Reading.{spliced}
 use Rattle.c_tokens.specs.Borders.{is_whole, keep_lines}
 use Rattle.tangle_lexer.specs.declared.tokens.Token.{Token}
 use Rattle.tangle_lexer.specs.declared.tokens.Token.TheVariants as token
 use Rattle.tangle_scan.specs.Rules.{may_touch, next_item, ends_line}
 use Rattle.tangle_scan.specs.ReadAsMeant.{with_written, written_tokens}
-use Rattle.tangle_c_tokens.specs.Edges.{begins_as, ends_as, number_goes_on_with}
+use Rattle.tangle_c_tokens.specs.Edges.{begins_as, ends_as, last_number_goes_on}
 use Rattle.tangle_c_tokens.specs.Kinds.{item_kind, is_range, AreTexts}
 use Rattle.tangle_c_tokens.proofs.kind_lemmas.Texts.{texts-by}
 use Rattle.tangle_c_tokens.specs.Groups.{Group, group_before, groups_after, group_text}
 use Rattle.tangle_c_tokens.specs.Macros.{text_of, stay_apart, IsReadAlone}
 use Rattle.c_lines.proofs.JoinedLemmas.{IsOneLine}
-use Rattle.tangle_c_tokens.proofs.ListLemmas.{all-both}
+use Rattle.tangle_c_tokens.proofs.ListLemmas.{all-append, all-both}
 use Rattle.std.proofs.lemmas.Bool.Decides.{nat_tests}
 
 module _ (texts : List (List ℕ)) where
@@ -56,7 +57,7 @@ module _ (texts : List (List ℕ)) where
       not (may_touch texts e f)
       || ends_as (item_kind texts e) (text_of texts e) && begins_as (item_kind texts f)
       (text_of texts f)
-      && not (number_goes_on_with text (text_of texts f))
+      && not (last_number_goes_on (spliced text) (text_of texts f))
   are_apart_at_edges text e f = true
 
   pub record IsApart (group : Group) : Type 0 where
@@ -89,10 +90,6 @@ module _ (texts : List (List ℕ)) where
       → AllByRecursion IsApart (group_before rest items ++ gs)
   before-apart items rest gs of_items of_rest next alone = search (rules, apart-edges, last-edges, next-edges)
 
-  more-edges : (items : List Token) (e : Token) → HaveEdges items → HasItsEdges e → HaveEdges (items ++ e ∷ [])
-  more-edges [] e all of_e = (of_e, tt)
-  more-edges (x ∷ items) e all of_e = (all.0, more-edges items e all.1 of_e)
-
   groups-apart : (items es : List Token) → HaveEdges items → HaveEdges es →
       AllByRecursion IsAloneOnLine (groups_after items es) → AllByRecursion IsApart (groups_after items es)
   groups-apart items [] of_items all alone = grind (arith, nat_tests)
@@ -102,7 +99,7 @@ module _ (texts : List (List ℕ)) where
       before-apart items (token.LineEnd line ∷ es) (groups_after [] es) of_items all
       (groups-apart [] es tt all.1) alone
   groups-apart items (e ∷ es) of_items all alone =
-      grind (arith, nat_tests, groups-apart (items ++ e ∷ []) es (more-edges items e of_items all.0) all.1 alone)
+      grind (arith, nat_tests, groups-apart (items ++ e ∷ []) es (all-append HasItsEdges items (e ∷ []) of_items (all.0, tt)) all.1 alone)
 
   -- the groups of a macro that are read alone
   pub apart-groups : (es : List Token) → AreTexts texts es →

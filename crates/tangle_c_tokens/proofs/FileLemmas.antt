@@ -92,13 +92,6 @@ module _ (pieces : AreWrittenByPieces) (source : SourceRead) (modes : MarkMode)
       (node-read source numbers table used mark-lines macros-line (texts-on_line source.lines feeds.lines) node tail us read
       feeds.lines (whole, names))
 
-  node-keeps : (used : List ℕ → List Symbol) (node : Title)
-      → KeepsFeed (expansion_bytes numbers (pieces_flat used node 0 (all_shapes node)))
-  node-keeps used node =
-      subst KeepsFeed (sym (written used node))
-      (pieces-keep source numbers table used mark-lines macros-line (texts-on_line source.lines feeds.lines)
-      (pieces_of (web_of source) table node))
-
   -- what a node reaches its names reach
   names-by : (used : List ℕ → List Symbol) (node : Title) → ReachesWholePieces source node
       → ((name : List ℕ) → ReachesWholePieces source (Named name) → IsWholeLine (expansion_bytes numbers (used name)))
@@ -116,7 +109,9 @@ module _ (pieces : AreWrittenByPieces) (source : SourceRead) (modes : MarkMode)
       let bytes : List ℕ = expansion_bytes numbers (flat (suc fuel) all_shapes (Named name)) in
       let read = node-by-parts used (Named name) (reaches (Named name) here)
       (names-by used (Named name) reaches (name-line fuel)) [] [] no-text in
-      line-of bytes (subst LinesAreWhole (append-nil bytes) read.lines) (node-keeps used (Named name))
+      line-of bytes (subst LinesAreWhole (append-nil bytes) read.lines)
+      (subst KeepsFeed (sym (written used (Named name))) (pieces-keep source numbers table used mark-lines macros-line
+      (texts-on_line source.lines feeds.lines) (pieces_of (web_of source) table (Named name))))
 
   node-then : (node : Title) → IsExpandableNode all_shapes node → ReachesWholePieces source node
       → (tail : List ℕ) (us : List (List ℕ)) → IsReadAsTexts us tail →
@@ -140,10 +135,7 @@ module _ (pieces : AreWrittenByPieces) (source : SourceRead) (modes : MarkMode)
   bytes_in_file has_piece node =
       if has_piece then expansion_bytes numbers (flat_of all_shapes node) ++ line_feed ∷ [] else []
 
-  abbrev IsReady : Title → Type 0
-  IsReady node = IsExpandableNode all_shapes node × ReachesWholePieces source node
-
-  node-in-file : (has_piece : Bool) (node : Title) → (has_piece ≡ true → IsReady node) →
+  node-in-file : (has_piece : Bool) (node : Title) → (has_piece ≡ true → IsExpandableNode all_shapes node × ReachesWholePieces source node) →
       IsReadAsTexts (if has_piece then texts_of_node source modes node else []) (bytes_in_file has_piece node)
   node-in-file false node ready = no-text
   node-in-file true node ready =

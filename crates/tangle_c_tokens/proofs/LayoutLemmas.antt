@@ -1,11 +1,11 @@
 -- How the items of a piece lie in its row: those of parts, with a blank, a line end or a mark between two of them, and
 -- each use by itself.
 use Rattle.std.proofs.Common.{rules, arith}
-use Rattle.std.proofs.Common.{◌≡◌, ℕ, Bool, true, false, ◌&&◌, ◌||◌, if◌then◌else◌, List, [], ◌∷◌, ◌++◌, flat_map, map, drop}
+use Rattle.std.proofs.Common.{◌≡◌, ℕ, Bool, true, false, ◌&&◌, if◌then◌else◌, List, [], ◌∷◌, ◌++◌, flat_map, map, drop}
 use Rattle.std.proofs.Common.{append_assoc, append-nil, Option, Some, None, is_some, refl, ap, sym, ◌∙◌, subst}
 use Rattle.std.proofs.Math.Bool.{and-false, and-true}
 use Rattle.std.specs.List.{last_or, list_all}
-use Rattle.std.proofs.lemmas.Bool.{false≢true, or_left, or_right, and_from}
+use Rattle.std.proofs.lemmas.Bool.{cond_both, false≢true, or_left, or_right, and_from}
 use Rattle.std.proofs.lemmas.List.Concat.{flat_map-append}
 use Rattle.std.proofs.lemmas.List.Folds.{list_all-append}
 use Rattle.tangle_lines.specs.declared.origin.Origin.{Origin}
@@ -27,7 +27,7 @@ use Rattle.tangle_scan.proofs.lemmas.RuleLemmas.{blanks-item}
 use Rattle.tangle_c_tokens.specs.Groups.{Group, group_before}
 use Rattle.tangle_c_tokens.specs.Pieces.{Passage, OfPart, OfMark, mark_place, row_after, written_for, part_text}
 use Rattle.tangle_c_tokens.specs.Pieces.{line_feed_follows, is_closed}
-use Rattle.tangle_c_tokens.proofs.GroupLemmas.{last-item}
+use Rattle.tangle_c_tokens.proofs.GroupLemmas.{last-item, text-more}
 use Rattle.tangle_c_tokens.proofs.PartLemmas.{ends_in_use}
 
 abbrev pub is_mark : Item → Bool
@@ -163,7 +163,8 @@ module _ (lines : List SourceLine) (used : ℕ → List ℕ) (mark : Origin → 
         → flat_map item_bytes xs ≡ token_bytes texts (written_for texts used macros) e → list_all is_inner xs ≡ true
         → is_use e ≡ false → at.before ≡ Some e → at.white ≡ false → IsOpen (items ++ e ∷ []) (own ++ xs) at es
     more-open items own xs e at es bytes inner of_e inner_e no_use before white = record {
-      bytes = flat_map-append item_bytes own xs ∙ (λ i. bytes i ++ of_e i) ∙ sym text-more;
+      bytes = flat_map-append item_bytes own xs ∙ (λ i. bytes i ++ of_e i)
+          ∙ sym (text-more (token_bytes texts (written_for texts used macros)) items e);
       inner = list_all-append is_inner own xs ∙ and_from _ _ inner inner_e;
       last = e;
       no_use = no_use;
@@ -171,28 +172,21 @@ module _ (lines : List SourceLine) (used : ℕ → List ℕ) (mark : Origin → 
       before = before;
       white = λ is. absurd (false≢true (sym white ∙ is));
     }
-      where
-        text-more : text (items ++ e ∷ []) ≡ text items ++ token_bytes texts (written_for texts used macros) e
-        text-more = search (rules, flat_map-append)
 
     -- the end of a piece
 
     at-end : (at : At) → P [] (items_from at [])
-    at-end at = by (is_open texts at.before)
-      where
-        by : (b : Bool) → P [] (items_by_origin lines at.before at.turn at.counted (if b then token.White ∷ [] else []))
-        by true = blank [] [] ends
-        by false = ends
+    at-end at =
+        cond_both (is_open texts at.before) (token.White ∷ []) [] (λ ws. P [] (items_by_origin lines at.before at.turn at.counted ws))
+        (λ is. blank [] [] ends) (λ is. ends)
 
     meets-end : (items rest : List Token) (own : List Item) (at : At) (es : List Token) → IsOpen items own at es → next_item rest ≡ None
         → Meets (record { items = items; rest = rest }) (items_from at [])
-    meets-end items rest own at es o next = by (is_open texts at.before) refl
-      where
-        by : (b : Bool) → is_open texts at.before ≡ b
-            → Meets (record { items = items; rest = rest }) (items_by_origin lines at.before at.turn at.counted (if b then token.White ∷ [] else []))
-        by true is = no-use items own at es o
-        by false is =
-            (no-use items own at es o, next, ap (is_closed texts used macros) o.is ∙ rw (o.no_use, sym (ap (is_open texts) o.before) ∙ is) refl)
+    meets-end items rest own at es o next =
+        cond_both (is_open texts at.before) (token.White ∷ []) []
+        (λ ws. Meets (record { items = items; rest = rest }) (items_by_origin lines at.before at.turn at.counted ws))
+        (λ is. no-use items own at es o) (λ is.
+        (no-use items own at es o, next, ap (is_closed texts used macros) o.is ∙ rw (o.no_use, sym (ap (is_open texts) o.before) ∙ is) refl))
 
     -- a line end after a part, and white space
 
@@ -216,32 +210,40 @@ module _ (lines : List SourceLine) (used : ℕ → List ℕ) (mark : Origin → 
     lay-white : (es : List Token) → Lays es → Lays (token.White ∷ es)
     lay-white es next = record {
       closed = λ at is. next.closed (after_white at) is;
-      within = λ items own at o. by items own at o (is_continued texts (last_or None items) && ends_line es) refl;
+      within = λ items own at o.
+          let xs : List Item = items_from (after_white at) es in
+          let same = ap (λ e. is_continued texts e && ends_line es) (o.before ∙ sym o.is) in
+          cond_both (is_continued texts (last_or None items) && ends_line es) (row_of items xs es) (map OfPart
+          (group_before (token.White ∷ es) items) ++ row_of [] xs es) (λ row. P row (own ++ xs))
+          (λ is. next.within items own (after_white at) (record {
+            bytes = o.bytes;
+            inner = o.inner;
+            last = o.last;
+            no_use = o.no_use;
+            is = o.is;
+            before = o.before;
+            white = λ white. same ∙ is;
+          }))
+          (λ is. close items (token.White ∷ es) own _ at (token.White ∷ es) _ o
+          (meets-white items (token.White ∷ es) own at _ o es refl refl) (next.closed (after_white at) (same ∙ is)));
     }
-      where
-        by : (items : List Token) (own : List Item) (at : At) → IsOpen items own at (token.White ∷ es)
-            → (b : Bool) → (is_continued texts (last_or None items) && ends_line es) ≡ b
-            → let xs : List Item = items_from (after_white at) es in
-            P (if b then row_of items xs es else map OfPart (group_before (token.White ∷ es) items) ++ row_of [] xs es) (own ++ xs)
-        by items own at o true is = next.within items own (after_white at) (record {
-          bytes = o.bytes;
-          inner = o.inner;
-          last = o.last;
-          no_use = o.no_use;
-          is = o.is;
-          before = o.before;
-          white = λ white. ap (λ e. is_continued texts e && ends_line es) (o.before ∙ sym o.is) ∙ is;
-        })
-        by items own at o false is =
-            close items (token.White ∷ es) own _ at (token.White ∷ es) _ o (meets-white items (token.White ∷ es) own at _ o es refl refl)
-            (next.closed (after_white at) (ap (λ e. is_continued texts e && ends_line es) (o.before ∙ sym o.is) ∙ is))
 
     -- a line end
 
     lay-end : (line : ℕ) (es : List Token) → Lays es → Lays (token.LineEnd line ∷ es)
     lay-end line es next = record {
       closed = λ at is. ended at (sym (and-true (is_continued texts at.before)) ∙ is);
-      within = λ items own at o. by items own at o (is_continued texts (last_or None items)) refl;
+      within = λ items own at o.
+          let xs : List Item = items_from at (token.LineEnd line ∷ es) in
+          let same = ap (is_continued texts) (o.before ∙ sym o.is) in
+          cond_both (is_continued texts (last_or None items)) (row_after texts (items ++ token.LineEnd line ∷ [])
+          (drop 1 (flat_map mark_place xs)) es) (map OfPart (group_before (token.LineEnd line ∷ es) items) ++ row_of [] xs
+          (token.LineEnd line ∷ es)) (λ row. P row (own ++ xs))
+          (λ is. rw (same ∙ is) (subst (P _) (append_assoc own (item.LineEnd ∷ []) (items_from (after_continued line at) es))
+          (next.within (items ++ token.LineEnd line ∷ []) (own ++ item.LineEnd ∷ []) (after_continued line at)
+          (more-open items own (item.LineEnd ∷ []) (token.LineEnd line) _ es o.bytes o.inner refl refl refl refl refl))))
+          (λ is. close items (token.LineEnd line ∷ es) own _ at _ _ o
+          (meets-feed items (token.LineEnd line ∷ es) line at es refl) (ended at (same ∙ is)));
     }
       where
         ended : (at : At) → is_continued texts at.before ≡ false
@@ -252,20 +254,6 @@ module _ (lines : List SourceLine) (used : ℕ → List ℕ) (mark : Origin → 
                 → P (row_of [] (items_from at (token.LineEnd line ∷ es)) (token.LineEnd line ∷ es)) (items_from at (token.LineEnd line ∷ es))
             at-mark true same = rw (ends, same) (feed _ _ (next.closed (after_end line at) refl))
             at-mark false same = rw (ends, same) (of_mark _ _ _ (next.closed (after_end line at) refl))
-
-        by : (items : List Token) (own : List Item) (at : At) → IsOpen items own at (token.LineEnd line ∷ es)
-            → (b : Bool) → is_continued texts (last_or None items) ≡ b
-            → let xs : List Item = items_from at (token.LineEnd line ∷ es) in
-            P (if b then row_after texts (items ++ token.LineEnd line ∷ []) (drop 1 (flat_map mark_place xs)) es
-            else map OfPart (group_before (token.LineEnd line ∷ es) items) ++ row_of [] xs (token.LineEnd line ∷ es)) (own ++ xs)
-        by items own at o true is =
-            rw (ap (is_continued texts) (o.before ∙ sym o.is) ∙ is)
-            (subst (P _) (append_assoc own (item.LineEnd ∷ []) (items_from (after_continued line at) es))
-            (next.within (items ++ token.LineEnd line ∷ []) (own ++ item.LineEnd ∷ []) (after_continued line at)
-            (more-open items own (item.LineEnd ∷ []) (token.LineEnd line) _ es o.bytes o.inner refl refl refl refl refl)))
-        by items own at o false is =
-            close items (token.LineEnd line ∷ es) own _ at _ _ o
-            (meets-feed items (token.LineEnd line ∷ es) line at es refl) (ended at (ap (is_continued texts) (o.before ∙ sym o.is) ∙ is))
 
     -- a token other than white space and a line end, and a blank before it
 
@@ -293,16 +281,14 @@ module _ (lines : List SourceLine) (used : ℕ → List ℕ) (mark : Origin → 
         → P (row_of items (own_items e at es) (e ∷ es)) (own ++ own_items e at es)) → Lays (e ∷ es)
     lay-solid e es solid line first inside = record {
       closed = λ at is.
-          subst (λ xs. P (row_of [] xs (e ∷ es)) xs) (sym (at-item at e es solid)) (by at (is_some at.before && at.white));
+          subst (λ xs. P (row_of [] xs (e ∷ es)) xs) (sym (at-item at e es solid))
+          (cond_both (is_some at.before && at.white) (item.Blank ∷ own_items e at es) (own_items e at es) (λ xs. P (row_of [] xs (e ∷ es)) xs)
+          (λ b. blank _ _ (first at)) (λ b. first at));
       within = λ items own at o.
           subst (λ xs. P (row_of items xs (e ∷ es)) (own ++ xs)) (sym (at-item at e es solid ∙ ap (λ b. blanked b (own_items e at es)) (none at at.white refl o.white)))
           (inside items own at o);
     }
       where
-        by : (at : At) (b : Bool) → P (row_of [] (blanked b (own_items e at es)) (e ∷ es)) (blanked b (own_items e at es))
-        by at true = blank _ _ (first at)
-        by at false = first at
-
         none : (at : At) (b : Bool) → at.white ≡ b → (at.white ≡ true → is_continued_at at (e ∷ es) ≡ true) → (is_some at.before && at.white) ≡ false
         none at true is white = absurd (false≢true (sym (and-false (is_continued texts at.before)) ∙ sym (ap (λ b. is_continued texts at.before && b) line) ∙ white is))
         none at false is white = ap (λ b. is_some at.before && b) is ∙ and-false (is_some at.before)
@@ -313,12 +299,6 @@ module _ (lines : List SourceLine) (used : ℕ → List ℕ) (mark : Origin → 
     lay-item e es solid no_use line more next =
         lay-solid e es solid line (λ at. goes-on [] [] at refl refl) (λ items own at o. goes-on items own at o.bytes o.inner)
       where
-        bytes : flat_map item_bytes (items_at lines e) ≡ token_bytes texts (written_for texts used macros) e
-        bytes = search (rules, append-nil)
-
-        inner : list_all is_inner (items_at lines e) ≡ true
-        inner = search rules
-
         no-places : flat_map mark_place (items_at lines e) ≡ []
         no-places = search rules
 
@@ -331,7 +311,7 @@ module _ (lines : List SourceLine) (used : ℕ → List ℕ) (mark : Origin → 
             (flat_map-append mark_place (items_at lines e) rest ∙ ap (λ places. places ++ flat_map mark_place rest) no-places)))
             (subst (P _) (append_assoc own (items_at lines e) rest)
             (next.within (items ++ e ∷ []) (own ++ items_at lines e) (after e at)
-            (more-open items own (items_at lines e) e _ es of_own is_own bytes inner no_use refl refl)))
+            (more-open items own (items_at lines e) e _ es of_own is_own (search (rules, append-nil)) (search rules) no_use refl refl)))
 
     lay-use : (line occurrence : ℕ) (es : List Token) → Lays es → Lays (token.UseOf line occurrence ∷ es)
     lay-use line occurrence es next =

@@ -1,5 +1,5 @@
 -- Lists of which each element has a property, by the library's lemmas of `All`.
-use Rattle.std.proofs.Common.{ℕ, zero, suc, get_or, List, [], ◌∷◌, ◌++◌, take, drop}
+use Rattle.std.proofs.Common.{ℕ, zero, suc, get_or, List, [], ◌∷◌, ◌++◌, map, take, drop}
 use Rattle.std.specs.List.{AllByRecursion, Contains}
 use Rattle.std.proofs.lemmas.List.Elements.{All-append, All-drop, All-from_recursion, All-take, Contains-get_or}
 use Rattle.std.proofs.lemmas.List.Elements.{recursion_from_All}
@@ -8,6 +8,14 @@ pub all-both : {X : Type 0} (P Q : X → Type 0) (xs : List X) → AllByRecursio
     → AllByRecursion (λ x. P x × Q x) xs
 all-both P Q [] p q = tt
 all-both P Q (x ∷ xs) p q = ((p.0, q.0), all-both P Q xs p.1 q.1)
+
+pub all-each : {X : Type 0} (P Q : X → Type 0) (xs : List X) → ((x : X) → P x → Q x) → AllByRecursion P xs → AllByRecursion Q xs
+all-each P Q [] f h = tt
+all-each P Q (x ∷ xs) f h = (f x h.0, all-each P Q xs f h.1)
+
+pub all-map : {X Y : Type 0} (P : Y → Type 0) (f : X → Y) (xs : List X) → AllByRecursion (λ x. P (f x)) xs → AllByRecursion P (map f xs)
+all-map P f [] h = tt
+all-map P f (x ∷ xs) h = (h.0, all-map P f xs h.1)
 
 module _ {X : Type 0} (P : X → Type 0) where
   pub all-get : (xs : List X) (n : ℕ) (d : X) → P d → AllByRecursion P xs → P (get_or xs n d)

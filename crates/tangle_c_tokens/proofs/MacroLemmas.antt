@@ -1,13 +1,12 @@
 -- The tokens of the bytes of a macro are those of its groups.
 use Rattle.std.proofs.Common.{rules}
 use Rattle.std.proofs.Common.{arith}
-use Rattle.std.proofs.Common.{◌≡◌, ℕ, Bool, true, false, ◌&&◌, not, if◌then◌else◌, List, [], ◌∷◌}
+use Rattle.std.proofs.Common.{◌≡◌, ℕ, Bool, true, false, ◌&&◌, not, List, [], ◌∷◌}
 use Rattle.std.proofs.Common.{◌++◌, map, flat_map}
 use Rattle.std.proofs.Common.{append_assoc, append-nil, Option, Some, None, refl, ap, sym, ◌∙◌}
 use Rattle.std.proofs.Common.{subst, codes}
 use Rattle.std.specs.List.{AllByRecursion}
-use Rattle.std.proofs.lemmas.Bool.{and_parts, not-true}
-use Rattle.std.proofs.lemmas.List.Concat.{flat_map-append}
+use Rattle.std.proofs.lemmas.Bool.{and_parts, cond_both, not-true}
 use Rattle.c_tokens.specs.Bytes.{space, line_feed, backslash}
 use Rattle.c_tokens.specs.Grammar.{is_element, is_token, is_punctuator}
 use Rattle.c_tokens.specs.Reading.{spliced}
@@ -22,15 +21,15 @@ use Rattle.tangle_scan.specs.ReadAsMeant.{written_tokens}
 use Rattle.tangle_scan.proofs.lemmas.RuleLemmas.{macro_blanks-item}
 use Rattle.tangle_scan.proofs.laws.MacroEnds.{items_from, end-items}
 use Rattle.tangle_c_tokens.specs.Reading.{IsReadAsTexts}
-use Rattle.tangle_c_tokens.specs.Edges.{begins_as, ends_as, number_goes_on_with}
+use Rattle.tangle_c_tokens.specs.Edges.{begins_as, ends_as, last_number_goes_on}
 use Rattle.tangle_c_tokens.specs.Kinds.{item_kind, AreTexts}
 use Rattle.tangle_c_tokens.specs.Groups.{Group, group_before, groups_after, groups, group_text}
-use Rattle.tangle_c_tokens.specs.Macros.{text_of, IsReadAlone, IsReadByGroups}
+use Rattle.tangle_c_tokens.specs.Macros.{text_of, GroupsAreReadAlone, macro_texts}
 use Rattle.tangle_c_tokens.proofs.EdgeLemmas.{are_apart_at_edges, IsApart, apart-groups}
 use Rattle.tangle_c_tokens.proofs.kind_lemmas.TableKinds.{same-table}
 use Rattle.tangle_c_tokens.proofs.OneLineLemmas.{IsGroupOnLine}
 use Rattle.c_lines.proofs.JoinedLemmas.{lines-one}
-use Rattle.tangle_c_tokens.proofs.GroupLemmas.{last-item, group-one}
+use Rattle.tangle_c_tokens.proofs.GroupLemmas.{last-item, text-more, group-one}
 use Rattle.tangle_c_tokens.proofs.TextLemmas.{feed-between, feed-front, space-between}
 use Rattle.tangle_c_tokens.proofs.TextLemmas.{taken-between, kinds-border}
 use Rattle.tangle_c_tokens.proofs.TextLemmas.{ends-as}
@@ -71,10 +70,6 @@ module _ (texts : List (List ℕ)) (tail : List ℕ) (ts : List (List ℕ))
   front-border a in_name white (token.LineEnd line ∷ es) meets = front-border a false false es meets
   front-border a in_name white (e ∷ es) meets = grind (arith, nat_tests, front-item in_name white e es refl)
 
-  group-text : (items : List Token) (e : Token)
-      → group_text texts (items ++ e ∷ []) ≡ group_text texts items ++ text_of texts e
-  group-text items e = search (rules, flat_map-append)
-
   meets-next : (items : List Token) (e f : Token) → may_touch texts e f ≡ true →
       are_apart_at_edges texts (group_text texts (items ++ e ∷ [])) (Some e) (Some f) ≡ true →
       Meets (spliced (group_text texts (items ++ e ∷ []))) (Some f)
@@ -82,8 +77,8 @@ module _ (texts : List (List ℕ)) (tail : List ℕ) (ts : List (List ℕ))
       let k = item_kind texts e in
       let g : TextKind = item_kind texts f in
       let a : List ℕ = group_text texts (items ++ e ∷ []) in
-      let inner = and_parts (ends_as k (text_of texts e)) (begins_as g (text_of texts f)) (and_parts (ends_as k (text_of texts e) && begins_as g (text_of texts f)) (not (number_goes_on_with a (text_of texts f))) (rw may at apart)).0 in
-      grind (arith, nat_tests, kinds-border k g, same-table texts e f, group-text items e, ends-as k, not-true)
+      let inner = and_parts (ends_as k (text_of texts e)) (begins_as g (text_of texts f)) (and_parts (ends_as k (text_of texts e) && begins_as g (text_of texts f)) (not (last_number_goes_on (spliced a) (text_of texts f))) (rw may at apart)).0 in
+      grind (arith, nat_tests, kinds-border k g, same-table texts e f, text-more (text_of texts) items e, ends-as k, not-true)
 
   meets-if_no_blank : (in_name : Bool) (items : List Token) (e : Token) (next : Option Token) →
       has_blank_at_line_end texts in_name (Some e) next ≡ false →
@@ -139,34 +134,29 @@ module _ (texts : List (List ℕ)) (tail : List ℕ) (ts : List (List ℕ))
   at-line_end : (line : ℕ) (es : List Token) → ReadsFront es → (in_name white : Bool)
       → ReadsAfter in_name white (token.LineEnd line ∷ es)
   at-line_end line es front in_name white items e alone rest =
-      by (has_blank_at_line_end texts in_name (Some e) (next_item es)) refl
+      cond_both (has_blank_at_line_end texts in_name (Some e) (next_item es)) (token.White ∷ []) []
+      (λ blanks. IsReadAsTexts (t ∷ texts_in (groups_after [] es) ++ ts)
+      (t ++ (flat_map (macro_item_bytes texts) (unmarked_items (blanks ++ token.LineEnd line
+      ∷ macro_blanks texts false None false es)) ++ line_feed ∷ tail)))
+      (λ is. with-text t (backslash ∷ line_feed ∷ after) _ (texts_in (groups_after [] es) ++ ts)
+      (space-between t (backslash ∷ line_feed ∷ after) alone.whole alone.one)
+      (with-nothing after (backslash ∷ line_feed ∷ after) (texts_in (groups_after [] es) ++ ts)
+      (taken-between [] after refl refl refl) next))
+      (λ is. with-text t after _ (texts_in (groups_after [] es) ++ ts)
+      (taken-between t after alone.whole alone.one
+      (front-border (spliced t) false false es (meets-if_no_blank in_name items e (next_item es) is apart))) next)
     where
-      apart : are_apart_at_edges texts (group_text texts (items ++ e ∷ [])) (Some e) (next_item es) ≡ true
-      apart = ap
-          (λ last. are_apart_at_edges texts (group_text texts (items ++ e ∷ [])) last
-          (next_item es)) (sym (last-item None items e)) ∙ alone.apart refl
+      t : List ℕ
+      t = group_text texts (items ++ e ∷ [])
 
-      by : (blank : Bool) → has_blank_at_line_end texts in_name (Some e) (next_item es) ≡ blank →
-          IsReadAsTexts (group_text texts (items ++ e ∷ []) ∷ texts_in (groups_after [] es) ++ ts)
-          (group_text texts (items ++ e ∷ []) ++ (flat_map (macro_item_bytes texts) (unmarked_items
-          ((if blank then token.White ∷ [] else []) ++ token.LineEnd line
-          ∷ macro_blanks texts false None false es)) ++ line_feed ∷ tail))
-      by true is =
-          let t = group_text texts (items ++ e ∷ []) in
-          let after = bytes_from false None false es in
-          let next = front false false rest in
-          with-text t (backslash ∷ line_feed ∷ after) (t ++ space ∷ backslash ∷ line_feed ∷ after)
-          (texts_in (groups_after [] es) ++ ts)
-          (space-between t (backslash ∷ line_feed ∷ after) alone.whole alone.one)
-          (with-nothing after (backslash ∷ line_feed ∷ after) (texts_in (groups_after [] es) ++ ts)
-          (taken-between [] after refl refl refl) next)
-      by false is =
-          let t = group_text texts (items ++ e ∷ []) in
-          let after = bytes_from false None false es in
-          with-text t after (t ++ backslash ∷ line_feed ∷ after) (texts_in (groups_after [] es) ++ ts)
-          (taken-between t after alone.whole alone.one
-          (front-border (spliced t) false false es
-          (meets-if_no_blank in_name items e (next_item es) is apart))) (front false false rest)
+      after : List ℕ
+      after = bytes_from false None false es
+
+      next : IsReadAsTexts (texts_in (groups_after [] es) ++ ts) after
+      next = front false false rest
+
+      apart : are_apart_at_edges texts t (Some e) (next_item es) ≡ true
+      apart = ap (λ last. are_apart_at_edges texts t last (next_item es)) (sym (last-item None items e)) ∙ alone.apart refl
 
   at-item : (e : Token) (es : List Token) → is_front_gap e ≡ false →
       ((items : List Token) → groups_after items (e ∷ es) ≡ groups_after (items ++ e ∷ []) es)
@@ -178,7 +168,7 @@ module _ (texts : List (List ℕ)) (tail : List ℕ) (ts : List (List ℕ))
         let after : List ℕ = bytes_from (in_name && true && is_name_part e) (Some e) false es in
         let t : List ℕ = group_text texts (items ++ before ∷ []) in
         subst (IsReadAsTexts (texts_in (groups_after (items ++ before ∷ []) (e ∷ es)) ++ ts))
-        (search (rules, append_assoc, group-text))
+        (search (rules, append_assoc, text-more))
         (subst (λ gs. ReadsAs gs (group_text texts ((items ++ before ∷ []) ++ e ∷ []) ++ after))
         (sym (more (items ++ before ∷ [])))
         (within (in_name && true && is_name_part e) (items ++ before ∷ []) e) alone);
@@ -240,15 +230,13 @@ module _ (texts : List (List ℕ)) (tail : List ℕ) (ts : List (List ℕ))
   unfolding is_element is_token is_punctuator
   define-whole = refl
 
-  pub macro-by-groups : (es : List Token) → AreTexts texts es →
-      AllByRecursion (IsReadAlone texts) (groups (written_tokens texts es)) →
+  pub macro-by-groups : (es : List Token) → AreTexts texts es → GroupsAreReadAlone texts es →
       AllByRecursion (IsGroupOnLine texts) (groups (written_tokens texts es)) →
-      IsReadAsTexts (codes "#define" ∷ texts_in (groups (written_tokens texts es)) ++ ts)
-      (macro_bytes texts (unmarked_items (macro_blanks texts true None false es)) ++ tail)
+      IsReadAsTexts (macro_texts texts es ++ ts) (macro_bytes texts (unmarked_items (macro_blanks texts true None false es)) ++ tail)
   macro-by-groups es are alone one =
       let written = written_tokens texts es in
       let text = flat_map (macro_item_bytes texts) (items_from texts true None false written) in
-      subst (IsReadAsTexts (codes "#define" ∷ texts_in (groups written) ++ ts))
+      subst (IsReadAsTexts (macro_texts texts es ++ ts))
       (search (rules, end-items, append_assoc))
       (with-text (codes "#define") (bytes_from true None false written)
       (codes "#define " ++ bytes_from true None false written) (texts_in (groups written) ++ ts)
@@ -257,11 +245,9 @@ module _ (texts : List (List ℕ)) (tail : List ℕ) (ts : List (List ℕ))
 
 -- the bytes of a macro alone
 pub one-macro : (texts : List (List ℕ)) (es : List Token) → AreTexts texts es →
-    AllByRecursion (IsGroupOnLine texts) (groups (written_tokens texts es)) →
-    IsReadByGroups texts es (macro_bytes texts (unmarked_items (macro_blanks texts true None false es)))
+    AllByRecursion (IsGroupOnLine texts) (groups (written_tokens texts es)) → GroupsAreReadAlone texts es →
+    IsReadAsTexts (macro_texts texts es) (macro_bytes texts (unmarked_items (macro_blanks texts true None false es)))
 one-macro texts es are one alone =
     let text = macro_bytes texts (unmarked_items (macro_blanks texts true None false es)) in
-    let of_groups = map (λ (g : Group). group_text texts g.items) (groups (written_tokens texts es)) in
-    subst (λ ts. IsReadAsTexts ts text) (append-nil (codes "#define" ∷ of_groups))
-    (subst (IsReadAsTexts (codes "#define" ∷ of_groups ++ [])) (append-nil text)
-    (macro-by-groups texts [] [] no-text es are alone one))
+    subst (λ ts. IsReadAsTexts ts text) (append-nil (macro_texts texts es))
+    (subst (IsReadAsTexts (macro_texts texts es ++ [])) (append-nil text) (macro-by-groups texts [] [] no-text es are alone one))

@@ -15,7 +15,7 @@ use Rattle.c_tokens.specs.Grammar.{ends_quoted}
 use Rattle.c_tokens.specs.Borders.{is_whole}
 use Rattle.c_lines.specs.JoinedLines.{LinesAreWhole}
 use Rattle.c_lines.proofs.LineDirectiveLemmas.{digits-line, digits-whole, spliced-line, word-whole}
-use Rattle.c_tokens.proofs.TouchingLemmas.{one-element, plain-element}
+use Rattle.c_tokens.proofs.ElementLemmas.{one-element, plain-element}
 use Rattle.c_lines.proofs.JoinedLemmas.{IsInLine, in-line-taken, lines-one}
 use Rattle.tangle_files.specs.declared.marks.MarkMode.{MarkMode}
 use Rattle.tangle_files.specs.declared.marks.MarkMode.TheVariants.{Full, Bare}

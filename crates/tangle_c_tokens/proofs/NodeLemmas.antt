@@ -1,6 +1,6 @@
 -- The bytes of the pieces of a node are read as its row.
 use Rattle.tangle_c_tokens.proofs.TextLemmas.{apart-from}
-use Rattle.tangle_c_tokens.proofs.TextLemmas.{keep-other}
+use Rattle.c_tokens.proofs.ElementLemmas.{keep-other}
 use Rattle.tangle_c_tokens.proofs.TextLemmas.{slash-border}
 use Rattle.std.proofs.Common.{rules}
 use Rattle.tangle_c_tokens.proofs.TextLemmas.{IsMarkText, IsWholeLine}
@@ -39,7 +39,7 @@ use Rattle.tangle_c_tokens.proofs.CommentLemmas.{after-opening, after-closing}
 use Rattle.tangle_c_tokens.proofs.PieceLemmas.{piece-by-parts}
 use Rattle.tangle_c_tokens.specs.Kinds.{AreTexts}
 use Rattle.tangle_c_tokens.proofs.OneLineLemmas.{AreOnLine}
-use Rattle.tangle_c_tokens.proofs.PartLemmas.{IsWholeText, row-whole, ready, uses-whole}
+use Rattle.tangle_c_tokens.proofs.PartLemmas.{row-whole, ready, uses-whole}
 use Rattle.tangle_c_tokens.proofs.UseLemmas.{IsWholeName, names_in, part-uses-whole}
 use Rattle.tangle_c_tokens.proofs.ListLemmas.{all-back, all-front}
 use Rattle.tangle_c_tokens.proofs.FeedLemmas.{KeepsFeed, keeps-more, closing-keeps}
@@ -85,24 +85,6 @@ module _ (source : SourceRead) (numbers : NumbersRead) (table : TableRead)
     items = part_items lines line es;
   }
 
-  -- the row of its tokens
-  abbrev part_row : ℕ → List Token → List Passage
-  part_row line es =
-      row_after (texts_of lines) [] (flat_map mark_place (part_items lines line es)) (part_tokens (texts_of lines) es)
-
-  -- the row with what is written for uses
-  row-of : (line : ℕ) (es : List Token) → AreTexts (texts_of lines) (part_tokens (texts_of lines) es)
-      → AreWhole (part_row line es) → AreWholeNames (part_items lines line es)
-      → AllByRecursion (IsWholeText (texts_of lines) written numbers.macros) (part_row line es)
-  row-of line es are whole names =
-      row-whole source written numbers.macros macros_whole [] (flat_map mark_place (part_items lines line es))
-      (part_tokens (texts_of lines) es)
-      (ready source written numbers.macros macros_whole (part_tokens (texts_of lines) es)
-      (on_line (part_tokens (texts_of lines) es) are))
-      (uses-whole source written numbers.macros macros_whole (part_tokens (texts_of lines) es)
-      (part-uses-whole lines numbers table used line es names))
-      whole
-
   -- a piece, and what is written after it
   piece-read : (section line : ℕ) (occurrence : Option ℕ) (es : List Token) (rest : List ℕ) (ts : List (List ℕ)) →
       let piece : PieceRead = part_piece section occurrence line es in
@@ -116,7 +98,11 @@ module _ (source : SourceRead) (numbers : NumbersRead) (table : TableRead)
       let items = items_bytes numbers table used (texts_of lines) (part_items lines line es) in
       let tail = closing_bytes section ++ rest in
       let later = mark origin ++ (items ++ tail) in
-      let us = texts_in (part_row line es) ++ ts in
+      let tokens = part_tokens (texts_of lines) es in
+      let us = texts_in (row_after (texts_of lines) [] (flat_map mark_place (part_items lines line es)) tokens) ++ ts in
+      let row = row-whole source written numbers.macros macros_whole [] (flat_map mark_place (part_items lines line es)) tokens
+      (ready source written numbers.macros macros_whole tokens (on_line tokens are))
+      (uses-whole source written numbers.macros macros_whole tokens (part-uses-whole lines numbers table used line es names)) whole.1 in
       with-nothing (line_feed ∷ later) (bytes_of (part_piece section occurrence line es) ++ rest) (mark origin ∷ us)
       (follows-same [] (line_feed ∷ later) _ (opening ++ line_feed ∷ later)
       (grouped opening (mark_bytes_at numbers origin) items (closing_bytes section) rest
@@ -126,7 +112,7 @@ module _ (source : SourceRead) (numbers : NumbersRead) (table : TableRead)
       (with-mark (mark origin) (items ++ tail) us (marks origin)
       (piece-by-parts lines written mark numbers.macros marks tail ts
       (with-nothing rest tail ts (after-closing section rest) read)
-      (λ a whole one ends. (search (rules, apart-from, keep-other, slash-border))) line es (row-of line es are whole.1 names))))
+      (λ a whole one ends. (search (rules, apart-from, keep-other, slash-border))) line es row)))
 
   -- the bytes of pieces do not end in a backslash
   pub pieces-keep : (pieces : List PieceRead) → KeepsFeed (flat_map bytes_of pieces)

@@ -1,5 +1,9 @@
 -- The groups of items of macros and pieces are texts of one line of C: each line feed in them is
 -- directly after a backslash.
+use Rattle.std.proofs.lemmas.List.{take-append-drop}
+use Rattle.std.proofs.lemmas.List.Folds.{list_any-append}
+use Rattle.tangle_c_tokens.proofs.ListLemmas.{all-get, all-map}
+use Rattle.tangle_c_tokens.proofs.GroupLemmas.{text-more}
 use Rattle.std.proofs.Common.{rules}
 use Rattle.std.proofs.Common.{arith}
 use Rattle.std.proofs.Common.{◌≡◌, ℕ, zero, suc, ◌+◌, ◌-◌, nat_le, Bool, true, false, List, [], ◌∷◌, ◌++◌}
@@ -8,7 +12,6 @@ use Rattle.std.proofs.Common.{Some, refl, ap, sym, ◌∙◌, subst, append-nil}
 use Rattle.std.specs.Prelude.{◌==◌, if◌then◌else◌}
 use Rattle.std.specs.List.{AllByRecursion, list_all, list_any}
 use Rattle.std.proofs.lemmas.Bool.{and_parts, and_from, or_parts, false≢true, leb-false}
-use Rattle.std.proofs.lemmas.List.Concat.{flat_map-append}
 use Rattle.tangle_lines.specs.Reading.{SourceLine}
 use Rattle.tangle_text.specs.Bytes.{backslash}
 use Rattle.tangle_text.specs.Text.{texts_of, span_text}
@@ -23,7 +26,7 @@ use Rattle.c_tokens.specs.Bytes.{line_feed}
 use Rattle.c_lines.proofs.JoinedLemmas.{ends_back, feeds_taken, IsOneLine, back-append, taken-append, taken-more, back-more}
 use Rattle.c_lines.proofs.JoinedLemmas.{no-feed-taken, in-line-taken, spliced-taken}
 use Rattle.c_lines.proofs.LineDirectiveLemmas.{digits-line}
-use Rattle.tangle_c_tokens.specs.Kinds.{HasItsKind, is_range, range_bytes, AreTexts}
+use Rattle.tangle_c_tokens.specs.Kinds.{HasItsKind, is_range, AreTexts}
 use Rattle.tangle_c_tokens.specs.LineFeeds.{TextHasNoLineFeed, SourceLinesHaveNoLineFeed}
 use Rattle.tangle_c_tokens.specs.Groups.{Group, group_before, groups_after, group_text}
 use Rattle.tangle_c_tokens.specs.Macros.{text_of}
@@ -34,21 +37,17 @@ use Rattle.std.proofs.lemmas.Bool.Decides.{nat_tests}
 
 -- the bytes of spans
 
-pub no-feed-take : (n : ℕ) (t : List ℕ) → TextHasNoLineFeed t → TextHasNoLineFeed (take n t)
-no-feed-take zero t none = refl
-no-feed-take (suc n) [] none = refl
-no-feed-take (suc n) (b ∷ t) none = grind (arith, nat_tests, no-feed-take n t)
+-- a text without a line feed has none before and after any byte
+no-feed-parts : (n : ℕ) (t : List ℕ) → TextHasNoLineFeed t → TextHasNoLineFeed (take n t) × TextHasNoLineFeed (drop n t)
+no-feed-parts n t none =
+    or_parts (list_any (λ b. b == line_feed) (take n t)) (list_any (λ b. b == line_feed) (drop n t))
+    (sym (list_any-append (λ b. b == line_feed) (take n t) (drop n t)) ∙ ap (list_any (λ b. b == line_feed)) (take-append-drop n t) ∙ none)
 
-pub no-feed-drop : (n : ℕ) (t : List ℕ) → TextHasNoLineFeed t → TextHasNoLineFeed (drop n t)
-no-feed-drop zero t none = none
-no-feed-drop (suc n) [] none = refl
-no-feed-drop (suc n) (b ∷ t) none = no-feed-drop n t (or_parts (b == line_feed) (list_any (λ c. c == line_feed) t) none).1
-
-pub line-at : (lines : List SourceLine) → SourceLinesHaveNoLineFeed lines → (k : ℕ)
-    → TextHasNoLineFeed (get_or (texts_of lines) k [])
-line-at [] none k = refl
-line-at (l ∷ lines) none zero = none.0
-line-at (l ∷ lines) none (suc k) = line-at lines none.1 k
+-- nor has a span of such lines
+pub span-clear : (lines : List SourceLine) → SourceLinesHaveNoLineFeed lines → (s : Span) → TextHasNoLineFeed (span_text (texts_of lines) s)
+span-clear lines none s =
+    let line = all-get TextHasNoLineFeed (texts_of lines) s.line [] refl (all-map TextHasNoLineFeed (λ l. l.bytes) lines none) in
+    (no-feed-parts (s.end - s.start) _ (no-feed-parts s.start _ line).1).0
 
 -- the last byte of a range of a text
 range-back : (start n : ℕ) (t : List ℕ) → (get_or t (start + n) 0 == backslash) ≡ true
@@ -87,22 +86,19 @@ module _ (texts : List (List ℕ)) where
   pub more-on_line : (es : List Token) (after : Bool) → AreOnLine false es → AreOnLine after es
   more-on_line [] after all = tt
   more-on_line (token.White ∷ es) after all = all
-  more-on_line (token.LineEnd line ∷ es) after all = all
-  more-on_line (token.UseOf line occurrence ∷ es) after all = all
-  more-on_line (token.AllMacros line ∷ es) after all = all
   more-on_line (e ∷ es) after all =
-      (item-more after e all.0, back-by (text_of texts e) es (more-on_line es) after all.1)
+      search (rules, item-more, back-by (text_of texts e) es (more-on_line es))
 
   -- the ranges and breaks of a quoted text
 
   part-on_line : (part : List Token) (after : Bool) (ts : List Token) → list_all is_range part ≡ true
-      → feeds_taken after (range_bytes texts part) ≡ true → AreOnLine (ends_back after (range_bytes texts part)) ts
+      → feeds_taken after (group_text texts part) ≡ true → AreOnLine (ends_back after (group_text texts part)) ts
       → AreOnLine after (part ++ ts)
   part-on_line [] after ts ranges taken rest = rest
   part-on_line (e ∷ part) after ts ranges taken rest =
       let range = and_parts (is_range e) (list_all is_range part) ranges in
       let t = text_of texts e in
-      let more = range_bytes texts part in
+      let more = group_text texts part in
       let both = and_parts (feeds_taken after t) (feeds_taken (ends_back after t) more)
       (sym (taken-append after t more) ∙ taken) in
       range-by (λ e. feeds_taken after (text_of texts e) ≡ true → AreOnLine (ends_back after (text_of texts e)) (part ++ ts)
@@ -114,10 +110,6 @@ module _ (texts : List (List ℕ)) where
 
   -- the groups of a macro
 
-  text-more : (items : List Token) (e : Token)
-      → group_text texts (items ++ e ∷ []) ≡ group_text texts items ++ text_of texts e
-  text-more items e = search (rules, flat_map-append)
-
   abbrev pub IsGroupOnLine : Group → Type 0
   IsGroupOnLine group = IsOneLine (group_text texts group.items)
 
@@ -128,7 +120,7 @@ module _ (texts : List (List ℕ)) where
   more-one : (items : List Token) (e : Token) → IsOneLine (group_text texts items)
       → IsOnLine (ends_back false (group_text texts items)) e → IsOneLine (group_text texts (items ++ e ∷ []))
   more-one items e one of_e =
-      ap (feeds_taken false) (text-more items e) ∙ taken-append false (group_text texts items) (text_of texts e)
+      ap (feeds_taken false) (text-more (text_of texts) items e) ∙ taken-append false (group_text texts items) (text_of texts e)
       ∙ and_from _ _ one of_e.taken
 
   more-back : (items : List Token) (e : Token) (es : List Token)
@@ -136,13 +128,13 @@ module _ (texts : List (List ℕ)) where
       → AreOnLine (ends_back false (group_text texts (items ++ e ∷ []))) es
   more-back items e es all =
       subst (λ b. AreOnLine b es)
-      (sym (ap (ends_back false) (text-more items e) ∙ back-append false (group_text texts items) (text_of texts e))) all
+      (sym (ap (ends_back false) (text-more (text_of texts) items e) ∙ back-append false (group_text texts items) (text_of texts e))) all
 
   no-bytes : (items : List Token) (e : Token) → text_of texts e ≡ [] → IsOneLine (group_text texts items)
       → IsOneLine (group_text texts (items ++ e ∷ []))
   no-bytes items e none one =
       subst IsOneLine
-      (sym (text-more items e ∙ ap (λ t. group_text texts items ++ t) none ∙ append-nil (group_text texts items))) one
+      (sym (text-more (text_of texts) items e ∙ ap (λ t. group_text texts items ++ t) none ∙ append-nil (group_text texts items))) one
 
   groups-on_line : (items es : List Token) → IsOneLine (group_text texts items)
       → AreOnLine (ends_back false (group_text texts items)) es → AllByRecursion IsGroupOnLine (groups_after items es)
@@ -179,9 +171,7 @@ module _ (lines : List SourceLine) (none : SourceLinesHaveNoLineFeed lines) wher
   texts = texts_of lines
 
   span-taken : (after : Bool) (s : Span) → feeds_taken after (span_text texts s) ≡ true
-  span-taken after s =
-      no-feed-taken after (span_text texts s)
-      (no-feed-take (s.end - s.start) _ (no-feed-drop s.start _ (line-at lines none s.line)))
+  span-taken after s = no-feed-taken after (span_text texts s) (span-clear lines none s)
 
   -- a sign or a verbatim text that continues its line
 
@@ -213,16 +203,13 @@ module _ (lines : List SourceLine) (none : SourceLinesHaveNoLineFeed lines) wher
   first-on_line : (e : Token) (es : List Token) → is_range e ≡ false → HasItsKind texts e → AreOnLine texts false es
       → AreOnLine texts false (e ∷ es)
   first-on_line token.White es alone kind rest = rest
-  first-on_line (token.LineEnd line) es alone kind rest = rest
-  first-on_line (token.UseOf line occurrence) es alone kind rest = rest
-  first-on_line (token.AllMacros line) es alone kind rest = rest
-  first-on_line e es alone kind rest = (item-on_line false e alone kind, more-on_line texts es _ rest)
+  first-on_line e es alone kind rest = search (rules, item-on_line, more-on_line texts es)
 
   pub texts-on_line : (es : List Token) → AreTexts texts es → AreOnLine texts false es
   texts-on_line =
       texts-by texts (AreOnLine texts false) tt (λ e es alone kind all rest. first-on_line e es alone kind rest)
       (λ part es quoted all rest.
-      part-on_line texts part false es quoted.ranges (spliced-taken (range_bytes texts part) quoted.one_line)
+      part-on_line texts part false es quoted.ranges (spliced-taken (group_text texts part) quoted.one_line)
       (more-on_line texts es _ rest))
 
   -- the groups of items of a macro that are written are texts of one line

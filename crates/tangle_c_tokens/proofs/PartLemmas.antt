@@ -1,19 +1,19 @@
 -- A row is whole whatever whole texts are written for uses, if its groups of items are.
+use Rattle.std.proofs.lemmas.List.Folds.{list_all-append}
 use Rattle.std.proofs.Common.{rules}
 use Rattle.std.proofs.Common.{arith}
-use Rattle.tangle_c_tokens.proofs.GroupLemmas.{last-item}
+use Rattle.tangle_c_tokens.proofs.GroupLemmas.{last-item, text-more}
 use Rattle.tangle_c_tokens.proofs.OneLineLemmas.{AreOnLine, more-on_line}
 use Rattle.tangle_c_tokens.proofs.TextLemmas.{IsWholeLine}
 use Rattle.c_lines.specs.JoinedLines.{LinesAreWhole}
 use Rattle.c_lines.proofs.JoinedLemmas.{IsOneLine, ends_back, feeds_taken, back-append, taken-append, back-more}
 use Rattle.c_lines.proofs.JoinedLemmas.{lines-one, lines-whole}
-use Rattle.std.proofs.Common.{◌≡◌, ℕ, Bool, true, false, ◌&&◌, not, if◌then◌else◌, List, [], ◌∷◌}
+use Rattle.std.proofs.Common.{◌≡◌, ℕ, Bool, true, false, ◌&&◌, not, List, [], ◌∷◌}
 use Rattle.std.proofs.Common.{◌++◌, refl, ap, sym, ◌∙◌, subst, Option, Some, None}
 use Rattle.std.specs.Prelude.{◌||◌}
 use Rattle.std.proofs.Common.{append-nil, flat_map, map, drop, get_or}
 use Rattle.std.specs.List.{AllByRecursion, last_or, list_all}
-use Rattle.std.proofs.lemmas.Bool.{and_from, false≢true}
-use Rattle.std.proofs.lemmas.List.Concat.{flat_map-append}
+use Rattle.std.proofs.lemmas.Bool.{and_from, cond_both, false≢true}
 use Rattle.tangle_lexer.specs.declared.tokens.Token.{Token}
 use Rattle.tangle_lexer.specs.declared.tokens.Token.TheVariants as token
 use Rattle.tangle_lines.specs.declared.origin.Origin.{Origin}
@@ -77,11 +77,6 @@ module _ (source : SourceRead) (used : ℕ → List ℕ) (macros : List ℕ)
   same-text [] are = refl
   same-text (e ∷ items) are = grind (arith, nat_tests, same-text items)
 
-  same-part : (items rest : List Token) → AreItems items
-      → IsWholePart texts (λ occurrence. []) [] (record { items = items; rest = rest })
-      → IsWholePart texts used macros (record { items = items; rest = rest })
-  same-part items rest are bare = grind (arith, nat_tests, same-text items are)
-
   abbrev text : List Token → List ℕ
   text items = part_text texts used macros items
 
@@ -89,7 +84,7 @@ module _ (source : SourceRead) (used : ℕ → List ℕ) (macros : List ℕ)
       → IsWholePart texts (λ occurrence. []) [] (record { items = items; rest = rest })
       → IsWholeWritten texts used macros (record { items = items; rest = rest })
   whole-group items rest are one bare =
-      let part = same-part items rest are bare in
+      let part : IsWholePart texts used macros (record { items = items; rest = rest }) = grind (arith, nat_tests, same-text items are) in
       record { all = part; lines = lines-one (text items) part.whole one; one = λ none. one }
 
   whole-groups : (items rest : List Token) (row : List Passage) → AreItems items → IsOneLine (text items)
@@ -105,10 +100,6 @@ module _ (source : SourceRead) (used : ℕ → List ℕ) (macros : List ℕ)
 
   use-line : (t : List ℕ) → IsWholeLine t → IsWholeLine (t ++ [])
   use-line t line = subst IsWholeLine (sym (append-nil t)) line
-
-  more-items : (items : List Token) (e : Token) → AreItems items → not (is_use e) ≡ true → AreItems (items ++ e ∷ [])
-  more-items [] e are item = and_from (not (is_use e)) true item refl
-  more-items (x ∷ items) e are item = grind (arith, nat_tests, more-items items)
 
   -- what is written for a use or @h by itself
   use-whole : (e : Token) (rest : List Token) → is_use e ≡ true → IsWholeLine (text (e ∷ []))
@@ -135,10 +126,6 @@ module _ (source : SourceRead) (used : ℕ → List ℕ) (macros : List ℕ)
   pub ready : (es : List Token) → AreOnLine texts false es → AreReady [] es
   ready es later = record { are = refl; one = refl; back = λ back. absurd (false≢true back); later = later }
 
-  text-more : (items : List Token) (e : Token)
-      → text (items ++ e ∷ []) ≡ text items ++ token_bytes texts (written_for texts used macros) e
-  text-more items e = search (rules, flat_map-append)
-
   -- one more item
   item-ready : (items : List Token) (e : Token) (es : List Token) → AreReady items (e ∷ es) → not (is_use e) ≡ true
       → (let t = token_bytes texts (written_for texts used macros) e in
@@ -147,10 +134,10 @@ module _ (source : SourceRead) (used : ℕ → List ℕ) (macros : List ℕ)
       × AreOnLine texts (ends_back (ends_back false (text items)) t) es)) → AreReady (items ++ e ∷ []) es
   item-ready items e es before item of_e =
       let t = token_bytes texts (written_for texts used macros) e in
-      let ends = ap (ends_back false) (text-more items e) ∙ back-append false (text items) t in
+      let ends = ap (ends_back false) (text-more (token_bytes texts (written_for texts used macros)) items e) ∙ back-append false (text items) t in
       record {
-        are = more-items items e before.are item;
-        one = ap (feeds_taken false) (text-more items e) ∙ taken-append false (text items) t
+        are = grind (arith, list_all-append (λ e. not (is_use e)) items (e ∷ []), before.are);
+        one = ap (feeds_taken false) (text-more (token_bytes texts (written_for texts used macros)) items e) ∙ taken-append false (text items) t
             ∙ and_from _ _ before.one of_e.0;
         back = λ back. ends ∙ back-more (ends_back false (text items)) t
             (of_e.1.0 (ap (is_continued texts) (sym (last-item None items e)) ∙ back));
@@ -166,70 +153,41 @@ module _ (source : SourceRead) (used : ℕ → List ℕ) (macros : List ℕ)
         ((λ back. absurd (false≢true back)), before.later),
       )
 
+  -- a use or @h, its mark and what is after it
+  alone-use : (items : List Token) (places : List (List Origin)) (e : Token) (es : List Token) → AreReady items (e ∷ es)
+      → is_use e ≡ true → (let part : Group = record { items = e ∷ []; rest = es } in
+      let rest = row_after texts [] (drop 1 places) es in
+      let row = map OfPart (group_before (e ∷ es) items) ++ OfPart part ∷ (map OfMark (get_or places 0 []) ++ rest) in
+      (IsWholePassage source (OfPart part) → IsWholeLine (text (e ∷ []))) → (AreBare rest → AreWhole rest) → AreBare row → AreWhole row)
+  alone-use items places e es before is line next bare =
+      whole-groups items (e ∷ es) _ before.are before.one bare
+      (λ rest. (use-whole e es is (line rest.0), whole-marks (get_or places 0 []) _ next rest.1))
+
   pub row-whole : (items : List Token) (places : List (List Origin)) (es : List Token) → AreReady items es
       → AllByRecursion IsWholeUse es → AreBare (row_after texts items places es)
       → AreWhole (row_after texts items places es)
-  row-whole items places [] before uses bare = alone items before.are before.one bare
-    where
-      alone : (items : List Token) → AreItems items → IsOneLine (text items) → AreBare (map OfPart (group_before [] items))
-          → AreWhole (map OfPart (group_before [] items))
-      alone [] are one bare = tt
-      alone (e ∷ items) are one bare = (whole-group (e ∷ items) [] are one bare.0.0, tt)
-  row-whole items places (token.White ∷ es) before uses bare =
-      by (is_continued texts (last_or None items) && ends_line es)
-      (row-whole items places es
-      (record { are = before.are; one = before.one; back = before.back; later = more-on_line texts es _ before.later })
-      uses.1) (row-whole [] places es (ready es before.later) uses.1) bare
-    where
-      own : List Passage
-      own = row_after texts items places es
-
-      next : List Passage
-      next = row_after texts [] places es
-
-      by : (b : Bool) → (AreBare own → AreWhole own) → (AreBare next → AreWhole next) →
-          let row : List Passage = if b then own else map OfPart (group_before (token.White ∷ es) items) ++ next in
-          AreBare row → AreWhole row
-      by true same later bare = same bare
-      by false same later bare = whole-groups items (token.White ∷ es) next before.are before.one bare later
-  row-whole items places (token.LineEnd line ∷ es) before uses bare =
-      by (is_continued texts (last_or None items)) refl
+  row-whole items places [] before uses =
+      subst (λ row. AreBare row → AreWhole row) (append-nil (map OfPart (group_before [] items)))
+      (λ bare. whole-groups items [] [] before.are before.one bare (λ none. tt))
+  row-whole items places (token.White ∷ es) before uses =
+      cond_both (is_continued texts (last_or None items) && ends_line es) (row_after texts items places es) (map OfPart
+      (group_before (token.White ∷ es) items) ++ row_after texts [] places es) (λ row. AreBare row → AreWhole row)
+      (λ is. row-whole items places es
+      (record { are = before.are; one = before.one; back = before.back; later = more-on_line texts es _ before.later }) uses.1)
+      (λ is bare. whole-groups items (token.White ∷ es) _ before.are before.one bare (row-whole [] places es (ready es before.later) uses.1))
+  row-whole items places (token.LineEnd line ∷ es) before uses =
+      cond_both (is_continued texts (last_or None items)) (row_after texts (items ++ token.LineEnd line ∷ []) (drop 1 places) es) (map OfPart
+      (group_before (token.LineEnd line ∷ es) items) ++ (map OfMark (get_or places 0 []) ++ row_after texts [] (drop 1 places) es))
+      (λ row. AreBare row → AreWhole row)
       (λ is. row-whole (items ++ token.LineEnd line ∷ []) (drop 1 places) es (end-ready items line es before is) uses.1)
-      (whole-marks (get_or places 0 []) _ (row-whole [] (drop 1 places) es (ready es before.later) uses.1)) bare
-    where
-      more : List Passage
-      more = row_after texts (items ++ token.LineEnd line ∷ []) (drop 1 places) es
-
-      next : List Passage
-      next = map OfMark (get_or places 0 []) ++ row_after texts [] (drop 1 places) es
-
-      by : (b : Bool) → is_continued texts (last_or None items) ≡ b
-          → (is_continued texts (last_or None items) ≡ true → AreBare more → AreWhole more)
-          → (AreBare next → AreWhole next) →
-          let row : List Passage = if b then more else map OfPart (group_before (token.LineEnd line ∷ es) items) ++ next in
-          AreBare row → AreWhole row
-      by true is same later bare = same is bare
-      by false is same later bare = whole-groups items (token.LineEnd line ∷ es) next before.are before.one bare later
-  row-whole items places (token.UseOf line occurrence ∷ es) before uses bare =
-      let e = token.UseOf line occurrence in
-      let of_use = use-line (used occurrence) uses.0 in
-      whole-groups items (e ∷ es)
-      (OfPart (record { items = e ∷ []; rest = es })
-      ∷ (map OfMark (get_or places 0 []) ++ row_after texts [] (drop 1 places) es)) before.are before.one bare
-      (λ rest. (
-        use-whole e es refl of_use,
-        whole-marks (get_or places 0 []) _ (row-whole [] (drop 1 places) es (ready es before.later) uses.1) rest.1,
-      ))
-  row-whole items places (token.AllMacros line ∷ es) before uses bare =
-      let e = token.AllMacros line in
-      whole-groups items (e ∷ es)
-      (OfPart (record { items = e ∷ []; rest = es })
-      ∷ (map OfMark (get_or places 0 []) ++ row_after texts [] (drop 1 places) es)) before.are before.one bare
-      (λ rest.
-      let of_use = use-line macros (macros_whole (rest.0.1 refl)) in (
-        use-whole e es refl of_use,
-        whole-marks (get_or places 0 []) _ (row-whole [] (drop 1 places) es (ready es before.later) uses.1) rest.1,
-      ))
-  row-whole items places (e ∷ es) before uses bare =
+      (λ is bare. whole-groups items (token.LineEnd line ∷ es) _ before.are before.one bare
+      (whole-marks (get_or places 0 []) _ (row-whole [] (drop 1 places) es (ready es before.later) uses.1)))
+  row-whole items places (token.UseOf line occurrence ∷ es) before uses =
+      alone-use items places (token.UseOf line occurrence) es before refl (λ of_use. use-line (used occurrence) uses.0)
+      (row-whole [] (drop 1 places) es (ready es before.later) uses.1)
+  row-whole items places (token.AllMacros line ∷ es) before uses =
+      alone-use items places (token.AllMacros line) es before refl (λ of_macros. use-line macros (macros_whole (of_macros.1 refl)))
+      (row-whole [] (drop 1 places) es (ready es before.later) uses.1)
+  row-whole items places (e ∷ es) before uses =
       row-whole (items ++ e ∷ []) places es
-      (item-ready items e es before refl (before.later.0.taken, (before.later.0.back, before.later.1))) uses.1 bare
+      (item-ready items e es before refl (before.later.0.taken, (before.later.0.back, before.later.1))) uses.1

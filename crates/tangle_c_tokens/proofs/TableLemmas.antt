@@ -2,11 +2,11 @@
 use Rattle.std.proofs.Common.{rules}
 use Rattle.std.proofs.Common.{arith}
 use Rattle.std.proofs.lemmas.Bool.Decides.{nat_tests}
-use Rattle.std.proofs.Common.{◌≡◌, ℕ, true, List, [], ◌∷◌, ◌++◌, Option, None, Some, map}
+use Rattle.std.proofs.Common.{◌≡◌, ℕ, List, [], ◌∷◌, ◌++◌, Option, None, Some}
 use Rattle.std.specs.List.{AllByRecursion}
 use Rattle.std.specs.Map.{remove_entry, set_value}
 use Rattle.std.specs.Str.{bytes_eq}
-use Rattle.tangle_files.specs.Adding.{add_refusal, is_name, name_refusal, with_file}
+use Rattle.tangle_files.specs.Adding.{add_refusal, name_refusal, with_file}
 use Rattle.tangle_files.specs.Edited.{edited, spliced, with_lines_edited}
 use Rattle.tangle_files.specs.Edits.{edit_refusal, refusal_in, text_refusal}
 use Rattle.tangle_files.specs.Lines.{FileTable, cut, lines_of}
@@ -18,17 +18,14 @@ use Rattle.tangle_lines.specs.Reading.{source_of}
 use Rattle.tangle_c_tokens.specs.Files.{SourceHasNoLineFeed}
 use Rattle.tangle_c_tokens.specs.LineFeeds.{TextHasNoLineFeed, FilesHaveNoLineFeed}
 use Rattle.tangle_c_tokens.proofs.kind_lemmas.LineFeeds.{cut-have, source-clear, trimmed-has}
-use Rattle.tangle_c_tokens.proofs.ListLemmas.{all-append, all-drop, all-take}
-
-name-has : (name : List ℕ) → is_name name ≡ true → TextHasNoLineFeed name
-name-has name is = grind (arith, nat_tests)
+use Rattle.tangle_c_tokens.proofs.ListLemmas.{all-append, all-drop, all-map, all-take}
 
 file-more : (files : FileTable) (name : List ℕ) (lines : List (List ℕ)) → TextHasNoLineFeed name
     → AllByRecursion TextHasNoLineFeed lines → FilesHaveNoLineFeed files → FilesHaveNoLineFeed (files ++ (name, lines) ∷ [])
 file-more files name lines of_name of_lines h = search (rules, all-append)
 
 new-name : (files : FileTable) (name : List ℕ) → name_refusal files name ≡ None → TextHasNoLineFeed name
-new-name files name none = name-has name (grind (arith, nat_tests))
+new-name files name none = grind (arith, nat_tests)
 
 pub added-have : (files : FileTable) (name bytes : List ℕ) → add_refusal files name bytes ≡ None
     → FilesHaveNoLineFeed files → FilesHaveNoLineFeed (with_file files name bytes)
@@ -80,9 +77,7 @@ edited-have files (edits.Marks mode) none h = h
 
 -- no source line and no name of a file has one either
 pub source-has : (files : FileTable) (roles : RolesRead) → FilesHaveNoLineFeed files → SourceHasNoLineFeed (source_of files roles)
-source-has files roles h = record { lines = source-clear files roles h.lines; names = names files h.names }
-  where
-    names : (files : FileTable) → AllByRecursion (λ f. TextHasNoLineFeed f.0) files
-        → AllByRecursion TextHasNoLineFeed (map (λ f. f.0) files)
-    names [] h = tt
-    names (f ∷ files) h = (h.0, names files h.1)
+source-has files roles h = record {
+  lines = source-clear files roles h.lines;
+  names = all-map TextHasNoLineFeed (λ f. f.0) files h.names;
+}

@@ -4,25 +4,24 @@ use Rattle.std.proofs.Common.{arith}
 use Rattle.std.proofs.Common.{◌⊎◌}
 use Rattle.std.proofs.Common.{◌≡◌, ℕ, Bool, true, false, List, [], ◌∷◌, ◌++◌, refl, ap, sym, subst}
 use Rattle.std.proofs.Common.{inl, inr, ◌∙◌, append-nil, append_assoc}
-use Rattle.std.specs.Prelude.{◌&&◌, ◌==◌, not, filter, if◌then◌else◌}
+use Rattle.std.specs.Prelude.{◌&&◌, ◌==◌, not, filter}
 use Rattle.std.specs.List.{list_any}
-use Rattle.std.proofs.lemmas.Bool.{or_right, not_from_false}
+use Rattle.std.proofs.lemmas.Bool.{or_right}
 use Rattle.std.proofs.lemmas.Bool.{false≢true, not-true}
 use Rattle.std.proofs.lemmas.List.Elements.{filter-append}
 use Rattle.c_tokens.specs.Bytes.{line_feed, space, slash, backslash}
-use Rattle.c_tokens.specs.Grammar.{is_token, is_element, is_punctuator, is_number}
+use Rattle.c_tokens.specs.Grammar.{is_token, is_element, is_punctuator}
 use Rattle.c_tokens.specs.Reading.{spliced, tokens, elements_from}
 use Rattle.c_tokens.specs.Touching.{TextKind, kinds_may_touch, is_separator, is_operator}
-use Rattle.c_tokens.specs.Touching.TextKind.{Separator, Operator, Plain, Other}
-use Rattle.c_tokens.specs.Borders.{number_goes_on, is_whole, is_unfinished, last_byte}
-use Rattle.c_tokens.specs.Borders.{is_at_operator}
-use Rattle.c_tokens.specs.Borders.{is_border, have_border, keep_lines}
+use Rattle.c_tokens.specs.Touching.TextKind.{Separator, Operator, Plain}
+use Rattle.c_tokens.specs.Borders.{is_whole, is_unfinished}
+use Rattle.c_tokens.specs.Borders.{have_border, keep_lines}
 use Rattle.c_tokens.specs.Borders.{is_plain_byte}
 use Rattle.c_tokens.proofs.BorderLemmas.{border-elements}
-use Rattle.c_tokens.proofs.TouchingLemmas.{spliced-both}
+use Rattle.c_tokens.proofs.ElementLemmas.{spliced-both, keep-other}
 use Rattle.c_lines.specs.JoinedLines.{LinesAreWhole}
 use Rattle.c_lines.proofs.LineLemmas.{keep-feed}
-use Rattle.c_lines.proofs.JoinedLemmas.{IsOneLine, lines-apart, lines-feed, lines-whole, taken-append, spliced-other, white-next, white-before}
+use Rattle.c_lines.proofs.JoinedLemmas.{IsOneLine, lines-apart, lines-feed, lines-whole, taken-append, spliced-other, white-next, white-before, keep-is, back-append, begins_feed}
 use Rattle.tangle_c_tokens.specs.Reading.{IsReadAsTexts}
 use Rattle.tangle_c_tokens.specs.Edges.{first_byte_passes, last_byte_passes, begins_as, ends_as, last_number_goes_on}
 use Rattle.std.proofs.lemmas.Bool.Decides.{nat_tests}
@@ -56,10 +55,6 @@ apart-from a b whole one kept border = record {
 
 -- borders
 
-operator-border : (element : List ℕ) (d c : ℕ) → (is_number element && number_goes_on d c) ≡ false
-    → is_at_operator d c ≡ true → is_border element d c ≡ true
-operator-border element d c none at = search (rules, or_right, not_from_false)
-
 -- a slash after another byte than a slash
 pub slash-border : (a b : List ℕ) → last_byte_passes (λ d. d == slash) a ≡ false → have_border a (slash ∷ b) ≡ true
 slash-border a b ends = search rules
@@ -75,7 +70,7 @@ separator-next a b begins = search (rules, or_right)
 
 operator-before : (a b : List ℕ) → last_number_goes_on a b ≡ false → last_byte_passes is_operator a ≡ true
     → first_byte_passes is_plain_byte b ≡ true → have_border a b ≡ true
-operator-before a b none ends begins = search (rules, operator-border)
+operator-before a b none ends begins = search (rules, or_right)
 
 operator-next : (a b : List ℕ) → last_number_goes_on a b ≡ false → last_byte_passes is_plain_byte a ≡ true
     → first_byte_passes is_operator b ≡ true → have_border a b ≡ true
@@ -87,7 +82,7 @@ ends-after : (test : ℕ → Bool) (b : ℕ) (bs : List ℕ) → last_byte_passe
     → last_byte_passes test (b ∷ bs) ≡ true
 ends-after test b bs ends = search rules
 
-ends-append : (test : ℕ → Bool) (a t : List ℕ) → last_byte_passes test t ≡ true
+pub ends-append : (test : ℕ → Bool) (a t : List ℕ) → last_byte_passes test t ≡ true
     → last_byte_passes test (a ++ t) ≡ true
 ends-append test [] t ends = ends
 ends-append test (b ∷ a) t ends = ends-after test b (a ++ t) (ends-append test a t ends)
@@ -119,41 +114,27 @@ kinds-border k g a t more may ends begins none = by k g may ends begins (search 
     by : (k g : TextKind) → kinds_may_touch k g ≡ true → ends_as k a ≡ true → begins_as g t ≡ true
         → begins_as g b ≡ true → have_border a b ≡ true
     by Separator g may ends begins next = separator-before a b ends
-    by Operator Separator may ends begins next = separator-next a b next
-    by Plain Separator may ends begins next = separator-next a b next
-    by Other Separator may ends begins next = separator-next a b next
+    by k Separator may ends begins next = separator-next a b next
     by Operator Plain may ends begins next =
         operator-before a b (same-next is_plain_byte refl a t more begins ∙ none) ends next
     by Plain Operator may ends begins next =
         operator-next a b (same-next is_operator refl a t more begins ∙ none) ends next
-    by Operator Operator may ends begins next = absurd (false≢true may)
-    by Operator Other may ends begins next = absurd (false≢true may)
-    by Plain Plain may ends begins next = absurd (false≢true may)
-    by Plain Other may ends begins next = absurd (false≢true may)
-    by Other Operator may ends begins next = absurd (false≢true may)
-    by Other Plain may ends begins next = absurd (false≢true may)
-    by Other Other may ends begins next = absurd (false≢true may)
+    by k g may ends begins next = absurd (false≢true may)
 
 -- white space, and texts before it
-
-keep-first : (w : ℕ) (rest : List ℕ) → (w == backslash) ≡ false → keep_lines (w ∷ []) rest ≡ true
-keep-first w rest other = search rules
-
-pub keep-other : (a : List ℕ) (w : ℕ) (rest : List ℕ) → (w == line_feed) ≡ false → keep_lines a (w ∷ rest) ≡ true
-keep-other a w rest other = search rules
 
 pub space-front : (rest : List ℕ) → Follows [] rest (space ∷ rest)
 unfolding is_element is_token is_punctuator
 space-front rest =
     let apart =
-    apart-from (space ∷ []) rest refl refl (keep-first space rest refl) (white-before space (spliced rest) refl) in
+    apart-from (space ∷ []) rest refl refl (keep-is (space ∷ []) rest) (white-before space (spliced rest) refl) in
     record { read = apart.read; lines = apart.lines }
 
 pub feed-front : (rest : List ℕ) → Follows [] rest (line_feed ∷ rest)
 unfolding is_element is_token is_punctuator
 feed-front rest =
     record {
-      read = tokens-apart (line_feed ∷ []) rest refl (keep-first line_feed rest refl)
+      read = tokens-apart (line_feed ∷ []) rest refl (keep-is (line_feed ∷ []) rest)
           (white-before line_feed (spliced rest) refl);
       lines = λ lines. (refl, lines);
     }
@@ -168,33 +149,24 @@ space-between a rest whole one = follows-more a (space ∷ rest) rest _ (space-a
 abbrev pub keeps_line_feed : List ℕ → Bool
 keeps_line_feed text = keep_lines text (line_feed ∷ [])
 
-feed-tokens : (a rest : List ℕ) → is_whole a ≡ true → keeps_line_feed a ≡ true
-    → tokens (a ++ line_feed ∷ rest) ≡ tokens a ++ tokens (line_feed ∷ rest)
-feed-tokens a rest whole kept = search (rules, tokens-apart, keep-feed, spliced-other, white-next)
-
 -- a line feed after a text that may have more than one line
 
 pub feed-apart : (a rest : List ℕ) → LinesAreWhole a → keeps_line_feed a ≡ true → Follows a (line_feed ∷ rest) (a ++ line_feed ∷ rest)
 feed-apart a rest lines kept =
-    record { read = feed-tokens a rest (lines-whole a lines) kept; lines = λ more. lines-feed a rest kept lines more.1 }
+    record {
+      read = search (rules, tokens-apart, lines-whole, keep-feed, spliced-other, white-next);
+      lines = λ more. lines-feed a rest kept lines more.1;
+    }
 
 pub feed-between : (a rest : List ℕ) → LinesAreWhole a → keeps_line_feed a ≡ true → Follows a rest (a ++ line_feed ∷ rest)
 feed-between a rest lines kept = follows-more a (line_feed ∷ rest) rest _ (feed-apart a rest lines kept) (feed-front rest)
 
 -- a line end that is taken out
 
-last-taken : (x : ℕ) (a : List ℕ) → last_byte x (a ++ backslash ∷ line_feed ∷ []) ≡ line_feed
-last-taken x [] = refl
-last-taken x (y ∷ a) = last-taken y a
-
 keep-taken : (a rest : List ℕ) → keep_lines (a ++ backslash ∷ line_feed ∷ []) rest ≡ true
-keep-taken [] [] = refl
-keep-taken [] (c ∷ rest) = refl
-keep-taken (x ∷ a) [] = refl
-keep-taken (x ∷ a) (c ∷ rest) = rw (last-taken x a) refl
-
-one-taken : (a : List ℕ) → IsOneLine a → IsOneLine (a ++ backslash ∷ line_feed ∷ [])
-one-taken a one = grind (arith, nat_tests, taken-append false a (backslash ∷ line_feed ∷ []))
+keep-taken a rest =
+    keep-is (a ++ backslash ∷ line_feed ∷ []) rest
+    ∙ ap (λ back. not (back && begins_feed rest)) (back-append false a (backslash ∷ line_feed ∷ []))
 
 pub taken-between : (a rest : List ℕ) → is_whole a ≡ true → IsOneLine a
     → have_border (spliced a) (spliced rest) ≡ true →
@@ -203,7 +175,7 @@ taken-between a rest whole one border =
     let all = a ++ backslash ∷ line_feed ∷ [] in
     let same : spliced all ≡ spliced a = (search (rules, spliced-both, keep-other)) ∙ append-nil (spliced a) in
     let apart : Follows all rest (all ++ rest) =
-    apart-from all rest (ap (λ t. not (list_any is_unfinished (elements_from 0 t))) same ∙ whole) (one-taken a one)
+    apart-from all rest (ap (λ t. not (list_any is_unfinished (elements_from 0 t))) same ∙ whole) (grind (arith, nat_tests, taken-append false a (backslash ∷ line_feed ∷ [])))
     (keep-taken a rest) (ap (λ t. have_border t (spliced rest)) same ∙ border) in
     follows-same a rest (a ++ backslash ∷ line_feed ∷ rest) (all ++ rest)
     (sym (append_assoc a (backslash ∷ line_feed ∷ []) rest)) (record {

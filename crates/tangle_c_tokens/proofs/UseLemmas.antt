@@ -1,6 +1,6 @@
 -- The uses of a piece are those of its node's shape.
 use Rattle.std.proofs.Common.{arith, rules}
-use Rattle.std.proofs.Common.{◌≡◌, ◌∙◌, ℕ, Bool, true, false, List, [], ◌∷◌, ◌++◌, map, flat_map, if◌then◌else◌, Option, Some, None, refl, subst}
+use Rattle.std.proofs.Common.{◌≡◌, ◌∙◌, ℕ, Bool, true, false, List, [], ◌∷◌, ◌++◌, map, flat_map, Option, Some, refl, subst}
 use Rattle.std.specs.List.{AllByRecursion}
 use Rattle.std.proofs.lemmas.List.Concat.{flat_map-append}
 use Rattle.tangle_lines.specs.declared.origin.Origin.{Origin}
@@ -47,15 +47,10 @@ module _ (lines : List SourceLine) where
   of-blanks before white (token.LineEnd line ∷ es) = of-blanks (at_line_front (texts_of lines) before line) false es
   of-blanks before white (e ∷ es) = grind (arith, of-blanks (Some e) false es)
 
-  by-origin : (at : TurnSoFar) (counted : Origin) (es : List Token)
-      → flat_map item_uses (items_by_origin lines None at counted (blanks (texts_of lines) None false es))
-      ≡ flat_map token_uses es
-  by-origin at counted es = of-items None at counted (blanks (texts_of lines) None false es) ∙ of-blanks None false es
-
   -- the items of a part have the uses of its tokens
   part-uses : (line : ℕ) (es : List Token)
       → flat_map item_uses (part_items lines line es) ≡ flat_map token_uses (part_tokens (texts_of lines) es)
-  part-uses line es = search (rules, part_items-by_origin, by-origin)
+  part-uses line es = search (rules, part_items-by_origin, of-items, of-blanks)
 
   module _ (numbers : NumbersRead) (table : TableRead) (used : List ℕ → List Symbol) where
     abbrev pub IsWholeName : List ℕ → Type 0

@@ -1,4 +1,3 @@
-pub mod NumberWords
 pub mod WordKinds
 pub mod Lines
 pub mod LineFeeds

@@ -1,5 +1,5 @@
 -- The tokens that a C compiler reads of a whole file are those of its rows.
-use Rattle.std.specs.Prelude.{◌≡◌, ℕ, Bool, true, List, [], ◌∷◌, ◌++◌, map, flat_map, codes}
+use Rattle.std.specs.Prelude.{◌≡◌, ℕ, Bool, true, List, [], ◌∷◌, ◌++◌, map, flat_map}
 use Rattle.std.specs.Prelude.{if◌then◌else◌}
 use Rattle.std.specs.List.{AllByRecursion}
 use Rattle.digraph.specs.Reach.{Reaches}
@@ -7,7 +7,7 @@ use Rattle.tangle_files.specs.declared.marks.MarkMode.{MarkMode}
 use Rattle.tangle_lines.specs.Reading.{SourceRead}
 use Rattle.tangle_lexer.specs.declared.tokens.Token.{Token}
 use Rattle.tangle_scan.specs.Rules.{texts_of}
-use Rattle.tangle_scan.specs.ReadAsMeant.{written_tokens, all_macro_tokens, all_piece_tokens}
+use Rattle.tangle_scan.specs.ReadAsMeant.{all_macro_tokens, all_piece_tokens}
 use Rattle.tangle_scan.specs.Web.{PieceRead, web_of}
 use Rattle.tangle_names.specs.NameTable.{TableRead, table_of}
 use Rattle.tangle_bodies.specs.Shapes.{Title, Named, Shapes, Uses}
@@ -17,8 +17,7 @@ use Rattle.tangle_expansion.specs.Numbers.{NumbersRead, numbers_of, expansion_by
 use Rattle.tangle_expansion.specs.Outputs.{output_file_bytes}
 use Rattle.tangle_expansion.specs.PieceBytes.{bytes_after_mark, used_bytes}
 use Rattle.tangle_c_tokens.specs.Reading.{IsReadAsTexts}
-use Rattle.tangle_c_tokens.specs.Groups.{groups, group_text}
-use Rattle.tangle_c_tokens.specs.Macros.{IsReadAlone}
+use Rattle.tangle_c_tokens.specs.Macros.{GroupsAreReadAlone, macro_texts}
 use Rattle.tangle_c_tokens.specs.LineFeeds.{TextHasNoLineFeed, SourceLinesHaveNoLineFeed}
 use Rattle.tangle_c_tokens.specs.Pieces.{IsWholePart, Passage, OfPart, OfMark, begins_with_macros}
 use Rattle.tangle_c_tokens.specs.Pieces.{passage_text, row_of_piece}
@@ -31,12 +30,6 @@ node_row texts table node (piece ∷ pieces) (es ∷ tokens) =
     ++ node_row texts table node pieces tokens
 node_row texts table node pieces tokens = []
 
--- the texts that a C compiler reads of a macro with these tokens
-abbrev pub macro_texts : List (List ℕ) → List Token → List (List ℕ)
-macro_texts texts es =
-    codes "#define"
-    ∷ map (λ group. group_text texts group.items) (groups (written_tokens texts es))
-
 -- No source line and no name of a file has a line feed.
 pub record SourceHasNoLineFeed (source : SourceRead) : Type 0 where
   pub lines : SourceLinesHaveNoLineFeed source.lines
@@ -46,10 +39,7 @@ module _ (source : SourceRead) where
   -- the groups of items of each macro are read alone
   abbrev pub MacrosAreReadAlone : Type 0
   MacrosAreReadAlone =
-      AllByRecursion
-      (λ es. AllByRecursion (IsReadAlone (texts_of source.lines))
-      (groups (written_tokens (texts_of source.lines) es)))
-      (all_macro_tokens source.lines)
+      AllByRecursion (GroupsAreReadAlone (texts_of source.lines)) (all_macro_tokens source.lines)
 
   -- A part is whole, where nothing is written for a use, and all macros are read alone if it is @h.
   abbrev pub IsWholePassage : Passage → Type 0

@@ -1,7 +1,7 @@
 -- Items that stand together are read together: the groups of items of a macro or a piece.
-use Rattle.std.specs.Prelude.{ℕ, List, [], ◌∷◌, ◌++◌, flat_map}
+use Rattle.std.specs.Prelude.{if◌then◌else◌, ℕ, List, [], ◌∷◌, ◌++◌, flat_map}
 use Rattle.tangle_lexer.specs.declared.tokens.Token.{Token}
-use Rattle.tangle_lexer.specs.declared.tokens.Token.TheVariants as token
+use Rattle.tangle_scan.specs.Rules.{is_front_gap}
 use Rattle.tangle_scan.specs.ReadAsMeant.{token_bytes}
 
 -- a group of items, and the tokens after it
@@ -18,10 +18,9 @@ group_before rest (e ∷ items) = record { items = e ∷ items; rest = rest } �
 -- first group before these tokens.
 abbrev pub groups_after : List Token → List Token → List Group
 groups_after items [] = group_before [] items
-groups_after items (token.White ∷ es) = group_before (token.White ∷ es) items ++ groups_after [] es
-groups_after items (token.LineEnd line ∷ es) =
-    group_before (token.LineEnd line ∷ es) items ++ groups_after [] es
-groups_after items (e ∷ es) = groups_after (items ++ e ∷ []) es
+groups_after items (e ∷ es) =
+    if is_front_gap e then group_before (e ∷ es) items ++ groups_after [] es
+    else groups_after (items ++ e ∷ []) es
 
 abbrev pub groups : List Token → List Group
 groups es = groups_after [] es

@@ -12,17 +12,14 @@ use Rattle.tangle_lexer.specs.declared.tokens.SpanKind.TheVariants as span_kind
 use Rattle.tangle_lexer.specs.SpanBytes.{first_byte}
 use Rattle.tangle_scan.specs.ReadAsMeant.{token_bytes}
 use Rattle.c_tokens.specs.Bytes.{line_feed, double_quote, apostrophe}
-use Rattle.c_tokens.specs.Grammar.{is_number, ends_quoted}
+use Rattle.c_tokens.specs.Grammar.{is_number, ends_quoted, has_prefix}
 use Rattle.c_tokens.specs.Reading.{spliced}
 use Rattle.c_tokens.specs.Touching.{TextKind, is_separator, is_operator, is_one, IsOfKind}
 use Rattle.c_tokens.specs.Touching.TextKind.{Separator, Operator, Plain, Other}
 use Rattle.c_tokens.specs.Borders.{has_bytes}
 use Rattle.tangle_c_tokens.specs.Edges.{begins_as, ends_as}
+use Rattle.tangle_c_tokens.specs.Groups.{group_text}
 use Rattle.tangle_c_tokens.specs.LineFeeds.{TextHasNoLineFeed}
-
--- the kind of a sign with this byte
-abbrev pub text_kind_of_sign : ℕ → TextKind
-text_kind_of_sign b = if is_separator b then Separator else if is_operator b then Operator else Other
 
 -- a text of this kind, which has a byte, and begins and ends as such texts do
 pub record IsTextOfKind (kind : TextKind) (text : List ℕ) : Type 0 where
@@ -34,7 +31,9 @@ pub record IsTextOfKind (kind : TextKind) (text : List ℕ) : Type 0 where
 module _ (texts : List (List ℕ)) where
   -- the kind of text that an item is for C
   abbrev pub item_kind : Token → TextKind
-  item_kind (token.Span span_kind.Sign s) = text_kind_of_sign (first_byte texts s)
+  item_kind (token.Span span_kind.Sign s) =
+      let b : ℕ = first_byte texts s in
+      if is_separator b then Separator else if is_operator b then Operator else Other
   item_kind (token.Span span_kind.Word s) = if is_digit (first_byte texts s) then Other else Plain
   item_kind (token.Span span_kind.Quoted s) = Plain
   item_kind _ = Other
@@ -68,42 +67,32 @@ ends_header_name (b ∷ c ∷ bs) =
     not (b == greater_sign || b == line_feed) && ends_header_name (c ∷ bs)
 
 abbrev pub is_header_name : List ℕ → Bool
-is_header_name [] = false
-is_header_name (b ∷ bs) = b == less_sign && ends_header_name bs
+is_header_name = has_prefix (less_sign ∷ []) ends_header_name
 
 -- a text that begins with this byte, and of which no front ends, by a test of the bytes after it
 abbrev pub IsOpen : ℕ → (List ℕ → Bool) → List ℕ → Type 0
 IsOpen opening ends [] = ⊥
 IsOpen opening ends (b ∷ bs) = (b ≡ opening) × ((n : ℕ) → ends (take n bs) ≡ false)
 
--- a quoted text that does not end, which is a fault
-abbrev pub IsUnended : List ℕ → Type 0
-IsUnended text =
-    IsOpen double_quote (ends_quoted double_quote) (spliced text)
-    ⊎ (IsOpen apostrophe (ends_quoted apostrophe) (spliced text)
-    ⊎ IsOpen less_sign ends_header_name text)
-
 -- A quoted text of a web is of the kind of C's string literals and character constants, except for
--- `''`, for a header name, such as `<x>` after `#include`, and for a text that does not end. For C
--- these are several tokens, unless the header name is in a directive.
+-- `''`, for a header name, such as `<x>` after `#include`, and for a text that does not end, which
+-- is a fault. For C these are several tokens, unless the header name is in a directive.
 abbrev pub IsQuoted : List ℕ → Type 0
 IsQuoted text =
     IsTextOfKind Plain text
     ⊎ ((bytes_eq (spliced text) (codes "''") ≡ true) ⊎ ((is_header_name text ≡ true)
-    ⊎ IsUnended text))
+    ⊎ (IsOpen double_quote (ends_quoted double_quote) (spliced text)
+    ⊎ (IsOpen apostrophe (ends_quoted apostrophe) (spliced text)
+    ⊎ IsOpen less_sign ends_header_name text))))
 
 module _ (texts : List (List ℕ)) where
-  -- the bytes of ranges and breaks, one after another
-  abbrev pub range_bytes : List Token → List ℕ
-  range_bytes ranges = flat_map (token_bytes texts (λ t. [])) ranges
-
   -- all ranges and breaks of a quoted text, each of which has a byte, and each line feed of which is
   -- directly after a backslash
   pub record IsQuotedText (part : List Token) : Type 0 where
     pub ranges : list_all is_range part ≡ true
     pub bytes : list_all (λ t. has_bytes (token_bytes texts (λ t. []) t)) part ≡ true
-    pub quoted : IsQuoted (range_bytes part)
-    pub one_line : TextHasNoLineFeed (spliced (range_bytes part))
+    pub quoted : IsQuoted (group_text texts part)
+    pub one_line : TextHasNoLineFeed (spliced (group_text texts part))
 
   -- one token, which is no part of a quoted text
   abbrev pub IsAlone : List Token → Type 0

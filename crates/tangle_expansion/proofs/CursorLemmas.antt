@@ -1,8 +1,8 @@
 -- One more tag of a body is written.
 use Rattle.std.proofs.Common.{rules}
 use Rattle.std.proofs.lemmas.Bool.Decides.{nat_tests}
-use Rattle.std.proofs.Common.{◌≡◌, ◌∙◌, ℕ, ◌+◌, ◌-◌, ◌^◌, ◌<◌, ◌≤◌, true, min, List, [], ◌∷◌, ◌++◌, map, take}
-use Rattle.std.proofs.Common.{drop, length, get_or, ap, sym, append_assoc, arith, drop-drop, length-drop}
+use Rattle.std.proofs.Common.{◌≡◌, ◌∙◌, ℕ, ◌+◌, ◌-◌, ◌^◌, ◌<◌, ◌≤◌, min, List, [], ◌∷◌, ◌++◌, map, take}
+use Rattle.std.proofs.Common.{drop, length, get_or, refl, ap, sym, append_assoc, arith, drop-drop, length-drop}
 use Rattle.std.proofs.lemmas.List.{drop_all, drop_min, take_min}
 use Rattle.std.proofs.Math.Seq.{take-add}
 use Rattle.std.proofs.lemmas.Grind.{flat_map-append}
@@ -10,13 +10,14 @@ use Rattle.tangle_files.specs.Bytes.{space}
 use Rattle.tangle_bodies.specs.Flat.{Symbol, Byte}
 use Rattle.tangle_bodies.specs.Meaning.{title_of, left_over, with_used}
 use Rattle.tangle_bodies.specs.Flat.{own_symbols}
+use Rattle.tangle_bodies.specs.Shapes.{Program}
 use Rattle.tangle_bodies.specs.declared.nodes.NodeBody.{NodeBody}
 use Rattle.tangle_scan.specs.declared.texts.ItemKind.{ItemKind}
 use Rattle.tangle_scan.specs.declared.texts.ItemKind.TheVariants as tag
 use Rattle.tangle_scan.specs.declared.texts.ItemTag.{ItemTag}
 use Rattle.tangle_bodies.proofs.DropLemmas.{drop_at}
 use Rattle.tangle_expansion.specs.Numbers.{NumbersRead, expansion_bytes}
-use Rattle.tangle_expansion.specs.Writing.{bytes_between, has_bytes_alone, IsAfterTag, symbols_from, bytes_from, from_use}
+use Rattle.tangle_expansion.specs.Writing.{bytes_between, IsAfterTag, symbols_from, bytes_from, from_use}
 use Rattle.tangle_expansion.specs.declared.cursor.Cursor.{Cursor}
 use Rattle.tangle_expansion.proofs.WrittenLemmas.{bytes_then}
 
@@ -45,15 +46,6 @@ use_bytes : (numbers : NumbersRead) (rest : List (List Symbol) → List Symbol) 
     ≡ from_use numbers (λ us. expansion_bytes numbers (rest us)) used
 use_bytes numbers rest used = search (rules, flat_map-append)
 
-module _ (body : NodeBody) (at : Cursor) where
-  -- the symbols from a tag on are those of the tag, and then those from the next one on
-  symbols_next : (t : ItemTag) (next : Cursor) (used : List (List Symbol))
-      → at.tag < length body.tags.items → t ≡ get_or body.tags.items at.tag t → IsAfterTag at t next
-      → symbols_from body at used
-      ≡ map Byte (take t.size (drop at.start body.bytes.items))
-      ++ with_used t.kind (own_symbols (title_of body.name) at.piece at.marks t.kind) used (symbols_from body next)
-  symbols_next t next used h is after = search (rules, drop-drop, drop_saturated, drop_at)
-
 -- from a tag on, after bytes that were passed
 module _ (numbers : NumbersRead) (body : NodeBody) (at next : Cursor) (t : ItemTag)
     (h : at.tag < length body.tags.items) (is : t ≡ get_or body.tags.items at.tag t)
@@ -61,42 +53,36 @@ module _ (numbers : NumbersRead) (body : NodeBody) (at next : Cursor) (t : ItemT
   abbrev own : ItemKind → List Symbol
   own k = own_symbols (title_of body.name) at.piece at.marks k
 
-  abbrev Passes : (ItemKind → List (List Symbol) → List Symbol) → Type 0
+  -- the symbols from a tag on are those of the tag, and then those from the next one on
+  symbols_next : (used : List (List Symbol)) → symbols_from body at used
+      ≡ map Byte (take t.size (drop at.start body.bytes.items)) ++ with_used t.kind (own t.kind) used (symbols_from body next)
+  symbols_next used = search (rules, drop-drop, drop_saturated, drop_at)
+
+  -- the bytes from the tag on are its bytes and these
+  abbrev Passes : (List (List Symbol) → List ℕ) → Type 0
   Passes rest = (used : List (List Symbol))
       → bytes_between body.bytes.items start at.start ++ bytes_from body at numbers used
-      ≡ bytes_between body.bytes.items start next.start ++ expansion_bytes numbers (rest t.kind used)
+      ≡ bytes_between body.bytes.items start next.start ++ rest used
 
-  passes : Passes (λ k used. with_used k (own k) used (symbols_from body next))
+  passes : Passes (λ used. expansion_bytes numbers (with_used t.kind (own t.kind) used (symbols_from body next)))
   passes used =
       let bytes = take t.size (drop at.start body.bytes.items) in
-      let rest = with_used t.kind (own t.kind) used (symbols_from body next) in
       let passed = bytes_between body.bytes.items start at.start in
-      ap (λ l. passed ++ expansion_bytes numbers l) (symbols_next body at t next used h is after)
-      ∙ ap (λ l. passed ++ l) (bytes_then numbers bytes rest)
-      ∙ sym (append_assoc passed bytes (expansion_bytes numbers rest))
-      ∙ ap (λ l. l ++ expansion_bytes numbers rest)
-      (between_more body.bytes.items start at.start t.size next.start (bytes_fit body) low after.start)
+      let more = between_more body.bytes.items start at.start t.size next.start (bytes_fit body) low after.start in
+      rw (symbols_next used, bytes_then numbers bytes, ← append_assoc passed bytes, more) refl
 
   -- bytes alone
-  pub passes_bytes : has_bytes_alone t.kind ≡ true → Passes (λ k. symbols_from body next)
+  pub passes_bytes : length (own_symbols Program 0 0 t.kind) ≡ 0 → Passes (bytes_from body next numbers)
   passes_bytes e used = search (rules, passes)
 
   -- symbols of the tag's own
-  pub passes_symbols : (t.kind ≡ tag.Use → ⊥) → (used : List (List Symbol))
-      → bytes_between body.bytes.items start at.start ++ bytes_from body at numbers used
-      ≡ bytes_between body.bytes.items start next.start
-      ++ (expansion_bytes numbers (own t.kind) ++ bytes_from body next numbers used)
+  pub passes_symbols : (t.kind ≡ tag.Use → ⊥)
+      → Passes (λ used. expansion_bytes numbers (own t.kind) ++ bytes_from body next numbers used)
   passes_symbols none used = search (rules, passes, flat_map-append)
 
   -- a use
-  pub passes_use : t.kind ≡ tag.Use → (used : List (List Symbol))
-      → bytes_between body.bytes.items start at.start ++ bytes_from body at numbers used
-      ≡ bytes_between body.bytes.items start next.start ++ from_use numbers (bytes_from body next numbers) used
-  passes_use at_use used =
-      passes used
-      ∙ ap (λ l. bytes_between body.bytes.items start next.start ++ l)
-      (ap (λ k. expansion_bytes numbers (with_used k (own k) used (symbols_from body next))) at_use
-      ∙ use_bytes numbers (symbols_from body next) used)
+  pub passes_use : t.kind ≡ tag.Use → Passes (from_use numbers (bytes_from body next numbers))
+  passes_use at_use used = rw (passes used, at_use, use_bytes numbers (symbols_from body next)) refl
 
 pub stops_at_end : (numbers : NumbersRead) (body : NodeBody) (at : Cursor) → length body.tags.items ≤ at.tag
     → (used : List (List Symbol)) → bytes_from body at numbers used ≡ from_use numbers (bytes_from body at numbers) used

@@ -2,7 +2,7 @@
 use Rattle.std.proofs.Common.{◌∙◌, drop-drop, get_or, sym, arith}
 use Rattle.std.proofs.Common.{◌≡◌, ℕ, ◌+◌, zero, suc, Bool, true, false, List, [], ◌∷◌, ◌++◌, map, drop, get_or}
 use Rattle.std.proofs.Common.{Option, None, Some, ap, subst, arith}
-use Rattle.std.specs.Prelude.{filter, flat_map, if◌then◌else◌}
+use Rattle.std.specs.Prelude.{filter, flat_map}
 use Rattle.std.specs.List.{AllZip, zip}
 use Rattle.std.proofs.lemmas.List.{get_or-drop}
 use Rattle.tangle_lines.specs.declared.origin.Origin.{Origin}
@@ -17,7 +17,8 @@ use Rattle.tangle_scan.specs.LineTruth.{piece_locations, PiecesAreAtTheirLines}
 use Rattle.tangle_scan.specs.Web.{WebRead, PieceRead}
 use Rattle.tangle_names.specs.declared.Resolved.{Resolved}
 use Rattle.tangle_names.specs.declared.Resolved.TheVariants.{Name}
-use Rattle.std.proofs.Common.{refl}
+use Rattle.std.proofs.Common.{refl, inl, inr}
+use Rattle.std.proofs.lemmas.Bool.{cases_Bool}
 use Rattle.tangle_names.specs.NameTable.{table_of}
 use Rattle.tangle_bodies.specs.Shapes.{Title, Named, ShapeItem}
 use Rattle.tangle_bodies.specs.Flat.{Symbol, Byte, items_flat, pieces_flat, flat}
@@ -152,36 +153,24 @@ module _ (web : WebRead) (lines : List SourceLine)
   pieces_are_located node piece [] locations origins own read q = tt
   pieces_are_located node piece (p ∷ pieces) [] origins own read q = elim own [ ]
   pieces_are_located node piece (p ∷ pieces) (e ∷ locations) origins own read q =
-      by (is_piece_of (table_of web) node p) origins (λ n h now r. pieces_are_located node n pieces locations h own.1 now r)
-    where
-      by : (t : Bool)
-          → drop piece (node_numbers numbers node)
-          ≡ map numbers_of_piece (if t then p ∷ of_node node pieces else of_node node pieces)
-          → ((n : ℕ) → drop n (node_numbers numbers node) ≡ map numbers_of_piece (of_node node pieces)
-          → (now : Bool) (r : Option Origin)
-          → AreAtTheirOrigins numbers now r
-          (pieces_flat used node n (shape_of web.texts (table_of web) (of_node node pieces)))
-          (among node (zip pieces locations)))
-          → AreAtTheirOrigins numbers read q
-          (pieces_flat used node piece (shape_of web.texts (table_of web)
-          (if t then p ∷ of_node node pieces else of_node node pieces)))
-          (flat_map (λ p. Other SameRegion ∷ Other SameRegion
-          ∷ items_classes (table_of web) used_classes web.texts lines [] p.1 p.0.items)
-          (if t then (p, e) ∷ filter (λ p. is_piece_of (table_of web) node p.0) (zip pieces locations)
-          else filter (λ p. is_piece_of (table_of web) node p.0) (zip pieces locations)))
-      by true is more =
-          let next =
-          next_of no_numbers (node_numbers numbers node) piece (numbers_of_piece p) (map numbers_of_piece (of_node node pieces)) is in
-          let first : get_or (numbers_at numbers node piece).origins 0 no_origin ≡ p.origin =
-          ap (λ n. get_or n.origins 0 no_origin) next.0 in (
-            tt,
-            (
+      elim (cases_Bool (is_piece_of (table_of web) node p)) [
+        | inl of ↦
+            let next =
+            next_of no_numbers (node_numbers numbers node) piece (numbers_of_piece p) (map numbers_of_piece (of_node node pieces))
+            (rw of at origins) in
+            let first : get_or (numbers_at numbers node piece).origins 0 no_origin ≡ p.origin =
+            ap (λ n. get_or n.origins 0 no_origin) next.0 in
+            rw of (
               tt,
-              located-append numbers read _ _ _ _ _ (items_are_located node piece 0 read _ [] p.items e
-                  (ap (λ n. drop 1 n.origins) next.0) (own.0 read _ (λ now. rw (now, first) refl))) (more (piece + 1) next.1),
-            ),
-          )
-      by false is more = more piece is read q
+              (
+                tt,
+                located-append numbers read _ _ _ _ _ (items_are_located node piece 0 read _ [] p.items e
+                    (ap (λ n. drop 1 n.origins) next.0) (own.0 read _ (λ now. rw (now, first) refl)))
+                    (pieces_are_located node (piece + 1) pieces locations next.1 own.1),
+              ),
+            )
+        | inr other ↦ rw other (pieces_are_located node piece pieces locations (rw other at origins) own.1 read q)
+      ]
 
 -- the expansion of a node, with any fuel and from any counted origin on
 pub node_is_located : (source : SourceRead) (web : WebRead) (fuel : ℕ) (node : Title) (read : Bool)

@@ -1,14 +1,12 @@
 -- The expansion of a node follows from the shapes that the node reaches.
 use Rattle.std.proofs.Common.{rules}
 use Rattle.std.proofs.lemmas.Bool.Decides.{nat_tests}
-use Rattle.std.proofs.Common.{◌≡◌, ◌≢◌, ◌∙◌, ℕ, ◌<◌, ◌≤◌, zero, suc, min, List, [], ◌∷◌, map, refl, ap, sym, arith}
+use Rattle.std.proofs.Common.{◌≡◌, ◌≢◌, ◌∙◌, ℕ, ◌<◌, ◌≤◌, zero, suc, min, List, [], ◌∷◌, map, refl, ap, arith}
 use Rattle.std.specs.Prelude.{Contains, sum_by}
 use Rattle.std.proofs.lemmas.List.Sums.{sum_by-cons}
 use Rattle.digraph.specs.Reach.{Reaches, here, on, ContainsItself, ReachesCycle}
 use Rattle.tangle_names.proofs.ContainsLemmas.{here as here_in, there}
 use Rattle.tangle_bodies.specs.Shapes.{Title, Named, Shape, Shapes, Uses, shape_names}
-use Rattle.tangle_bodies.specs.Tags.{shape_bytes, shape_tags}
-use Rattle.tangle_bodies.specs.Meaning.{tags_flat}
 use Rattle.tangle_bodies.specs.Flat.{Symbol, pieces_flat, flat, pieces_weight, weight, greatest_by, pieces_depth, depth}
 use Rattle.tangle_bodies.proofs.FlatLemmas.{shape_flat}
 use Rattle.tangle_expansion.specs.Affected.{IsExpandable}
@@ -25,9 +23,7 @@ pub pieces_flat-same : (f g : List ℕ → List Symbol) (node : Title) (shape : 
     → ((name : List ℕ) → Contains (shape_names shape) name → f name ≡ g name)
     → pieces_flat f node 0 shape ≡ pieces_flat g node 0 shape
 pieces_flat-same f g node shape same =
-    sym (shape_flat node f 0 0 shape)
-    ∙ ap (tags_flat node 0 0 (shape_bytes shape) (shape_tags shape)) (map_same f g (shape_names shape) same)
-    ∙ shape_flat node g 0 0 shape
+    rw (← shape_flat node f 0 0 shape, ← shape_flat node g 0 0 shape, map_same f g (shape_names shape) same) refl
 
 -- weights and depths are equal up to a cap if those of the used names are
 module _ (cap : ℕ) (f g : List ℕ → ℕ) where

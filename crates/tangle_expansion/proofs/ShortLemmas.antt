@@ -1,14 +1,14 @@
 -- Few bytes are written for each symbol.
 use Rattle.std.proofs.Common.{rules}
-use Rattle.std.proofs.Common.{ℕ, ◌^◌, ◌<◌, ◌≤◌, zero, suc, Bool, true, false, List, [], ◌∷◌, ◌++◌}
+use Rattle.std.proofs.Common.{ℕ, ◌^◌, ◌<◌, ◌≤◌, Bool, true, false, List, [], ◌∷◌, ◌++◌}
 use Rattle.std.proofs.Common.{length, arith, length-append, get_or, All, map, ◌≡◌, ◌+◌}
 use Rattle.std.specs.Prelude.{decimal}
-use Rattle.std.proofs.lemmas.List.Elements.{All-nil}
+use Rattle.std.proofs.lemmas.List.Elements.{All-map, All-nil}
 use Rattle.std.specs.List.{AllByRecursion}
 use Rattle.std.proofs.lemmas.Fmt.{length-decimal-le}
 use Rattle.tangle_bodies.specs.Shapes.{Title}
 use Rattle.tangle_bodies.proofs.EachLemmas.{all_or}
-use Rattle.tangle_bodies.specs.Flat.{Symbol, Byte, Opening, MarkOf, Closing, AllMacros}
+use Rattle.tangle_bodies.specs.Flat.{Symbol, Byte, MarkOf, AllMacros}
 use Rattle.tangle_expansion.specs.Limits.{heaviest}
 use Rattle.tangle_expansion.specs.Numbers.{PieceNumbersRead, NumbersRead, no_numbers, no_origin}
 use Rattle.tangle_expansion.specs.Numbers.{numbers_at, origin_of_mark, row_number}
@@ -32,9 +32,7 @@ mark_short marks ending line h low = search (rules, decimal_short, length-append
 -- what holds of each item that is made, and of the default, holds of whatever is read from the list
 made_or : {X Y : Type 0} (P : Y → Type 0) (f : X → Y) (d : Y) → ((x : X) → P (f x)) → P d
     → (xs : List X) (i : ℕ) → P (get_or (map f xs) i d)
-made_or P f d each none [] i = none
-made_or P f d each none (x ∷ xs) zero = each x
-made_or P f d each none (x ∷ xs) (suc i) = made_or P f d each none xs i
+made_or P f d each none xs = all_or P (map f xs) d none (All-map P f xs (λ i e low. each (get_or xs i e)))
 
 record IsShort (piece : PieceNumbersRead) : Type 0 where
   pub section : piece.section < 2 ^ 64
@@ -56,8 +54,6 @@ module _ (n : Inside) where
   symbols_short : SymbolsAreShort (numbers_read n)
   unfolding longest_symbol
   symbols_short (Byte b) = omega arith
-  symbols_short (Opening node piece) =
-      search (rules, decimal_short, pieces_short, length-append)
   symbols_short (MarkOf node piece mark) =
       let origin = origin_of_mark (numbers_read n) node piece mark in
       mark_short n.marks (get_or (numbers_read n).mark_ends origin.file (mark_end [])) origin.line
@@ -65,9 +61,8 @@ module _ (n : Inside) where
       (λ e. omega arith) (omega arith) n.mark_ends.items origin.file)
       (all_or IsLow (numbers_at (numbers_read n) node piece).origins no_origin (omega arith)
       (pieces_short node piece).origins mark)
-  symbols_short (Closing node piece) =
-      search (rules, decimal_short, pieces_short, length-append)
   symbols_short AllMacros = omega arith
+  symbols_short x = search (rules, decimal_short, pieces_short, length-append)
 
 pub numbers_hold : (n : Inside) → length n.rows.value ≡ length n.names + 1 → NumbersInvariant n
 numbers_hold n size = record { rows = size; short = symbols_short n }
@@ -96,11 +91,4 @@ pub file_fits : (numbers : NumbersRead) → SymbolsAreShort numbers
     → (has_macros : Bool) (symbols : List Symbol) → length symbols ≤ heaviest
     → length ((front_bytes numbers has_macros ++ expansion_bytes numbers symbols) ++ 10 ∷ []) < 2 ^ 128
 file_fits numbers short has_macros symbols light =
-    let front = front_bytes numbers has_macros in
-    omega (
-      arith,
-      front_fits numbers short has_macros,
-      light_fits numbers short symbols light,
-      length-append (front ++ expansion_bytes numbers symbols) (10 ∷ []),
-      length-append front (expansion_bytes numbers symbols),
-    )
+    omega (arith, front_fits numbers short has_macros, light_fits numbers short symbols light, length-append {A = ℕ})

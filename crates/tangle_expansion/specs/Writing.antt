@@ -1,16 +1,12 @@
 -- Writing a body from one of its tags on. Only private contracts cite these definitions.
-use Rattle.std.specs.Prelude.{◌≡◌, ◌+◌, ◌-◌, ◌^◌, ℕ, Bool, min, List, [], ◌∷◌, ◌++◌, take, drop}
+use Rattle.std.specs.Prelude.{◌≡◌, ◌+◌, ◌-◌, ◌^◌, ℕ, min, List, [], ◌∷◌, ◌++◌, take, drop}
 use Rattle.std.specs.Prelude.{Result}
 use Rattle.tangle_files.specs.Bytes.{space}
 use Rattle.tangle_streams.specs.declared.failures.WriteFault.{WriteFault}
 use Rattle.tangle_streams.specs.Streams.{Stream, IsWrittenAfter}
-use Rattle.tangle_scan.specs.ReadAsMeant.{is_empty}
 use Rattle.tangle_bodies.specs.Flat.{Symbol}
-use Rattle.tangle_bodies.specs.Meaning.{title_of, tags_flat, pieces_after, marks_after}
-use Rattle.tangle_bodies.specs.Flat.{own_symbols}
-use Rattle.tangle_bodies.specs.Shapes.{Program}
+use Rattle.tangle_bodies.specs.Meaning.{title_of, tags_flat, next_piece, next_mark}
 use Rattle.tangle_bodies.specs.declared.nodes.NodeBody.{NodeBody}
-use Rattle.tangle_scan.specs.declared.texts.ItemKind.{ItemKind}
 use Rattle.tangle_scan.specs.declared.texts.ItemTag.{ItemTag}
 use Rattle.tangle_expansion.specs.Numbers.{NumbersRead, expansion_bytes}
 use Rattle.tangle_expansion.specs.declared.cursor.Cursor.{Cursor}
@@ -19,15 +15,11 @@ use Rattle.tangle_expansion.specs.declared.cursor.Cursor.{Cursor}
 abbrev pub bytes_between : List ℕ → ℕ → ℕ → List ℕ
 bytes_between bytes start end = take (end - start) (drop start bytes)
 
--- whether a tag of this kind has no symbols besides its bytes
-abbrev pub has_bytes_alone : ItemKind → Bool
-has_bytes_alone k = is_empty (own_symbols Program 0 0 k)
-
 -- the cursor after a tag
 pub record IsAfterTag (at : Cursor) (t : ItemTag) (next : Cursor) : Type 0 where
   pub tag : next.tag ≡ at.tag + 1
-  pub piece : next.piece ≡ pieces_after at.piece t.kind
-  pub marks : next.marks ≡ marks_after at.marks t.kind
+  pub piece : next.piece ≡ next_piece at.piece t.kind
+  pub marks : next.marks ≡ next_mark at.marks t.kind
   pub start : next.start ≡ min (at.start + t.size) (2 ^ 64 - 1)
 
 module _ (body : NodeBody) (at : Cursor) where

@@ -52,22 +52,17 @@ impl Kept {
         ensures err { OnErr result (SameKept self.old self.new) }
     {
         self.make_entry(node)?;
-        match self.by_node.get_mut(node.number()) {
-            Some(entry) => {
-                *entry = Some(expansion);
-                Ok(())
-            }
-            None => Err(NoMemory),
-        }
+        let Some(entry) = self.by_node.get_mut(node.number()) else {
+            return Err(NoMemory);
+        };
+        *entry = Some(expansion);
+        Ok(())
     }
 
     /// The expansion that is kept for the node, if there is one.
     pub fn get(&self, node: Node) -> Option<&Expansion>
         ensures { option_copied result ≡ kept_at self.now node }
     {
-        match self.by_node.get(node.number()) {
-            Some(held) => held.as_ref(),
-            None => None,
-        }
+        self.by_node.get(node.number())?.as_ref()
     }
 }

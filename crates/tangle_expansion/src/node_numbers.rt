@@ -42,7 +42,7 @@ impl<'n> NodeNumbers<'n> {
         ensures { result ≡ (get_or self.now piece no_numbers).section }
     {
         match self.row.get(piece) {
-            Some(n) => entry(&self.pieces.sections, *n, 0),
+            Some(n) => self.pieces.sections.get(*n).copied().unwrap_or(0),
             None => 0,
         }
     }
@@ -54,18 +54,11 @@ impl<'n> NodeNumbers<'n> {
     {
         let none = Origin { file: 0, line: 0 };
         match self.row.get(piece) {
-            Some(n) => entry(self.pieces.origins.row(*n), mark, none),
+            Some(n) => {
+                let origins = self.pieces.origins.row(*n);
+                origins.get(mark).copied().unwrap_or(none)
+            }
             None => none,
         }
-    }
-}
-
-/// The entry with this number, or this one where there is none.
-fn entry<T: Copy>(entries: &[T], n: usize, none: T) -> T
-    ensures { result ≡ get_or entries.now n none }
-{
-    match entries.get(n) {
-        Some(entry) => *entry,
-        None => none,
     }
 }

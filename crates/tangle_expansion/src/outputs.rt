@@ -130,8 +130,5 @@ pub fn file_size(output: &Output, kept: &Kept, numbers: &Numbers) -> u128
     requires { IsReady output.now kept.now }
     ensures { result ≡ length (kept_output_bytes numbers.now kept.now output.now) }
 {
-    match write_file(output, kept, numbers, &mut Discarding) {
-        Ok(size) => size,
-        Err(_) => 0,
-    }
+    write_file(output, kept, numbers, &mut Discarding).unwrap_or(0)
 }

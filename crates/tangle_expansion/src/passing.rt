@@ -3,25 +3,9 @@ ghost use Rattle.std.specs.Prelude.{◌≡◌, ◌≤◌, ◌+◌, ◌<◌, ◌^
 ghost use Rattle.tangle_bodies.specs.Flat.{Symbol};
 ghost use Rattle.tangle_expansion.specs.Numbers.{NumbersRead};
 ghost use Rattle.tangle_expansion.specs.Writing.{IsAfterTag, bytes_between, bytes_from};
-ghost use Rattle.tangle_expansion.specs.Writing.{has_bytes_alone};
 
 use crate::cursor::Cursor;
-use tangle_bodies::{ItemKind, ItemTag, NodeBody};
-
-/// Whether a tag of this kind has no symbols besides its bytes.
-fn has_bytes_alone(kind: ItemKind) -> bool
-    ensures { result ≡ has_bytes_alone kind }
-{
-    match kind {
-        ItemKind::PieceStart
-        | ItemKind::Mark
-        | ItemKind::AllMacros
-        | ItemKind::Use
-        | ItemKind::NoUse
-        | ItemKind::PieceEnd => false,
-        _ => true,
-    }
-}
+use tangle_bodies::{ItemKind, ItemTag, NodeBody, symbols_of_kind};
 
 /// The cursor after the next tags that have no symbols besides their bytes.
 pub(crate) fn after_bytes(body: &NodeBody, from: Cursor) -> Cursor
@@ -35,7 +19,7 @@ pub(crate) fn after_bytes(body: &NodeBody, from: Cursor) -> Cursor
     let mut at = from;
     while at.tag < body.tags.len() {
         let tag = body.tags[at.tag];
-        if !has_bytes_alone(tag.kind) {
+        if symbols_of_kind(tag.kind) > 0 {
             return at;
         }
         at = cursor_after(at, tag);

@@ -9,27 +9,16 @@ use Rattle.std.proofs.lemmas.Bool.{and_parts, and_from}
 use Rattle.std.proofs.lemmas.List.{get_or-take, get_or_default}
 use Rattle.std.proofs.lemmas.List.Elements.{Contains-get_or}
 use Rattle.std.proofs.lemmas.List.Kept.{AllPairs-filter}
-use Rattle.tangle_bodies.specs.Shapes.{Title, Shapes, Uses}
+use Rattle.tangle_bodies.specs.Shapes.{Shapes, Uses}
 use Rattle.digraph.specs.Nodes.{Node, program}
 use Rattle.tangle_graph.specs.Ordering.{IsOrderIn}
 use Rattle.tangle_graph.specs.Stores.{StoreRead, IsStoreOf, flag_at, is_expandable_at, title_in_store}
 use Rattle.tangle_graph.specs.Stores.{uses_at}
 use Rattle.tangle_graph.specs.Affected.{ListsAffected}
-use Rattle.tangle_graph.specs.Keeping.{ListsExpandable}
 use Rattle.tangle_graph.specs.AffectedFlags.{AreFlagged, is_expandable_and_flagged}
 use Rattle.tangle_names.proofs.ContainsLemmas.{into_filter, out_of_filter}
 use Rattle.tangle_graph.proofs.FlagLemmas.{in_front}
 use Rattle.tangle_graph.proofs.ExpandLemmas.{expandable_at}
-
-pub lists_expandable : (store : StoreRead) (order : List Node)
-    → IsOrderIn store order → ListsExpandable store (filter (is_expandable_at store) order)
-lists_expandable store order ordered = record {
-  once = AllPairs-filter (λ a b. a ≢ b) (is_expandable_at store) order ordered.once;
-  just = λ a. (
-    λ c. (let there = out_of_filter (is_expandable_at store) order a c in (ordered.inside a there.0, there.1)),
-    λ both. into_filter (is_expandable_at store) order a (ordered.expandable a both.0 both.1) both.1,
-  );
-}
 
 module _ (shapes : Shapes) (store : StoreRead) (order : List Node)
     (is : IsStoreOf shapes store) (ordered : IsOrderIn store order) where
@@ -90,11 +79,6 @@ module _ (shapes : Shapes) (store : StoreRead) (order : List Node)
         p : Node → Bool
         p = is_expandable_and_flagged store flags
 
-no_element : (nodes : List Node) → ((a : Node) → Contains nodes a → ⊥) → nodes ≡ []
+pub no_element : (nodes : List Node) → ((a : Node) → Contains nodes a → ⊥) → nodes ≡ []
 no_element [] none = refl
 no_element (a ∷ nodes) none = absurd (none a (zero, omega arith, refl))
-
-pub nothing_listed : (old new : Shapes) (store : StoreRead) (nodes : List Node)
-    → ((node : Title) → new node ≡ old node) → ListsAffected old new store nodes → nodes ≡ []
-nothing_listed old new store nodes alike lists =
-    no_element nodes (λ a c. (let affected = ((lists.just a).0 c).1 in affected.changed (alike affected.cause)))

@@ -28,7 +28,7 @@ use Rattle.tangle_graph.specs.Grouping.{positions_of}
 use Rattle.tangle_graph.specs.NameGraphs.{AreUsesOf}
 use Rattle.tangle_graph.proofs.BodyLemmas.{name_used, part_read, some_at, used_name}
 use Rattle.tangle_graph.proofs.NodeLemmas.{title_inside}
-use Rattle.tangle_graph.proofs.RowLemmas.{positions_below, positions_read}
+use Rattle.tangle_graph.proofs.RowLemmas.{numbers_below, positions_read}
 
 module _ (web : WebRead) (table : TableRead) (ours : table ≡ table_of web) where
   pub resolves_inside : ResolvesInside table
@@ -38,18 +38,18 @@ module _ (web : WebRead) (table : TableRead) (ours : table ≡ table_of web) whe
   distinct_names = subst (λ (t : TableRead). IsDistinct bytes_eq t.names) (sym ours) (names_once web.occurrences)
 
   module _ (rows : List (List ℕ))
-      (grouped : IsRowsOf (length table.names + 1) (positions_of table web.pieces) rows) where
+      (grouped : IsRowsOf (length table.names + 1) (positions_of table web.pieces (length web.pieces)) rows) where
     pub pieces_are : (n : ℕ) → n ≤ length table.names
         → pieces_at web.pieces (row_at rows n) ≡ pieces_of web table (title_at table.names n)
     pieces_are n low =
         ap (pieces_at web.pieces) (grouped.row n (omega arith))
-        ∙ positions_read (is_piece_of table (title_at table.names n)) [] web.pieces no_piece
+        ∙ positions_read (is_piece_of table (title_at table.names n)) web.pieces no_piece
 
     -- the positions of pieces are numbers of pieces
     pub pieces_inside : All (All (λ i. i < length web.pieces)) rows
     pieces_inside = All-from_get_or (All (λ i. i < length web.pieces)) rows []
         (λ n h. subst (All (λ i. i < length web.pieces)) (sym (grouped.row n (omega arith)))
-        (positions_below (is_piece_of table (title_at table.names n)) 0 (length web.pieces) web.pieces (omega arith)))
+        (numbers_below _ (length web.pieces)))
 
 module _ (shapes : Shapes) (names : List (List ℕ)) (bodies : List NodeBody) (uses : Graph)
     (are : AreBodiesOf shapes names bodies) (used : AreUsesOf (map body_uses bodies) uses) where

@@ -32,35 +32,11 @@ flat_empty : (all : Shapes) (node : Title) → all node ≡ [] → flat_of all n
 unfolding levels
 flat_empty all node e = ap (λ (s : Shape). pieces_flat (λ name. flat 1000 all (Named name)) node 0 s) e
 
-module _ (shapes : Shapes) (store : StoreRead) (order : List Node)
+module _ {shapes : Shapes} {store : StoreRead} {order : List Node}
     (is : IsStoreOf shapes store) (ordered : IsOrderIn store order) where
   module _ (i : ℕ) (h : i < length order) (node : Node) (at : node ≡ get_or order i node) where
-    pub kept_more : (before after : Kept) → is_expandable_at store node ≡ true
-        → KeepsThese shapes store (take i order) before
-        → PutsKept before after node (flat_of shapes (title_in_store store node))
-        → KeepsThese shapes store (take (i + 1) order) after
-    kept_more before after flag keeps puts = record {
-      expandable = value_more store order ordered i h node at
-          (λ a. is_expandable_at store a ≡ true → IsKeptRight shapes store before a)
-          (λ a. is_expandable_at store a ≡ true → IsKeptRight shapes store after a)
-          (λ a other was e. puts.others a other ∙ was e) (λ e. puts.put) keeps.expandable;
-      others = λ a e.
-          puts.others a (λ same. both_ways (is_expandable_at store a) e (ap (is_expandable_at store) same ∙ flag))
-          ∙ keeps.others a e;
-    }
-
-    pub kept_same : (kept : Kept) → is_expandable_at store node ≡ false
-        → KeepsThese shapes store (take i order) kept → KeepsThese shapes store (take (i + 1) order) kept
-    kept_same kept flag keeps =
-        let Right : Node → Type 0 = λ a. is_expandable_at store a ≡ true → IsKeptRight shapes store kept a in
-        record {
-          expandable = value_more store order ordered i h node at Right Right (λ a other was. was)
-              (λ e. absurd (both_ways (is_expandable_at store node) flag e)) keeps.expandable;
-          others = keeps.others;
-        }
-
     -- the expansion of a used name is kept, if the name has a piece, and else none
-    pub used_kept : (kept : Kept) → is_expandable_at store node ≡ true
+    used_kept : (kept : Kept) → is_expandable_at store node ≡ true
         → KeepsThese shapes store (take i order) kept → KeepsUsed shapes store kept node
     used_kept kept flag keeps id u = by (shapes name) refl
       where
@@ -92,6 +68,32 @@ module _ (shapes : Shapes) (store : StoreRead) (order : List Node)
             let not = false_from_ne_true (is_expandable_at store (suc id))
             (λ on. ((expandable_at shapes store is (suc id) inside).0 on).has_piece (ap shapes title ∙ none)) in
             ap (λ o. unwrap_or o []) (keeps.others (suc id) not) ∙ sym (flat_empty shapes name none)
+
+    pub kept_more : (before after : Kept) → is_expandable_at store node ≡ true
+        → KeepsThese shapes store (take i order) before
+        → (KeepsUsed shapes store before node → PutsKept before after node (flat_of shapes (title_in_store store node)))
+        → KeepsThese shapes store (take (i + 1) order) after
+    kept_more before after flag keeps made =
+        let puts = made (used_kept before flag keeps) in
+        record {
+          expandable = value_more store order ordered i h node at
+              (λ a. is_expandable_at store a ≡ true → IsKeptRight shapes store before a)
+              (λ a. is_expandable_at store a ≡ true → IsKeptRight shapes store after a)
+              (λ a other was e. puts.others a other ∙ was e) (λ e. puts.put) keeps.expandable;
+          others = λ a e.
+              puts.others a (λ same. both_ways (is_expandable_at store a) e (ap (is_expandable_at store) same ∙ flag))
+              ∙ keeps.others a e;
+        }
+
+    pub kept_same : (kept : Kept) → is_expandable_at store node ≡ false
+        → KeepsThese shapes store (take i order) kept → KeepsThese shapes store (take (i + 1) order) kept
+    kept_same kept flag keeps =
+        let Right : Node → Type 0 = λ a. is_expandable_at store a ≡ true → IsKeptRight shapes store kept a in
+        record {
+          expandable = value_more store order ordered i h node at Right Right (λ a other was. was)
+              (λ e. absurd (both_ways (is_expandable_at store node) flag e)) keeps.expandable;
+          others = keeps.others;
+        }
 
   pub kept_all : (i : ℕ) (kept : Kept)
       → length order ≤ i → KeepsThese shapes store (take i order) kept → KeepsJust shapes store kept

@@ -1,14 +1,14 @@
 -- Nodes and their titles.
 use Rattle.std.proofs.Common.{rules}
-use Rattle.std.proofs.Common.{◌≡◌, ◌∙◌, ◌<◌, ◌≤◌, ℕ, zero, suc, List, [], length, get_or, refl, ap, sym}
-use Rattle.std.proofs.Common.{arith, Some, None, true≢false}
+use Rattle.std.proofs.Common.{◌≡◌, ◌<◌, ◌≤◌, ℕ, zero, suc, List, [], length, get_or, refl, ap, sym}
+use Rattle.std.proofs.Common.{arith, Some, None}
 use Rattle.std.specs.List.{position}
 use Rattle.std.specs.List.{IsDistinct}
 use Rattle.std.specs.Str.{bytes_eq}
 use Rattle.std.proofs.Math.Decide.{dec_lt, ℕ_discrete}
 use Rattle.std.proofs.lemmas.Option.{slice_get-get_or}
 use Rattle.std.proofs.lemmas.List.Sums.{fails_before_first}
-use Rattle.std.proofs.lemmas.Map.Keys.{apart_from_distinct}
+use Rattle.std.proofs.lemmas.Map.Made.{AllPairs-from_IsDistinct}
 use Rattle.std.proofs.lemmas.Slice.Eq.{bytes_eq-Decides}
 use Rattle.digraph.specs.Nodes.{name_of_node}
 use Rattle.tangle_bodies.specs.Nodes.{title_of_name, title_at}
@@ -22,17 +22,15 @@ title_inside names id h = ap title_of_name (slice_get-get_or names id [] h)
 -- each name has one number
 pub once_named : (names : List (List ℕ)) (n m : ℕ)
     → IsDistinct bytes_eq names → n < length names → m < length names → get_or names n [] ≡ get_or names m [] → n ≡ m
-once_named names n m distinct hn hm e = elim (ℕ_discrete n m) [
-  | yes same ↦ same
-  | no other ↦ elim (dec_lt n m) [
-    | yes low ↦ absurd (later n m low hm e)
-    | no high ↦ absurd (later m n (omega arith) hn (sym e))
-  ]
-]
-  where
-    later : (a b : ℕ) → a < b → b < length names → get_or names a [] ≡ get_or names b [] → ⊥
-    later a b low h same = true≢false (sym ((bytes_eq-Decides (get_or names a []) (get_or names b [])).1 same)
-        ∙ apart_from_distinct bytes_eq names a b [] distinct low h)
+once_named names n m distinct hn hm e =
+    let apart = AllPairs-from_IsDistinct bytes_eq-Decides names distinct in
+    elim (ℕ_discrete n m) [
+      | yes same ↦ same
+      | no other ↦ elim (dec_lt n m) [
+        | yes low ↦ absurd (apart n m [] low hm e)
+        | no high ↦ absurd (apart m n [] (omega arith) hn (sym e))
+      ]
+    ]
 
 -- each title has one node
 pub once_titled : (names : List (List ℕ)) (n m : ℕ)

@@ -1,25 +1,14 @@
 -- Values computed for each node along an order, in which a node comes after those that it uses.
-use Rattle.std.proofs.Common.{arith}
 use Rattle.std.proofs.Common.{rules}
-use Rattle.std.proofs.lemmas.Bool.Decides.{nat_tests}
-use Rattle.std.proofs.Common.{◌≡◌, ◌∙◌, ◌<◌, ◌+◌, ◌⊎◌, ℕ, List, [], ◌∷◌, ◌++◌, length, take}
+use Rattle.std.proofs.Common.{◌≡◌, ◌∙◌, ◌<◌, ◌+◌, ℕ, List, [], ◌∷◌, ◌++◌, length, take}
 use Rattle.std.proofs.Common.{get_or, set, ap, sym, subst, inl, inr}
 use Rattle.std.proofs.Common.{get_or-set_other}
 use Rattle.std.specs.Prelude.{Contains}
 use Rattle.std.proofs.Math.Decide.{ℕ_discrete}
 use Rattle.std.proofs.lemmas.List.{take_more}
 use Rattle.std.proofs.lemmas.List.Elements.{Contains-push, Contains-push_cases, Contains-append_left}
-use Rattle.tangle_names.proofs.ContainsLemmas.{here as at_head, no_item, there}
 use Rattle.tangle_graph.specs.Measures.{IsMeasured, no_piece_measure}
 use Rattle.tangle_graph.specs.declared.measures.Measure.{Measure}
-
--- a number is in a list or not
-pub among : (xs : List ℕ) (n : ℕ) → Contains xs n ⊎ ((c : Contains xs n) → ⊥)
-among [] n = inr (no_item n)
-among (x ∷ xs) n = elim (ℕ_discrete x n) [
-  | yes same ↦ inl (subst (Contains (x ∷ xs)) same (at_head x xs))
-  | no other ↦ grind (arith, nat_tests, among xs n, there x xs n)
-]
 
 -- one more node of the order has its own measure
 pub measured_next : (value : ℕ → Measure) (other : Measure) (values : List Measure) (order : List ℕ) (i n : ℕ)
@@ -27,19 +16,15 @@ pub measured_next : (value : ℕ → Measure) (other : Measure) (values : List M
     → IsMeasured value other values (take i order) m → IsMeasured value other (set values n v) (take (i + 1) order) m
 measured_next value other values order i n v h at low e m was =
     rw (take_more order i 0 h ∙ ap (λ k. take i order ++ k ∷ []) (sym at)) (elim (ℕ_discrete m n) [
-      | yes same ↦ inl (
-        subst (Contains (take i order ++ n ∷ [])) (sym same) (Contains-push (take i order) n),
-        search rules,
+      | yes same ↦ (
+        λ _. search rules,
+        λ out. absurd (out (subst (Contains (take i order ++ n ∷ [])) (sym same) (Contains-push (take i order) n))),
       )
-      | no apart ↦ (let stays = get_or-set_other values n m v no_piece_measure apart in
-          elim was [
-            | inl old ↦ inl (Contains-append_left (take i order) (n ∷ []) m old.0, stays ∙ old.1)
-            | inr old ↦ inr (
-              (λ c. elim (Contains-push_cases (take i order) n m c) [
-                | inl before ↦ old.0 before
-                | inr last ↦ apart (sym last)
-              ]),
-              stays ∙ old.1,
-            )
-          ])
+      | no apart ↦ (let stays = get_or-set_other values n m v no_piece_measure apart in (
+        λ c. stays ∙ was.0 (elim (Contains-push_cases (take i order) n m c) [
+          | inl before ↦ before
+          | inr last ↦ absurd (apart (sym last))
+        ]),
+        λ out. stays ∙ was.1 (λ c. out (Contains-append_left (take i order) (n ∷ []) m c)),
+      ))
     ])

@@ -1,4 +1,5 @@
 -- What holds of each output file of a web.
+use Rattle.std.proofs.lemmas.Bool.Decides.{nat_tests}
 use Rattle.std.proofs.Common.{rules}
 use Rattle.std.proofs.Common.{◌≡◌, ◌<◌, ◌≤◌, ◌||◌, ℕ, Bool, true, false, List, [], ◌∷◌, length, map, filter}
 use Rattle.std.proofs.Common.{sym, subst, inl, inr, arith}
@@ -49,14 +50,9 @@ module _ (web : WebRead) (table : TableRead) (resolves : ResolvesInside table) w
         → IsFit (shapes web table) table.names (main_output web table out)
     main_fits h = record {
       inside = omega arith;
-      there = λ t. (expandable_is (shapes web table) title.Program).0
-          (second (shape_has_piece (shapes web table title.Program)) (is_expandable (shapes web table) title.Program) t h);
+      there = λ t. (expandable_is (shapes web table) title.Program).0 (grind (arith, nat_tests, t, h));
       none = no_pieces (shapes web table title.Program);
     }
-      where
-        second : (b e : Bool) → b ≡ true → (not b || e) ≡ true → e ≡ true
-        second true e t h = h
-        second false e t h = absurd (cc)
 
     named_fits : (id : ℕ) → id < length table.names → is_written web table out id ≡ true
         → IsFit (shapes web table) table.names (named_file table id)

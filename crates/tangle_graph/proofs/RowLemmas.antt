@@ -1,47 +1,23 @@
--- Rows of the positions of items.
-use Rattle.std.proofs.Common.{rules}
-use Rattle.std.proofs.Common.{◌≡◌, ◌∙◌, ◌<◌, ◌≤◌, ◌+◌, length-append, ℕ, Bool, true, false, cond, List, [], ◌∷◌, ◌++◌}
-use Rattle.std.proofs.Common.{length, map, filter, get_or, refl, ap, sym, arith, append_assoc}
-use Rattle.std.proofs.lemmas.List.{map-append}
-use Rattle.std.specs.Prelude.{All, if◌then◌else◌}
-use Rattle.std.proofs.lemmas.List.Elements.{All-append, All-nil}
-use Rattle.std.proofs.Math.Seq.{get_or-append_seam}
-use Rattle.digraph.specs.Users.{positions}
+-- Rows of the numbers of items.
+use Rattle.std.proofs.lemmas.Bool.Decides.{nat_tests}
+use Rattle.std.proofs.Common.{◌≡◌, ◌∙◌, ◌<◌, ℕ, Bool, List, [], ◌∷◌, length, map, filter, get_or, refl, ap, sym, arith}
+use Rattle.std.proofs.Common.{All}
+use Rattle.std.specs.List.{range_with_len}
+use Rattle.std.proofs.lemmas.List.Elements.{All-filter}
+use Rattle.std.proofs.lemmas.List.FromFn.{fill_by_all, get_or-range_with_len, length-range_with_len}
+use Rattle.digraph.specs.Users.{numbers_where}
 
--- positions are below the length of the list
-pub positions_below : {X : Type 0} (p : X → Bool) (k bound : ℕ) (xs : List X)
-    → k + length xs ≤ bound → All (λ j. j < bound) (positions p k xs)
-positions_below p k bound [] h = All-nil (λ j. j < bound)
-positions_below p k bound (x ∷ xs) h =
-    All-append (λ j. j < bound) (cond (p x) (k ∷ []) []) (positions p (k + 1) xs)
-    (here (p x)) (positions_below p (k + 1) bound xs (omega arith))
-  where
-    here : (b : Bool) → All (λ j. j < bound) (cond b (k ∷ []) [])
-    here true = search rules
-    here false = search rules
+pub numbers_below : (p : ℕ → Bool) (n : ℕ) → All (λ j. j < n) (numbers_where p n)
+numbers_below p n = All-filter p (λ j. j < n) (range_with_len 0 n)
+    (λ k d h. omega (arith, length-range_with_len 0 n, get_or-range_with_len 0 n k d))
 
--- the items at the positions that pass are the items that pass
-pub positions_read : {X : Type 0} (p : X → Bool) (before xs : List X) (d : X)
-    → map (λ n. get_or (before ++ xs) n d) (positions p (length before) xs) ≡ filter p xs
-positions_read p before [] d = refl
-positions_read p before (x ∷ xs) d =
-    map-append (λ n. get_or (before ++ x ∷ xs) n d)
-    (cond (p x) (length before ∷ []) []) (positions p (length before + 1) xs)
-    ∙ ap (λ l. map (λ n. get_or (before ++ x ∷ xs) n d) (cond (p x) (length before ∷ []) []) ++ l)
-    (ap (λ k. map (λ n. get_or (before ++ x ∷ xs) n d) (positions p k xs)) (sym size)
-    ∙ ap (λ whole. map (λ n. get_or whole n d) (positions p (length (before ++ x ∷ [])) xs))
-    (sym (append_assoc before (x ∷ []) xs))
-    ∙ positions_read p (before ++ x ∷ []) xs d)
-    ∙ by (p x)
-  where
-    size : length (before ++ x ∷ []) ≡ length before + 1
-    size = search (rules, length-append)
+mapped_filter : {X Y : Type 0} (p : Y → Bool) (f : X → Y) (xs : List X)
+    → map f (filter (λ x. p (f x)) xs) ≡ filter p (map f xs)
+mapped_filter p f [] = refl
+mapped_filter p f (x ∷ xs) = grind (arith, nat_tests, mapped_filter p f xs)
 
-    at : get_or (before ++ x ∷ xs) (length before) d ≡ x
-    at = search (rules, get_or-append_seam)
-
-    by : (b : Bool)
-        → map (λ n. get_or (before ++ x ∷ xs) n d) (cond b (length before ∷ []) []) ++ filter p xs
-        ≡ (if b then x ∷ filter p xs else filter p xs)
-    by true = cc (ap (λ y. y ∷ filter p xs) at)
-    by false = search rules
+-- the items with the numbers that pass are the items that pass
+pub positions_read : {X : Type 0} (p : X → Bool) (xs : List X) (d : X)
+    → map (λ n. get_or xs n d) (numbers_where (λ n. p (get_or xs n d)) (length xs)) ≡ filter p xs
+positions_read p xs d = mapped_filter p (λ n. get_or xs n d) (range_with_len 0 (length xs))
+    ∙ ap (filter p) (sym (fill_by_all (λ n. get_or xs n d) xs (length xs) d refl (λ k h. refl)))

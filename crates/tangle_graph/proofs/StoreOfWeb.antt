@@ -1,12 +1,11 @@
 -- A store with the bodies, the graph and the measures of a web is that of the web's shapes.
 use Rattle.std.proofs.Common.{rules}
 use Rattle.std.proofs.lemmas.Bool.Decides.{nat_tests}
-use Rattle.std.proofs.Common.{◌≡◌, ◌≢◌, ◌∙◌, ◌≤◌, ◌<◌, ◌+◌, ◌↔◌, ℕ, suc, true, false, List, [], length, map, get_or}
+use Rattle.std.proofs.Common.{◌≡◌, ◌≢◌, ◌∙◌, ◌≤◌, ◌<◌, ◌+◌, ◌↔◌, ℕ, suc, true, List, length, map}
 use Rattle.std.proofs.Common.{ap, sym, subst, inl, inr, arith}
 use Rattle.std.specs.Prelude.{AllPairs, Contains}
 use Rattle.std.specs.List.Sorted.{IsStrictlyIncreasing}
-use Rattle.std.proofs.lemmas.List.{get_or_default}
-use Rattle.std.proofs.lemmas.List.Elements.{All-contains, All-from_get_or}
+use Rattle.std.proofs.lemmas.List.Elements.{All-contains}
 use Rattle.std.proofs.lemmas.List.Kept.{AllPairs-from_increasing}
 use Rattle.tangle_scan.specs.Web.{WebRead, PieceRead}
 use Rattle.tangle_names.specs.NameTable.{TableRead, table_of}
@@ -14,13 +13,13 @@ use Rattle.tangle_bodies.specs.Shapes.{Title, Named, Shapes, Uses}
 use Rattle.tangle_bodies.specs.Flat.{depth}
 use Rattle.tangle_bodies.specs.NodeBodies.{body_uses}
 use Rattle.tangle_bodies.specs.Nodes.{title_at}
-use Rattle.tangle_bodies.specs.WebShapes.{ResolvesInside, shapes, shape_item}
+use Rattle.tangle_bodies.specs.WebShapes.{shapes, shape_item}
 use Rattle.digraph.specs.Graph.{HasUse, row_at}
 use Rattle.digraph.specs.Titles.{IsTitled}
 use Rattle.digraph.proofs.GraphLemmas.{use_in, node_in}
 use Rattle.digraph.proofs.OrderLemmas.{left_out_deep}
 use Rattle.digraph.proofs.TitleLemmas.{contains_alike, cycle_alike}
-use Rattle.digraph.specs.Reach.{ContainsItself, ReachesCycle}
+use Rattle.digraph.specs.Reach.{ReachesCycle}
 use Rattle.tangle_bodies.specs.declared.nodes.NodeBody.{NodeBody}
 use Rattle.tangle_expansion.specs.Limits.{levels}
 use Rattle.tangle_expansion.specs.Outputs.{OutputRead}
@@ -34,16 +33,8 @@ use Rattle.tangle_graph.specs.declared.measures.Measure.{Measure}
 use Rattle.tangle_graph.specs.declared.name_graph.NameGraph.{NameGraph}
 use Rattle.tangle_graph.proofs.GraphLemmas.{complete, distinct_names, resolves_inside, sound, uses_count}
 use Rattle.tangle_graph.proofs.NodeLemmas.{once_titled, title_inside}
-use Rattle.tangle_graph.proofs.OrderLemmas.{among}
+use Rattle.digraph.proofs.UserLemmas.{among}
 use Rattle.tangle_graph.proofs.NodeMeasureLemmas.{expandable_is, there}
-
--- a name with a piece is the name of a node
-known_name : (web : WebRead) (table : TableRead) → ResolvesInside table → (name : List ℕ)
-    → shapes web table (Named name) ≢ [] → (a : ℕ) × (a ≤ length table.names) × (title_at table.names a ≡ Named name)
-known_name web table inside name h =
-    let found = there table inside name web.pieces
-    (λ none. h (ap (map (λ (p : PieceRead). map (shape_item web.texts table) p.items)) none)) in
-    (suc found.0, omega arith, title_inside table.names found.0 found.1 ∙ ap Named found.2)
 
 apart : (row : List ℕ) → IsStrictlyIncreasing row → AllPairs (λ b c. b ≢ c) row
 apart row rising i j d low high e = absurd (omega (arith, AllPairs-from_increasing row rising i j d low high))
@@ -92,12 +83,6 @@ module _ (web : WebRead) (table : TableRead) (stored : List NodeBody) (name_grap
     λ u. (is.users.reversed b a).1 ((uses_are b a u.0).1 (ha, u.1)),
   )
 
-  contains_is : (a : ℕ) → a ≤ length names
-      → (get_or name_graph.self_containing.items a false ≡ true) ↔ ContainsItself (Uses all) (title a)
-  contains_is a ha =
-      let alike = contains_alike name_graph.uses (Uses all) (title_at names) titled a (here a ha) in
-      grind (arith, nat_tests, here a ha)
-
   -- a node reaches a name that contains itself, if it does so in the graph of numbers
   pub reaching_is : (n : ℕ) → n ≤ length names
       → (flag_at name_graph.reaching_cycles.items n ≡ true) ↔ ReachesCycle (Uses all) (title n)
@@ -126,26 +111,31 @@ module _ (web : WebRead) (table : TableRead) (stored : List NodeBody) (name_grap
       measures = measured;
       bodies = bodies;
       once = λ a b ha hb. titled.once a b (here a ha) (here b hb);
-      known = known_name web table (resolves_inside web table of_web);
+      known = λ name has. (
+          let found = there table (resolves_inside web table of_web) name web.pieces
+          (λ none. has (ap (map (λ (p : PieceRead). map (shape_item web.texts table) p.items)) none)) in
+          (suc found.0, omega arith, title_inside table.names found.0 found.1 ∙ ap Named found.2));
       uses = uses_are;
       users = users_are;
       uses_once = λ a ha. apart (row_at name_graph.uses a)
           (is.uses.once a (omega (arith, here a ha))).increasing;
       users_once = λ a ha. apart (row_at name_graph.users a) (is.users.increasing a);
-      contains_itself = contains_is;
+      contains_itself = λ a ha. (
+          let alike = contains_alike name_graph.uses (Uses all) (title_at names) titled a (here a ha) in
+          grind (arith, nat_tests, here a ha));
     }
 
     order_is : IsOrderIn (made names) order
-    order_is = record { inside = inside; once = once; after = is.order.after_uses.after; expandable = expandable }
+    order_is = record {
+      inside = λ n c. (
+          let low : n < length name_graph.uses =
+          All-contains (λ m. m < length name_graph.uses) order n is.order.after_uses.nodes c in
+          omega (arith, count));
+      once = is.order.after_uses.once;
+      after = is.order.after_uses.after;
+      expandable = expandable;
+    }
       where
-        inside : (n : ℕ) → Contains order n → n ≤ length names
-        inside n c =
-            omega (arith, All-contains (λ m. m < length name_graph.uses) order n (All-from_get_or (λ m. m < length name_graph.uses) order 0 is.order.after_uses.nodes) c, count)
-
-        once : AllPairs (λ b c. b ≢ c) order
-        once j k d less h same = is.order.after_uses.once j k less h
-            (get_or_default order j 0 d (omega arith) ∙ same ∙ get_or_default order k d 0 h)
-
         expandable : (n : ℕ) → n ≤ length names → (measure_at measures n).is_expandable ≡ true → Contains order n
         expandable n h flag = elim (among order n) [
           | inl c ↦ c

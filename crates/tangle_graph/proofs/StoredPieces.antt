@@ -1,15 +1,14 @@
 -- The pieces of a web as they are stored, one after another.
 use Rattle.std.proofs.Common.{rules}
-use Rattle.std.proofs.Common.{◌≡◌, ◌∙◌, ◌<◌, ◌+◌, ◌++◌, ◌∷◌, [], ℕ, List, Option, map, cond, take, length}
+use Rattle.std.proofs.Common.{◌≡◌, ◌∙◌, ◌<◌, ◌+◌, ℕ, List, Option, map, length}
 use Rattle.std.proofs.Common.{get_or, ap, arith, sym}
 use Rattle.std.specs.Option.{IfSome}
 use Rattle.std.proofs.lemmas.List.{get_or-map, length-map}
-use Rattle.digraph.proofs.UserLemmas.{positions_more}
 use Rattle.tangle_scan.specs.Web.{WebRead, no_piece, stored_piece}
 use Rattle.tangle_scan.specs.declared.pieces.Piece.{Piece}
 use Rattle.tangle_scan.specs.WellFormed.{IsWellFormed}
 use Rattle.tangle_names.specs.NameTable.{TableRead, table_of}
-use Rattle.tangle_graph.specs.Grouping.{positions_of, has_number_in, node_of_piece}
+use Rattle.tangle_graph.specs.Grouping.{has_number_in, node_of_piece}
 use Rattle.tangle_bodies.specs.Nodes.{title_at}
 use Rattle.tangle_bodies.specs.WebShapes.{is_piece_of}
 use Rattle.tangle_graph.proofs.GraphLemmas.{distinct_names, resolves_inside}
@@ -30,13 +29,10 @@ module _ (web : WebRead) (table : TableRead) (stored : List Piece) (i : ℕ) (p 
       → IfSome occurrence (λ n. n < length table.resolved)
   defined_inside ours formed occurrence same = search (rules, length-map, occurrence_at)
 
-  -- the positions of a node's pieces, with the next piece
-  pub next_position : table ≡ table_of web → (occurrence : Option ℕ) → occurrence ≡ p.occurrence
+  -- it is a piece of the node that is found by its occurrence
+  pub is_of_node : table ≡ table_of web → (occurrence : Option ℕ) → occurrence ≡ p.occurrence
       → (made : Option ℕ) → made ≡ node_of_piece table occurrence → (n : ℕ) → n < length table.names + 1
-      → positions_of table (take (i + 1) web.pieces) n
-      ≡ positions_of table (take i web.pieces) n ++ cond (has_number_in n made) (i ∷ []) []
-  next_position ours occurrence same made known n h =
-      let flag = piece_is table (distinct_names web table ours) (resolves_inside web table ours) n (omega arith)
-      (get_or web.pieces i no_piece).occurrence in
-      positions_more (is_piece_of table (title_at table.names n)) 0 web.pieces i no_piece inside
-      ∙ (search (rules, occurrence_at))
+      → has_number_in n made ≡ is_piece_of table (title_at table.names n) (get_or web.pieces i no_piece)
+  is_of_node ours occurrence same made known n h =
+      ap (has_number_in n) (known ∙ ap (node_of_piece table) (same ∙ sym occurrence_at))
+      ∙ piece_is table (distinct_names web table ours) (resolves_inside web table ours) n (omega arith) _

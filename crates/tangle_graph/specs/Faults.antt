@@ -53,6 +53,10 @@ is_too_large web table reaches_cycle n =
     has_piece_of_node web table n
     && (not (reaches_cycle n) && not (is_expandable (shapes web table) (title_at table.names n)))
 
+-- a fault without a place, if there is one
+abbrev pub fault_if : FaultKind → Bool → List FaultRead
+fault_if kind has_fault = if has_fault then fault_unplaced kind ∷ [] else []
+
 -- The faults: those of the names in their order, and then those of the program. The two functions
 -- say of each node whether it contains itself, and whether it reaches a name that does.
 -- Both are passed in, since a definition cannot compute whether a path exists.
@@ -89,26 +93,14 @@ module _ (web : WebRead) (table : TableRead) (out : List ℕ)
   faults_of_names kind = flat_map (λ id. fault_of web table kind id (fault_occurrence kind id))
       (range_with_len 0 (length table.names))
 
-  -- the program is too large; and below, that it has no piece
-  abbrev pub large_program : List FaultRead
-  large_program =
-      if is_too_large web table reaches_cycle program
-      then fault_unplaced kind.TooLarge ∷ []
-      else []
-
-  abbrev pub no_program : List FaultRead
-  no_program =
-      if not (has_piece_of_node web table program)
-      then fault_unplaced kind.NoProgram ∷ []
-      else []
-
   abbrev pub graph_faults : List FaultRead
   graph_faults =
       faults_of_names kind.Undefined
       ++ (faults_of_names kind.Unused ++ (faults_of_names kind.SelfContaining
       ++ (faults_of_names kind.TooLarge
-      ++ (large_program ++ (faults_of_names kind.FileClash
-      ++ (faults_of_names kind.FileTwice ++ no_program))))))
+      ++ (fault_if kind.TooLarge (is_too_large web table reaches_cycle program)
+      ++ (faults_of_names kind.FileClash ++ (faults_of_names kind.FileTwice
+      ++ fault_if kind.NoProgram (not (has_piece_of_node web table program))))))))
 
 -- the faults of the graph of names of a web, for a main file of this name
 pub record AreGraphFaults (web : WebRead) (table : TableRead)

@@ -1,14 +1,14 @@
 -- The pieces of each node.
 use Rattle.std.specs.Prelude.{ℕ, suc, Bool, false, ◌==◌, List, Option}
-use Rattle.std.specs.Prelude.{None, Some}
-use Rattle.tangle_scan.specs.Web.{PieceRead}
+use Rattle.std.specs.Prelude.{None, Some, slice_index_or}
+use Rattle.tangle_scan.specs.Web.{PieceRead, no_piece}
 use Rattle.tangle_names.specs.declared.Resolved.{Resolved}
 use Rattle.tangle_names.specs.declared.Resolved.TheVariants.{Name, NoFullName, Ambiguous}
 use Rattle.tangle_names.specs.NameTable.{TableRead}
 use Rattle.tangle_bodies.specs.Nodes.{title_at}
 use Rattle.tangle_bodies.specs.WebShapes.{is_piece_of, resolved_at}
 use Rattle.digraph.specs.Nodes.{Node, program}
-use Rattle.digraph.specs.Users.{positions}
+use Rattle.digraph.specs.Users.{numbers_where}
 
 -- the node of the full name, if the occurrence resolves to one
 abbrev pub node_of_resolved : Resolved → Option Node
@@ -28,6 +28,8 @@ module _ (table : TableRead) where
   node_of_piece None = Some program
   node_of_piece (Some occurrence) = node_of_resolved (resolved_at table occurrence)
 
-  -- the positions of the node's pieces
-  abbrev pub positions_of : List PieceRead → Node → List ℕ
-  positions_of pieces n = positions (is_piece_of table (title_at table.names n)) 0 pieces
+  -- the numbers of the node's pieces among the first `count` pieces
+  abbrev pub positions_of : List PieceRead → ℕ → Node → List ℕ
+  positions_of pieces count n =
+      numbers_where (λ i. is_piece_of table (title_at table.names n) (slice_index_or pieces i no_piece))
+      count

@@ -1,5 +1,5 @@
 -- The weights and the depths of nodes, and which nodes are expandable.
-use Rattle.std.specs.Prelude.{◌≡◌, ◌⊎◌, ℕ, suc, false, List, [], slice_index_or}
+use Rattle.std.specs.Prelude.{◌≡◌, ℕ, suc, false, List, [], slice_index_or}
 use Rattle.std.specs.Prelude.{Contains}
 use Rattle.digraph.specs.Nodes.{Node}
 use Rattle.tangle_bodies.specs.Nodes.{title_at}
@@ -39,5 +39,5 @@ AreUsesMeasured shapes names measures uses = (id : ℕ) → Contains uses id
 -- the node has its own measure if it is in the list, and else the measure `other`
 abbrev pub IsMeasured : (Node → Measure) → Measure → List Measure → List Node → Node → Type 0
 IsMeasured measure other measures nodes n =
-    (Contains nodes n × (measure_at measures n ≡ measure n))
-    ⊎ ((¬ (Contains nodes n)) × (measure_at measures n ≡ other))
+    (Contains nodes n → measure_at measures n ≡ measure n)
+    × (¬ (Contains nodes n) → measure_at measures n ≡ other)

@@ -17,7 +17,8 @@ pub record IsGrouped (grouped : GroupedWeb) : Type 0 where
   pub table : grouped.table.now ≡ table_of grouped.web.now
   pub names : grouped.names.now ≡ grouped.table.now.names
   pub pieces : IsRowsOf (length grouped.table.now.names + 1)
-      (positions_of grouped.table.now grouped.web.now.pieces) grouped.pieces.now
+      (positions_of grouped.table.now grouped.web.now.pieces (length grouped.web.now.pieces))
+      grouped.pieces.now
 
 -- the node, which has this body now, is flagged exactly if its shape is not that of the old node
 -- with its title

@@ -1,6 +1,6 @@
 //! The body of each node, and whether its shape is new.
 ghost use Rattle.std.specs.Prelude.{◌≡◌, ◌≢◌, ◌<◌, [], IfOk, length, All, IfSome};
-ghost use Rattle.std.specs.Prelude.{true, MatchOption, None, not, ◌==◌};
+ghost use Rattle.std.specs.Prelude.{true, MatchOption, None};
 ghost use Rattle.digraph.specs.Nodes.{Node};
 ghost use Rattle.tangle_bodies.specs.Meaning.{title_of};
 ghost use Rattle.tangle_bodies.specs.NodeBodies.{HoldsShape, body_items, body_title, body_uses};
@@ -117,13 +117,6 @@ fn new_body(
     Ok(Rc::new(alloc, builder.body(alloc, name)?)?)
 }
 
-/// Whether the node with this row of pieces has a piece.
-fn has_piece(row: &[usize]) -> bool
-    ensures { result ≡ not (length row.now == 0) }
-{
-    !row.is_empty()
-}
-
 /// The body of the node: the old one, if its items are those of the node's pieces, else a new one.
 fn body_after(
     alloc: Global,
@@ -154,7 +147,7 @@ fn body_after(
     builder.make(web, table, row)?;
     let Some(before) = body_before(old, names, same_names, node) else {
         let body = new_body(alloc, builder, table, node)?;
-        let has_new_shape = has_piece(row);
+        let has_new_shape = !row.is_empty();
         return Ok(BodyAfter {
             body,
             has_new_shape,

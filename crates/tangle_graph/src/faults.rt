@@ -1,10 +1,9 @@
 //! The faults of the graph of names: a name is undefined, never used, contains itself, is too large,
 //! or is that of the main file or of an earlier file; or the program is too large or has no piece.
-ghost use Rattle.std.specs.Prelude.{◌≡◌, ◌<◌, ◌≤◌, ◌++◌, ◌∷◌, [], false, None, All, IfOk, OnOk};
+ghost use Rattle.std.specs.Prelude.{◌≡◌, ◌<◌, ◌≤◌, ◌++◌, false, None, All, IfOk, OnOk};
 ghost use Rattle.std.specs.Prelude.{length, if◌then◌else◌};
-ghost use Rattle.tangle_faults.specs.Faults.{fault_unplaced};
-ghost use Rattle.tangle_graph.specs.Faults.{AreGraphFaults, first_use, has_piece_of_node};
-ghost use Rattle.tangle_graph.specs.Faults.{is_too_large};
+ghost use Rattle.tangle_graph.specs.Faults.{AreGraphFaults, fault_if, first_use};
+ghost use Rattle.tangle_graph.specs.Faults.{has_piece_of_node, is_too_large};
 ghost use Rattle.tangle_graph.specs.FaultSearches.{HaveTheFaults, IsFaultSearch, fault_number};
 ghost use Rattle.tangle_graph.specs.FaultSearches.{fault_of_name, faults_of_kind};
 ghost use Rattle.tangle_graph.specs.Stores.{flag_at};
@@ -44,8 +43,7 @@ fn add_unplaced(
     has_fault: bool,
     faults: &mut Vec<Fault>,
 ) -> Result<(), NoMemory>
-    ensures { OnOk result (faults.new.items ≡ faults.old.items
-        ++ (if has_fault then fault_unplaced kind ∷ [] else [])) }
+    ensures { OnOk result (faults.new.items ≡ faults.old.items ++ fault_if kind has_fault) }
 {
     if has_fault {
         faults.push(Fault::unplaced(alloc, kind))?;

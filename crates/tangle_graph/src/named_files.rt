@@ -7,8 +7,10 @@ ghost use Rattle.tangle_graph.specs.Outputs.{is_earlier_file, is_file, is_main_f
 ghost use Rattle.tangle_graph.specs.PlainForms.{plain_form};
 ghost use Rattle.tangle_graph.specs.Stores.{flag_at};
 
+use crate::flags::is_flagged;
 use crate::measures::{Measure, measure_of_name};
 use crate::plain_forms::plain_form;
+use digraph::Node;
 use indexmap::IndexSet;
 use std::alloc::Global;
 use tangle_lines::NoMemory;
@@ -20,16 +22,6 @@ use tangle_names::NameTable;
 pub(crate) struct NamedFiles {
     main: Vec<bool>,
     earlier: Vec<bool>,
-}
-
-/// Whether the flag with this number is set.
-fn is_set(flags: &[bool], id: usize) -> bool
-    ensures { result ≡ flag_at flags.now id }
-{
-    match flags.get(id) {
-        Some(flag) => *flag,
-        None => false,
-    }
 }
 
 /// Whether the name is that of a file: an occurrence of it begins with `@(`, and it has a piece.
@@ -100,14 +92,14 @@ impl NamedFiles {
     pub(crate) fn is_main_file(&self, id: usize) -> bool
         ensures { result ≡ flag_at self.now.main.items id }
     {
-        is_set(&self.main, id)
+        is_flagged(&self.main, Node::new(id))
     }
 
     /// Whether the name with this number is that of an earlier file.
     pub(crate) fn is_earlier_file(&self, id: usize) -> bool
         ensures { result ≡ flag_at self.now.earlier.items id }
     {
-        is_set(&self.earlier, id)
+        is_flagged(&self.earlier, Node::new(id))
     }
 
     /// Whether the name with this number is that of the main file or of an earlier file.

@@ -76,53 +76,28 @@ pub(crate) fn file_names(
     Ok(names)
 }
 
-/// The main file, if the program has no piece or is expandable.
-fn main_file(
-    alloc: Global,
-    web: &Web,
-    out: &[u8],
-    has_piece: bool,
-    expandable: bool,
-) -> Result<Vec<Output>, AllocError>
-    ensures { IfOk result (λ files. files.items
-        ≡ (if not has_piece || expandable
-        then record {
-          name = out.now;
-          node = program;
-          has_macros =
-              not web.now.has_all_macros;
-          has_piece = has_piece;
-        } ∷ [] else [])) }
-{
-    let mut files = Vec::new(alloc);
-    if !has_piece || expandable {
-        let name = Vec::from_slice(alloc, out)?;
-        files.push(Output::new(name, Node::program(), !web.has_all_macros(), has_piece))?;
-    }
-    Ok(files)
-}
-
-/// Adds the file of the node of a name, if the name is expandable and not that of another file.
-fn add_named_file(
+/// Adds an output file with this name, if it is to be written.
+fn push_file(
     alloc: Global,
     name: &[u8],
     node: Node,
-    expandable: bool,
-    is_other: bool,
+    has_macros: bool,
+    has_piece: bool,
+    is_written: bool,
     files: &mut Vec<Output>,
 ) -> Result<(), AllocError>
     ensures { OnOk result (files.new.items ≡ files.old.items
-        ++ (if expandable && not is_other
+        ++ (if is_written
         then record {
           name = name.now;
           node = node;
-          has_macros = false;
-          has_piece = true;
+          has_macros = has_macros;
+          has_piece = has_piece;
         } ∷ [] else [])) }
 {
-    if expandable && !is_other {
+    if is_written {
         let name = Vec::from_slice(alloc, name)?;
-        files.push(Output::new(name, node, false, true))?;
+        files.push(Output::new(name, node, has_macros, has_piece))?;
     }
     Ok(())
 }
@@ -143,19 +118,32 @@ pub(crate) fn outputs(
 {
     let names = file_names(alloc, web, table)?;
     let named = NamedFiles::find(alloc, table, out, measures)?;
-    let program = entry(measures, Node::program(), NO_PIECE);
-    let mut files = main_file(alloc, web, out, program.depth > 0, program.is_expandable)?;
+    let program = Node::program();
+    let main = entry(measures, program, NO_PIECE);
+    let has_piece = main.depth > 0;
+    let is_written = !has_piece || main.is_expandable;
+    let mut files = Vec::new(alloc);
+    push_file(
+        alloc,
+        out,
+        program,
+        !web.has_all_macros(),
+        has_piece,
+        is_written,
+        &mut files,
+    )?;
     for id in &names {
         let node = Node::name(*id);
-        let name = table.text(*id);
         let measure = entry(measures, node, NO_PIECE);
         let is_other = named.has_other_name(*id);
-        add_named_file(
+        let is_written = measure.is_expandable && !is_other;
+        push_file(
             alloc,
-            name,
+            table.text(*id),
             node,
-            measure.is_expandable,
-            is_other,
+            false,
+            true,
+            is_written,
             &mut files,
         )?;
     }

@@ -1,9 +1,10 @@
 //! The pieces of each node.
-ghost use Rattle.std.specs.Prelude.{◌≡◌, ◌<◌, ◌+◌, ◌^◌, ◌∷◌, [], IfOk, IfSome};
-ghost use Rattle.std.specs.Prelude.{◌++◌, ℕ, length, if◌then◌else◌, take};
+ghost use Rattle.std.specs.Prelude.{◌≡◌, ◌<◌, ◌+◌, ◌^◌, ℕ, IfOk, IfSome, length, slice_index_or};
 ghost use Rattle.digraph.specs.Rows.{IsRowsOf};
 ghost use Rattle.tangle_names.specs.NameTable.{table_of};
-ghost use Rattle.tangle_bodies.specs.WebShapes.{ResolvesInside};
+ghost use Rattle.tangle_scan.specs.Web.{no_piece};
+ghost use Rattle.tangle_bodies.specs.Nodes.{title_at};
+ghost use Rattle.tangle_bodies.specs.WebShapes.{ResolvesInside, is_piece_of};
 ghost use Rattle.tangle_graph.specs.Grouping.{node_of_piece, has_number_in};
 ghost use Rattle.tangle_graph.specs.Grouping.{positions_of};
 
@@ -46,10 +47,9 @@ fn node_at(web: &Web, table: &NameTable, i: usize) -> Option<Node>
     requires table { table.now ≡ table_of web.now }
     requires piece { i < length web.now.pieces }
     requires count { length table.now.names + 1 < 2 ^ 64 }
-    ensures next { (n : ℕ) → n < length table.now.names + 1
-        → positions_of table.now (take (i + 1) web.now.pieces) n
-        ≡ positions_of table.now (take i web.now.pieces) n
-        ++ (if has_number_in n result then i ∷ [] else []) }
+    ensures node { (n : ℕ) → n < length table.now.names + 1 → has_number_in n result
+        ≡ is_piece_of table.now (title_at table.now.names n)
+        (slice_index_or web.now.pieces i no_piece) }
     ensures within { IfSome result (λ n. n < length table.now.names + 1) }
 {
     let pieces = web.pieces();
@@ -64,7 +64,7 @@ pub(crate) fn pieces_by_node(
 ) -> Result<Rows<usize>, AllocError>
     requires { table.now ≡ table_of web.now }
     ensures { IfOk result (IsRowsOf (length table.now.names + 1)
-        (positions_of table.now web.now.pieces)) }
+        (positions_of table.now web.now.pieces (length web.now.pieces))) }
 {
     let mut rows = GrowingRows::with_rows(alloc, node_count(table)?)?;
     for i in 0..web.pieces().len() {

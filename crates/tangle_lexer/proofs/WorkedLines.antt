@@ -6,7 +6,7 @@ use Rattle.tangle_lexer.specs.declared.tokens.Token.TheVariants as token
 use Rattle.tangle_lexer.specs.Steps.{lexeme, tokens_from, all_tokens}
 use Rattle.tangle_lexer.specs.LinesOfParts.{is_directive, lines_of_c, c_parts, with_use_fault}
 
-abbrev source : List (List ℕ) → List SourceLine
+abbrev pub source : List (List ℕ) → List SourceLine
 source texts = map (λ bytes. record { bytes = bytes; origin = record { file = 0; line = 1 }; changed = false }) texts
 
 -- for each C part, and each of its lines of C, whether the line is a directive

@@ -1,12 +1,9 @@
 -- Worked names: the normal forms of these bytes are as expected.
 use Rattle.std.proofs.Common.{rules}
-use Rattle.std.proofs.Common.{◌≡◌, ℕ, List, [], ◌∷◌, false, codes}
-use Rattle.tangle_lines.specs.Reading.{SourceLine}
+use Rattle.std.proofs.Common.{◌≡◌, [], ◌∷◌, codes}
+use Rattle.tangle_lexer.proofs.WorkedLines.{source}
 use Rattle.tangle_text.specs.Text.{text_from}
 use Rattle.tangle_lexer.specs.Names.{name_words, normal_form, name_text}
-
-abbrev line : List ℕ → SourceLine
-line bytes = record { bytes = bytes; origin = record { file = 0; line = 1 }; changed = false }
 
 record Examples : Type 0 where
   pub one_word : normal_form (codes "Globals") ≡ codes "Globals"
@@ -16,10 +13,10 @@ record Examples : Type 0 where
       ≡ codes "a" ∷ codes "list" ∷ codes "of" ∷ codes "words." ∷ []
   pub no_bytes : normal_form [] ≡ []
   pub white_space_alone : normal_form (codes "   ") ≡ []
-  pub over_two_lines : name_text (text_from 0 (line (codes "Print the") ∷ line (codes "   header@>=") ∷ []))
+  pub over_two_lines : name_text (text_from 0 (source (codes "Print the" ∷ codes "   header@>=" ∷ [])))
       ≡ codes "Print the header"
-  pub double_at_signs : name_text (text_from 0 (line (codes " a@@b  @@ c @>") ∷ [])) ≡ codes "a@b @ c"
-  pub no_name : name_text (text_from 0 (line (codes "@>") ∷ [])) ≡ []
+  pub double_at_signs : name_text (text_from 0 (source (codes " a@@b  @@ c @>" ∷ []))) ≡ codes "a@b @ c"
+  pub no_name : name_text (text_from 0 (source (codes "@>" ∷ []))) ≡ []
 
 examples : Examples
 examples = search rules

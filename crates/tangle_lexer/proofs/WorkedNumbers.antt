@@ -1,14 +1,11 @@
 -- Worked lines with digit separators: the words, signs and quoted texts of C parts, and the sizes of runs.
-use Rattle.std.proofs.Common.{◌≡◌, ℕ, List, [], ◌∷◌, false, map, flat_map, refl, codes}
-use Rattle.tangle_lines.specs.Reading.{SourceLine}
+use Rattle.std.proofs.Common.{◌≡◌, ℕ, List, [], ◌∷◌, flat_map, refl, codes}
 use Rattle.tangle_text.specs.Text.{span_text}
 use Rattle.tangle_text.specs.Runs.{run_size}
 use Rattle.tangle_lexer.specs.declared.tokens.Token.{Token}
 use Rattle.tangle_lexer.specs.declared.tokens.Token.TheVariants as token
 use Rattle.tangle_lexer.specs.Steps.{lexeme, tokens_from, all_tokens}
-
-abbrev source : List (List ℕ) → List SourceLine
-source texts = map (λ bytes. record { bytes = bytes; origin = record { file = 0; line = 1 }; changed = false }) texts
+use Rattle.tangle_lexer.proofs.WorkedLines.{source}
 
 abbrev span_bytes : List (List ℕ) → Token → List (List ℕ)
 span_bytes texts (token.Span kind s) = span_text texts s ∷ []

@@ -39,12 +39,6 @@ after_item inc is_number_sign is_backslash l = record {
   at_line_end = if is_backslash then GoesOn else Ends;
 }
 
--- the line after the end of a line, before its first item
-abbrev pub next_line : LineOfC → LineOfC
-next_line line.Directive = line.AfterDirective
-next_line line.Other = line.AfterOther
-next_line l = l
-
 -- the line after a join, which removes the line ends after the last item
 abbrev pub joined_line : LineOfC → LineOfC
 joined_line line.AfterDirective = line.Directive
@@ -54,7 +48,8 @@ joined_line l = l
 -- The line of C after a line end: the line before goes on after a backslash that is directly before
 -- the line end, white space aside, and where a join removes the line end.
 abbrev pub line_after_end : AtLineEnd → LineOfC → LineOfC
-line_after_end Ends l = next_line l
+line_after_end Ends line.Directive = line.AfterDirective
+line_after_end Ends line.Other = line.AfterOther
 line_after_end _ l = l
 
 -- a join removes all line ends after it, and a backslash is before the first one alone

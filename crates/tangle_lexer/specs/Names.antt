@@ -1,7 +1,7 @@
 -- Section names: @< or @( up to @>, perhaps on a later line.
-use Rattle.std.specs.Prelude.{◌≡◌, ℕ, ◌+◌, ◌-◌, Bool, false, true, not, List, [], ◌∷◌, ◌++◌, length}
+use Rattle.std.specs.Prelude.{ℕ, ◌+◌, ◌-◌, Bool, false, true, not, List, [], ◌∷◌, ◌++◌, length}
 use Rattle.std.specs.Prelude.{filter, drop, if◌then◌else◌, Option, Some, None, codes}
-use Rattle.std.specs.List.{slice_split, join_with_byte, last_or}
+use Rattle.std.specs.List.{slice_split, join_with_byte}
 use Rattle.std.specs.Str.{bytes_eq}
 use Rattle.tangle_files.specs.Bytes.{space}
 use Rattle.tangle_lines.specs.Bytes.{is_white}
@@ -17,7 +17,7 @@ use Rattle.tangle_lexer.specs.declared.modes.Mode.TheVariants as mode
 use Rattle.tangle_lexer.specs.declared.modes.LexerState.{LexerState}
 use Rattle.tangle_lexer.specs.declared.tokens.Token.{Token}
 use Rattle.tangle_lexer.specs.declared.tokens.Token.TheVariants as token
-use Rattle.tangle_text.specs.Bytes.{left_parenthesis, plus_sign, equals_sign, holds, holds_white}
+use Rattle.tangle_text.specs.Bytes.{left_parenthesis, plus_sign, equals_sign, holds}
 use Rattle.tangle_text.specs.Text.{Cell, byte_at, front_line}
 use Rattle.tangle_text.specs.Regions.{count_before}
 use Rattle.tangle_lexer.specs.LinesOfC.{after_use}
@@ -42,15 +42,18 @@ name_words bytes = filter has_bytes (slice_split is_white bytes)
 abbrev pub normal_form : List ℕ → List ℕ
 normal_form bytes = join_with_byte space (name_words bytes)
 
--- the last byte is white space
-abbrev pub ends_in_white : List ℕ → Bool
-ends_in_white bytes = holds_white (last_or None bytes)
+-- parts of which the first one goes on after these bytes
+abbrev pub onto_part : List ℕ → List (List ℕ) → List (List ℕ)
+onto_part bytes [] = bytes ∷ []
+onto_part bytes (part ∷ parts) = (bytes ++ part) ∷ parts
 
--- `name` is the normal form of the bytes that were read, and `white` is whether the last of these
--- bytes is white space.
-pub record IsNameSoFar (read name : List ℕ) (white : Bool) : Type 0 where
-  pub form : name ≡ normal_form read
-  pub ends : white ≡ ends_in_white read
+-- The normal form of a name of which `rest` is still to be read: `name` is that of the bytes
+-- before, and `white` is whether the last of them is white space.
+unfoldable pub form_after : List ℕ → Bool → List ℕ → List ℕ
+form_after name white rest =
+    let parts : List (List ℕ) = slice_split is_white rest in
+    join_with_byte space
+    (filter has_bytes (if white then name ∷ parts else onto_part name parts))
 
 -- the normal form of a name, where `text` begins after the opening of the name
 abbrev pub name_text : List Cell → List ℕ
@@ -109,14 +112,21 @@ abbrev pub equals_in : List Cell → Equals
 equals_in text = equals_by (byte_at (count_before_equals text) text)
     (byte_at (count_before_equals text + 1) text)
 
--- the number of cells through the equals sign, if there is one; `before` of them are before it
+-- the number of cells before the last one of this equals sign; `before` are before its first
+abbrev pub count_to_last : Equals → ℕ → ℕ
+count_to_last equals.Double before = before + 1
+count_to_last _ before = before
+
+abbrev pub equals_last : List Cell → ℕ
+equals_last text = count_to_last (equals_in text) (count_before_equals text)
+
+-- the number of cells through the equals sign, if there is one; `last` of them are before its last
 abbrev pub count_through : Equals → ℕ → Option ℕ
-count_through equals.Absent before = None
-count_through equals.Single before = Some (before + 1)
-count_through equals.Double before = Some (before + 2)
+count_through equals.Absent last = None
+count_through _ last = Some (last + 1)
 
 abbrev pub equals_count : List Cell → Option ℕ
-equals_count text = count_through (equals_in text) (count_before_equals text)
+equals_count text = count_through (equals_in text) (equals_last text)
 
 abbrev pub is_single : Equals → Bool
 is_single equals.Single = true
@@ -138,19 +148,16 @@ abbrev pub in_role : OccurrenceRole → Name → OccurrenceOnLine
 in_role role name =
     record { text = name.text; is_file = name.is_file; role = role; line = name.line }
 
-abbrev pub occurrence_read : OccurrenceRole → ℕ → List Cell → OccurrenceOnLine
-occurrence_read role last text = record {
-  text = name_text (drop 2 text);
-  is_file = holds left_parenthesis (byte_at 1 text);
-  role = role;
-  line = front_line last text;
-}
-
 -- the lexeme of a name in a role, with these tokens
 abbrev pub name_lexeme : OccurrenceRole → List Token → ℕ → LexerState → List Cell → Lexeme
 name_lexeme role tokens more after text = record {
   tokens = tokens;
-  occurrence = Some (occurrence_read role after.last_line text);
+  occurrence = Some (record {
+    text = name_text (drop 2 text);
+    is_file = holds left_parenthesis (byte_at 1 text);
+    role = role;
+    line = front_line after.last_line text;
+  });
   more = more;
   after = record after { occurrences = after.occurrences + 1 };
 }

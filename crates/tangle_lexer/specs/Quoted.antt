@@ -75,17 +75,13 @@ cut_tokens ends r zero start (c ∷ cs) =
 
 -- quoted texts
 
--- The end of a quoted text: the last range includes the closing byte. A line end instead is a
--- fault.
-abbrev pub quote_stop : Region → ℕ → ℕ → Cell → List Token
-quote_stop r close start c =
-    if holds close c.byte then cut_range r c.line start (c.column + 1)
-    else cut_range r c.line start c.column ++ token.Fault fault.StringEnd c.line ∷ []
-
--- the end of the source instead of the closing byte is a fault too
+-- The end of a quoted text: the last range includes the closing byte. A line end or the end of the
+-- source instead is a fault.
 abbrev pub quote_end : Region → ℕ → ℕ → ℕ → List Cell → List Token
 quote_end r close last start [] = token.Fault fault.StringEnd last ∷ []
-quote_end r close last start (c ∷ cs) = quote_stop r close start c
+quote_end r close last start (c ∷ cs) =
+    if holds close c.byte then cut_range r c.line start (c.column + 1)
+    else cut_range r c.line start c.column ++ token.Fault fault.StringEnd c.line ∷ []
 
 -- the one cell of the closing byte, if that is there
 abbrev pub one_if : Bool → ℕ
@@ -100,16 +96,13 @@ quoted_text r close s text =
 
 -- verbatim texts
 
--- the last range of a verbatim text, and a fault if a line end ends the text
-abbrev pub verbatim_stop : ℕ → Cell → List Token
-verbatim_stop start c =
-    cut_range region.Verbatim c.line start c.column
-    ++ fault_if (is_line_end c.byte) fault.VerbatimEnd c.line
-
--- no verbatim text reaches the end of the source: the line end before that ends the text
+-- The last range of a verbatim text, and a fault if a line end ends the text. No verbatim text
+-- reaches the end of the source: the line end before that ends the text.
 abbrev pub verbatim_end : ℕ → List Cell → List Token
 verbatim_end start [] = []
-verbatim_end start (c ∷ cs) = verbatim_stop start c
+verbatim_end start (c ∷ cs) =
+    cut_range region.Verbatim c.line start c.column
+    ++ fault_if (is_line_end c.byte) fault.VerbatimEnd c.line
 
 -- the fault of an empty verbatim text that a line end ends
 abbrev pub empty_end : List Cell → List Token

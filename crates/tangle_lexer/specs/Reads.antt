@@ -24,14 +24,12 @@ pub record IsRead (old new : List Token) (text rest : List Cell)
   pub ahead : rest ≡ drop lexeme.more (drop 1 text)
   pub state : after ≡ lexeme.after
 
--- The equals sign of a definition and the `before` cells before it were read, and `line` is that of
--- its last byte. If no equals sign follows, nothing was read.
+-- The equals sign of a definition was read, with the cells before it: `before` of all these are
+-- before its last one, and `line` is the line of that. If no equals sign follows, nothing was read.
 abbrev pub PassesEquals : Equals → ℕ → ℕ → List Cell → List Cell → Option ℕ → Type 0
 PassesEquals equals.Absent before last text rest line = (rest ≡ text) × (line ≡ None)
-PassesEquals equals.Single before last text rest line =
+PassesEquals _ before last text rest line =
     (rest ≡ drop (before + 1) text) × (line ≡ Some (front_line last (drop before text)))
-PassesEquals equals.Double before last text rest line =
-    (rest ≡ drop (before + 2) text) × (line ≡ Some (front_line last (drop (before + 1) text)))
 
 -- the occurrence of a lexeme was added after the others, if the lexeme is a name
 abbrev pub AddsOccurrence : List SourceLine → List OccurrenceRead

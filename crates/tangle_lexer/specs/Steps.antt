@@ -63,11 +63,6 @@ documentation_code code.Name s text = name_in_documentation s text
 -- all other control codes are skipped
 documentation_code _ s text = lexeme_of [] 1 s
 
-abbrev pub documentation_lexeme : LexerState → List Cell → Lexeme
-documentation_lexeme s text =
-    if holds at_sign (byte_at 0 text) then documentation_code (code_at (byte_at 1 text)) s text
-    else prose s text
-
 -- a control code in C text
 abbrev pub c_code : ControlCode → LexerState → List Cell → Lexeme
 c_code code s text = code_lexeme (use_of_name s text) code s text
@@ -95,7 +90,9 @@ macro_lexeme other s text = c_lexeme other s text
 -- the lexeme at the front of the text in a mode
 abbrev pub lexeme_in : Mode → LexerState → List Cell → Lexeme
 lexeme_in mode.Limbo s text = limbo_lexeme s text
-lexeme_in mode.Documentation s text = documentation_lexeme s text
+lexeme_in mode.Documentation s text =
+    if holds at_sign (byte_at 0 text) then documentation_code (code_at (byte_at 1 text)) s text
+    else prose s text
 lexeme_in mode.CPart s text = c_lexeme (kind_at s.line.include text) s text
 lexeme_in mode.Macro s text = macro_lexeme (kind_at s.line.include text) s text
 

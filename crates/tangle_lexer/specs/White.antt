@@ -12,13 +12,9 @@ use Rattle.tangle_lexer.specs.LinesOfC.{after_use}
 use Rattle.tangle_lexer.specs.Lexemes.{Lexeme, lexeme_of}
 use Rattle.tangle_lexer.specs.CText.{kind_at, kind_lexeme}
 
-abbrev pub is_white_token : Token → Bool
-is_white_token token.White = true
-is_white_token _ = false
-
 -- the tokens of a lexeme are white space alone, without a line end and without a fault
 abbrev pub is_white_alone : List Token → Bool
-is_white_alone (t ∷ []) = is_white_token t
+is_white_alone (token.White ∷ []) = true
 is_white_alone _ = false
 
 -- a position after a name in C text; the white space there is that of any other position

@@ -71,34 +71,11 @@ fn pass_line_ends(
     Ok(at)
 }
 
-/// Whether the text ahead begins with `*/`.
-fn ends_comment(reader: &Reader) -> bool
-    ensures { result ≡ spec.ends_comment reader.now }
-{
-    match reader.front() {
-        Some(front) => holds(b'*', front.byte) && holds(b'/', front.next),
-        None => false,
-    }
-}
-
-/// Whether the text ahead begins with `@>`.
-fn has_end_code(reader: &Reader) -> bool
-    ensures { result ≡ spec.has_end_code reader.now }
-{
-    match reader.front() {
-        Some(front) => is_end_code(front.byte, front.next),
-        None => false,
-    }
-}
-
 /// Whether the text ahead begins with a section start.
 pub fn starts_section(reader: &Reader) -> bool
     ensures { result ≡ spec.starts_section reader.now }
 {
-    match reader.front() {
-        Some(front) => is_section_start(front.byte, front.next),
-        None => false,
-    }
+    matches!(reader.front(), Some(front) if is_section_start(front.byte, front.next))
 }
 
 /// Whether the text ahead begins with the end of a block comment (`*/`), or of another region
@@ -106,9 +83,12 @@ pub fn starts_section(reader: &Reader) -> bool
 fn ends_region(region: Region, reader: &Reader) -> bool
     ensures { result ≡ spec.ends_region region reader.now }
 {
+    let Some(front) = reader.front() else {
+        return false;
+    };
     match region {
-        Region::BlockComment => ends_comment(reader),
-        _ => has_end_code(reader),
+        Region::BlockComment => holds(b'*', front.byte) && holds(b'/', front.next),
+        _ => is_end_code(front.byte, front.next),
     }
 }
 

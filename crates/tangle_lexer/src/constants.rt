@@ -16,11 +16,12 @@ pub struct AsciiConstant {
     count: usize,
 }
 
-/// The value of the escape sequence of a backslash and this byte, if a constant may have it.
-fn escape_of(byte: u8) -> Option<u8>
-    ensures { result ≡ spec.escape_of byte }
+/// The value of the escape sequence of a backslash and what follows it, if a constant may have it.
+/// A line end makes none.
+fn escape_value(byte: Option<u8>) -> Option<u8>
+    ensures { result ≡ spec.escape_value byte }
 {
-    match byte {
+    match byte? {
         b'a' => Some(7),
         b'b' => Some(8),
         b't' => Some(9),
@@ -28,18 +29,8 @@ fn escape_of(byte: u8) -> Option<u8>
         b'v' => Some(11),
         b'f' => Some(12),
         b'r' => Some(13),
-        b'"' | b'\'' | b'?' | b'\\' => Some(byte),
+        b'"' | b'\'' | b'?' | b'\\' => byte,
         _ => None,
-    }
-}
-
-/// The value of the escape sequence of a backslash and what follows it. A line end makes none.
-fn escape_value(byte: Option<u8>) -> Option<u8>
-    ensures { result ≡ spec.escape_value byte }
-{
-    match byte {
-        Some(byte) => escape_of(byte),
-        None => None,
     }
 }
 
@@ -48,14 +39,8 @@ fn if_closed(reader: &Reader, value: Option<u8>, count: usize) -> Option<AsciiCo
     ensures { result ≡ spec.if_closed value count reader.now }
 {
     match value {
-        Some(value) => {
-            if holds(b'\'', reader.peek(count)) {
-                Some(AsciiConstant { value, count })
-            } else {
-                None
-            }
-        }
-        None => None,
+        Some(value) if holds(b'\'', reader.peek(count)) => Some(AsciiConstant { value, count }),
+        _ => None,
     }
 }
 
@@ -115,14 +100,8 @@ fn constant_at(reader: &Reader) -> Option<AsciiConstant>
 {
     match reader.byte() {
         None => None,
-        Some(b'@') => {
-            let value = if holds(b'@', reader.peek(1)) {
-                Some(b'@')
-            } else {
-                None
-            };
-            if_closed(reader, value, 2)
-        }
+        Some(b'@') if holds(b'@', reader.peek(1)) => if_closed(reader, Some(b'@'), 2),
+        Some(b'@') => None,
         Some(b'\\') => escaped_constant(reader),
         Some(b'\'') => None,
         Some(byte) => if_closed(reader, Some(byte), 1),

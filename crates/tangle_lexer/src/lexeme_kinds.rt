@@ -84,16 +84,6 @@ fn code_of(byte: u8) -> ControlCode
     }
 }
 
-/// `<` opens a quoted text only after `#include`.
-fn less_kind(include: IncludeState) -> LexemeKind
-    ensures { result ≡ spec.less_kind include }
-{
-    match include {
-        IncludeState::AfterInclude => LexemeKind::HeaderName,
-        _ => LexemeKind::Other,
-    }
-}
-
 /// What begins with `byte`, which is not `@`. `next` is the byte after it.
 fn byte_kind(include: IncludeState, byte: u8, next: Option<u8>) -> LexemeKind
     ensures { result ≡ spec.byte_kind include byte next }
@@ -106,8 +96,8 @@ fn byte_kind(include: IncludeState, byte: u8, next: Option<u8>) -> LexemeKind
         LexemeKind::DoubleQuote
     } else if byte == b'\'' {
         LexemeKind::Apostrophe
-    } else if byte == b'<' {
-        less_kind(include)
+    } else if byte == b'<' && matches!(include, IncludeState::AfterInclude) {
+        LexemeKind::HeaderName
     } else if is_white(byte) {
         LexemeKind::White
     } else if is_word_byte(byte) {

@@ -19,16 +19,6 @@ use crate::tokens::{LexerBuffers, Token};
 use tangle_lines::{NoMemory, Source};
 use tangle_text::Reader;
 
-/// Whether a token is a head: it begins a section, a macro or a C part.
-fn is_head(token: Token) -> bool
-    ensures { result ≡ is_head_token token }
-{
-    matches!(
-        token,
-        Token::Section | Token::MacroStart(_) | Token::UnnamedPart(_) | Token::NamedPart(_, _)
-    )
-}
-
 /// The state of the lexer before the first line of this source: limbo, with no occurrence read.
 pub fn first_state(source: &Source) -> LexerState
     ensures { result ≡ spec.first_state (length source.now.lines) }
@@ -41,12 +31,14 @@ pub fn first_state(source: &Source) -> LexerState
     }
 }
 
-/// Removes and returns the last token, if it is a head.
+/// Removes and returns the last token, if it is a head: it begins a section, a macro or a C part.
 fn pop_head(tokens: &mut Vec<Token>) -> Option<Token>
     ensures { PopsHead tokens.old.items tokens.new.items result }
 {
     match tokens.last() {
-        Some(token) if is_head(*token) => tokens.pop(),
+        Some(
+            Token::Section | Token::MacroStart(_) | Token::UnnamedPart(_) | Token::NamedPart(_, _),
+        ) => tokens.pop(),
         _ => None,
     }
 }

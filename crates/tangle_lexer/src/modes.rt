@@ -1,5 +1,6 @@
 //! The state of the lexer at a position of the text.
 ghost use Rattle.std.specs.Prelude.{◌≡◌};
+ghost use Rattle.tangle_lexer.specs.declared.modes.AtLineEnd.TheVariants as at_line_end;
 ghost use Rattle.tangle_lexer.specs.LinesOfC as lines_of_c;
 ghost use Rattle.tangle_lexer.specs.Lexemes as lexemes;
 ghost use Rattle.tangle_lexer.specs.CText as c_text;
@@ -62,22 +63,11 @@ impl LineOfC {
     /// The line after the end of this line.
     #[inline(always)]
     fn next(self) -> Self
-        ensures { result ≡ lines_of_c.next_line self }
+        ensures { result ≡ lines_of_c.line_after_end at_line_end.Ends self }
     {
         match self {
             LineOfC::Directive => LineOfC::AfterDirective,
             LineOfC::Other => LineOfC::AfterOther,
-            line => line,
-        }
-    }
-
-    /// The line after a join, which removes the line ends after the last item.
-    fn joined(self) -> Self
-        ensures { result ≡ lines_of_c.joined_line self }
-    {
-        match self {
-            LineOfC::AfterDirective => LineOfC::Directive,
-            LineOfC::AfterOther => LineOfC::Other,
             line => line,
         }
     }
@@ -156,13 +146,18 @@ impl LineState {
         }
     }
 
-    /// This state after a join.
+    /// This state after a join, which removes the line ends after the last item.
     pub fn after_join(self) -> Self
         ensures { result ≡ lines_of_c.after_join self }
     {
+        let line = match self.line {
+            LineOfC::AfterDirective => LineOfC::Directive,
+            LineOfC::AfterOther => LineOfC::Other,
+            line => line,
+        };
         LineState {
             include: IncludeState::Elsewhere,
-            line: self.line.joined(),
+            line,
             at_line_end: AtLineEnd::Removed,
         }
     }

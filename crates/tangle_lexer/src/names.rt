@@ -1,6 +1,6 @@
 //! Section names.
 ghost use Rattle.std.specs.Prelude.{◌≡◌, ◌+◌, ◌++◌, [], ◌∷◌, ℕ, List, length, drop, not, true};
-ghost use Rattle.std.specs.Prelude.{Decides, IfOk, OnOk};
+ghost use Rattle.std.specs.Prelude.{if◌then◌else◌, Decides, IfOk, OnOk};
 ghost use Rattle.tangle_text.specs.Bytes as byte;
 ghost use Rattle.tangle_text.specs.Text.{byte_at, front_line};
 ghost use Rattle.tangle_text.specs.Regions.{region_end, unit_at};
@@ -9,13 +9,12 @@ ghost use Rattle.tangle_text.specs.declared.regions.Region.TheVariants as region
 ghost use Rattle.tangle_text.specs.declared.regions.Unit.TheVariants as unit;
 ghost use Rattle.tangle_faults.specs.declared.faults.FaultKind.TheVariants as fault;
 ghost use Rattle.tangle_lexer.specs.declared.tokens.Token.TheVariants as token;
-ghost use Rattle.tangle_lexer.specs.Lexemes.{fault_if, in_mode, is_in_directive};
-ghost use Rattle.tangle_lexer.specs.declared.modes.Mode.TheVariants as mode;
+ghost use Rattle.tangle_lexer.specs.Lexemes.{fault_if, is_in_directive};
 ghost use Rattle.tangle_lexer.specs.declared.names.Equals.TheVariants as equals;
 ghost use Rattle.tangle_lexer.specs.declared.occurrences.OccurrenceRole.TheVariants as role;
 ghost use Rattle.tangle_lexer.specs.Reads.{PassesEquals, ReadsLexeme};
 ghost use Rattle.tangle_lexer.specs.Names as spec;
-ghost use Rattle.tangle_lexer.specs.Names.{IsNameSoFar};
+ghost use Rattle.tangle_lexer.specs.Names.{form_after};
 ghost use Rattle.tangle_text.specs.NameBytes as name_bytes;
 
 use crate::comments::pass_end;
@@ -57,8 +56,8 @@ struct Name {
 /// result whether this byte is.
 #[inline(always)]
 fn push_byte(name: &mut Vec<u8>, white: bool, byte: u8) -> Result<bool, AllocError>
-    ensures { IfOk result (λ after. (read : List ℕ) → IsNameSoFar read name.old.items white
-        → IsNameSoFar (read ++ byte ∷ []) name.new.items after) }
+    ensures { IfOk result (λ after. (rest : List ℕ) → form_after name.new.items after rest
+        ≡ form_after name.old.items white (byte ∷ rest)) }
 {
     if is_white(byte) {
         return Ok(true);
@@ -70,27 +69,17 @@ fn push_byte(name: &mut Vec<u8>, white: bool, byte: u8) -> Result<bool, AllocErr
     Ok(false)
 }
 
-/// The byte of a name for a byte or a line end (`None`), which is a space in a name.
-fn name_byte(byte: Option<u8>) -> u8
-    ensures { result ≡ name_bytes.name_byte byte }
-{
-    match byte {
-        Some(byte) => byte,
-        None => b' ',
-    }
-}
-
-/// Adds a unit of one or two bytes to a name; `@@` adds one `@`. `white` and the result are those
-/// of `push_byte`.
+/// Adds a unit of one or two bytes to a name; `@@` adds one `@`, and a line end (`None`) a space.
+/// `white` and the result are those of `push_byte`.
 fn push_name_unit(
     name: &mut Vec<u8>,
     white: bool,
     unit: Unit,
     front: Front,
 ) -> Result<bool, AllocError>
-    ensures { IfOk result (λ after. (read : List ℕ) → IsNameSoFar read name.old.items white
-        → IsNameSoFar (read ++ name_bytes.unit_name_bytes unit front.byte front.next)
-        name.new.items after) }
+    ensures { IfOk result (λ after. (rest : List ℕ) → form_after name.new.items after rest
+        ≡ form_after name.old.items white
+        (name_bytes.unit_name_bytes unit front.byte front.next ++ rest)) }
 {
     match unit {
         Unit::Two => {
@@ -98,17 +87,16 @@ fn push_name_unit(
             if holds(b'@', front.next) {
                 return Ok(white);
             }
-            let white = push_byte(name, white, name_byte(front.next))?;
-            Ok(white)
+            push_byte(name, white, front.next.unwrap_or(b' '))
         }
-        _ => push_byte(name, white, name_byte(front.byte)),
+        _ => push_byte(name, white, front.byte.unwrap_or(b' ')),
     }
 }
 
 /// Adds bytes other than `@` to a name. `white` and the result are those of `push_byte`.
 fn push_bytes(name: &mut Vec<u8>, white: bool, bytes: &[u8]) -> Result<bool, AllocError>
-    ensures { IfOk result (λ after. (read : List ℕ) → IsNameSoFar read name.old.items white
-        → IsNameSoFar (read ++ bytes.now) name.new.items after) }
+    ensures { IfOk result (λ after. (rest : List ℕ) → form_after name.new.items after rest
+        ≡ form_after name.old.items white (bytes.now ++ rest)) }
 {
     let mut after = white;
     for byte in bytes {
@@ -188,7 +176,7 @@ fn read_name(alloc: Global, reader: &mut Reader, last: u32) -> Result<Name, Allo
     ensures ahead { OnOk result (reader.new ≡ spec.after_name reader.old) }
 {
     let line = reader.line(last);
-    let is_file = opens_file(reader);
+    let is_file = matches!(reader.front(), Some(front) if holds(b'(', front.next));
     reader.pass(Unit::Two);
     let text = read_text(alloc, reader)?;
     let end_line = reader.line(last);
@@ -200,16 +188,6 @@ fn read_name(alloc: Global, reader: &mut Reader, last: u32) -> Result<Name, Allo
         end_line,
         is_ended,
     })
-}
-
-/// Whether `@(` opens the name that the text ahead begins with.
-fn opens_file(reader: &Reader) -> bool
-    ensures { result ≡ byte.holds byte.left_parenthesis (byte_at 1 reader.now) }
-{
-    match reader.front() {
-        Some(front) => holds(b'(', front.next),
-        None => false,
-    }
 }
 
 /// Whether a name is an abbreviation: it ends in three dots.
@@ -235,8 +213,13 @@ fn push_occurrence(
         (λ after. after ≡ record state { occurrences = state.occurrences + 1 }) }
 {
     let is_abbreviation = is_abbreviation(name.text.bytes());
-    let origin = source.origin(name.line as usize);
-    occurrences.push(Occurrence::new(name.text, is_abbreviation, name.is_file, role, origin))?;
+    occurrences.push(Occurrence {
+        text: name.text,
+        is_abbreviation,
+        is_file: name.is_file,
+        role,
+        origin: source.origin(name.line as usize),
+    })?;
     Ok(LexerState {
         occurrences: occurrences.len(),
         ..state
@@ -256,22 +239,6 @@ fn skip_to_equals(reader: &mut Reader)
     }
 }
 
-/// The equals sign that the text ahead begins with.
-fn equals_at(reader: &Reader) -> Equals
-    ensures { result ≡ spec.equals_by (byte_at 0 reader.now) (byte_at 1 reader.now) }
-{
-    match reader.front() {
-        Some(front) if holds(b'=', front.byte) => {
-            if holds(b'=', front.next) {
-                Equals::Double
-            } else {
-                Equals::Single
-            }
-        }
-        _ => Equals::Absent,
-    }
-}
-
 /// Whether the byte after a name shows that no equals sign follows: it is none itself, and neither
 /// `+` nor white space, a comment or a control code begins with it. `false` promises nothing.
 #[inline(always)]
@@ -284,16 +251,40 @@ fn has_no_equals(reader: &Reader) -> bool
     }
 }
 
+/// The equals sign that the text ahead begins with.
+fn equals_at(reader: &Reader) -> Equals
+    ensures { result ≡ spec.equals_by (byte_at 0 reader.now) (byte_at 1 reader.now) }
+{
+    match reader.front() {
+        Some(front) if holds(b'=', front.byte) && holds(b'=', front.next) => Equals::Double,
+        Some(front) if holds(b'=', front.byte) => Equals::Single,
+        _ => Equals::Absent,
+    }
+}
+
+/// The equals sign that follows a name. Advances to its last byte, if there is one.
+fn to_equals(reader: &mut Reader) -> Equals
+    ensures equals { result ≡ spec.equals_in reader.old }
+    ensures ahead { (result ≡ equals.Absent → ⊥)
+        → reader.new ≡ drop (spec.equals_last reader.old) reader.old }
+{
+    if has_no_equals(reader) {
+        return Equals::Absent;
+    }
+    skip_to_equals(reader);
+    let equals = equals_at(reader);
+    if let Equals::Double = equals {
+        reader.advance();
+    }
+    equals
+}
+
 /// Whether a single `=` follows a name, which makes a use look like a definition.
 fn has_single_equals(reader: &Reader) -> bool
     ensures { result ≡ spec.has_single_equals reader.now }
 {
-    if has_no_equals(reader) {
-        return false;
-    }
     let mut further = reader.copy();
-    skip_to_equals(&mut further);
-    matches!(equals_at(&further), Equals::Single)
+    matches!(to_equals(&mut further), Equals::Single)
 }
 
 /// Adds a use of this name, which is the next occurrence, and the faults of the use.
@@ -332,116 +323,33 @@ pub fn use_of_name(
     let name = read_name(*buffers.occurrences.allocator(), reader, state.last_line)?;
     let equals = has_single_equals(reader);
     push_use(&mut buffers.tokens, &name, state, equals)?;
-    let after = push_occurrence(
-        source,
-        &mut buffers.occurrences,
-        name,
-        OccurrenceRole::Use,
-        state.after_use(),
-    )?;
+    let occurrences = &mut buffers.occurrences;
+    let after = state.after_use();
+    let after = push_occurrence(source, occurrences, name, OccurrenceRole::Use, after)?;
     Ok(after)
 }
 
-/// Advances past the equals sign of a definition and returns the line of that sign. If none
-/// follows, does not advance and returns `None`.
-fn pass_equals(reader: &mut Reader, last: u32) -> Option<u32>
-    ensures { PassesEquals (spec.equals_in reader.old) (spec.count_before_equals reader.old) last
-        reader.old reader.new result }
+/// Advances past the equals sign after a name that `@>` ends, and returns the line of that sign. If
+/// none follows, does not advance and returns `None`.
+fn pass_equals(reader: &mut Reader, is_ended: bool, last: u32) -> Option<u32>
+    ensures { PassesEquals (if is_ended then spec.equals_in reader.old else equals.Absent)
+        (spec.equals_last reader.old) last reader.old reader.new result }
 {
-    if has_no_equals(reader) {
+    if !is_ended {
         return None;
     }
     let mut further = reader.copy();
-    skip_to_equals(&mut further);
-    match equals_at(&further) {
-        Equals::Absent => None,
-        Equals::Single => {
-            let line = further.line(last);
-            further.advance();
-            *reader = further;
-            Some(line)
-        }
-        Equals::Double => {
-            further.advance();
-            let line = further.line(last);
-            further.advance();
-            *reader = further;
-            Some(line)
-        }
+    if let Equals::Absent = to_equals(&mut further) {
+        return None;
     }
+    let line = further.line(last);
+    further.advance();
+    *reader = further;
+    Some(line)
 }
 
-fn is_macro_mode(mode: Mode) -> bool
-    ensures { result ≡ spec.is_macro_mode mode }
-{
-    matches!(mode, Mode::Macro)
-}
-
-/// Adds a mention of this name, with a fault if `@>` does not end the name, and with one if the name
-/// ends a macro. Documentation follows.
-#[inline(always)]
-fn push_mention(
-    source: &Source,
-    buffers: &mut LexerBuffers,
-    name: Name,
-    state: LexerState,
-) -> Result<LexerState, AllocError>
-    requires { state.occurrences ≡ length buffers.old.occurrences.items }
-    ensures tokens { OnOk result (buffers.new.tokens.items ≡ buffers.old.tokens.items
-        ++ fault_if (not name.is_ended) fault.NameEnd name.end_line
-        ++ fault_if (spec.is_macro_mode state.mode) fault.NameInMacro name.line) }
-    ensures occurrences { OnOk result (buffers.new.occurrences.items ≡ buffers.old.occurrences.items
-        ++ occurrence_of source.now.lines (spec.in_role role.Mention name) ∷ []) }
-    ensures state { IfOk result (λ after. after
-        ≡ record (in_mode mode.Documentation state) { occurrences = state.occurrences + 1 }) }
-{
-    let tokens = &mut buffers.tokens;
-    push_fault_if(tokens, !name.is_ended, FaultKind::NameEnd, name.end_line)?;
-    let in_macro = is_macro_mode(state.mode);
-    push_fault_if(tokens, in_macro, FaultKind::NameInMacro, name.line)?;
-    let after = push_occurrence(
-        source,
-        &mut buffers.occurrences,
-        name,
-        OccurrenceRole::Mention,
-        state.in_mode(Mode::Documentation),
-    )?;
-    Ok(after)
-}
-
-/// Adds a definition of this name, and the head of the C part that begins after the equals sign on
-/// this line.
-fn push_definition(
-    source: &Source,
-    buffers: &mut LexerBuffers,
-    name: Name,
-    line: u32,
-    state: LexerState,
-) -> Result<LexerState, AllocError>
-    requires { state.occurrences ≡ length buffers.old.occurrences.items }
-    ensures tokens { OnOk result (buffers.new.tokens.items
-        ≡ buffers.old.tokens.items ++ token.NamedPart line state.occurrences ∷ []) }
-    ensures occurrences { OnOk result (buffers.new.occurrences.items ≡ buffers.old.occurrences.items
-        ++ occurrence_of source.now.lines (spec.in_role role.Definition name) ∷ []) }
-    ensures state { IfOk result
-        (λ after. after ≡ record (in_mode mode.CPart state)
-        { occurrences = state.occurrences + 1 }) }
-{
-    buffers
-        .tokens
-        .push(Token::NamedPart(line, state.occurrences))?;
-    let after = push_occurrence(
-        source,
-        &mut buffers.occurrences,
-        name,
-        OccurrenceRole::Definition,
-        state.in_mode(Mode::CPart),
-    )?;
-    Ok(after)
-}
-
-/// Reads a name in documentation, or one that ends a macro: a definition with its equals sign, or
-/// else a mention.
+/// Reads a name in documentation, or one that ends a macro: a definition with its equals sign,
+/// after which a C part begins, or else a mention, after which documentation follows.
 pub fn name_in_documentation(
     source: &Source,
     buffers: &mut LexerBuffers,
@@ -453,14 +361,19 @@ pub fn name_in_documentation(
         reader.old reader.new after (spec.name_in_documentation state reader.old)) }
 {
     let name = read_name(*buffers.occurrences.allocator(), reader, state.last_line)?;
-    if !name.is_ended {
-        let after = push_mention(source, buffers, name, state)?;
-        return Ok(after);
-    }
-    let Some(line) = pass_equals(reader, state.last_line) else {
-        let after = push_mention(source, buffers, name, state)?;
+    let occurrences = &mut buffers.occurrences;
+    let Some(line) = pass_equals(reader, name.is_ended, state.last_line) else {
+        let tokens = &mut buffers.tokens;
+        push_fault_if(tokens, !name.is_ended, FaultKind::NameEnd, name.end_line)?;
+        let in_macro = matches!(state.mode, Mode::Macro);
+        push_fault_if(tokens, in_macro, FaultKind::NameInMacro, name.line)?;
+        let after = state.in_mode(Mode::Documentation);
+        let after = push_occurrence(source, occurrences, name, OccurrenceRole::Mention, after)?;
         return Ok(after);
     };
-    let after = push_definition(source, buffers, name, line, state)?;
+    let head = Token::NamedPart(line, state.occurrences);
+    buffers.tokens.push(head)?;
+    let after = state.in_mode(Mode::CPart);
+    let after = push_occurrence(source, occurrences, name, OccurrenceRole::Definition, after)?;
     Ok(after)
 }

@@ -19,11 +19,11 @@ pub enum OccurrenceRole {
 /// A section name as it is written at one position of the web.
 #[derive(Drop)]
 pub struct Occurrence {
-    text: SharedSlice,
-    is_abbreviation: bool,
-    is_file: bool,
-    role: OccurrenceRole,
-    origin: Origin,
+    pub(crate) text: SharedSlice,
+    pub(crate) is_abbreviation: bool,
+    pub(crate) is_file: bool,
+    pub(crate) role: OccurrenceRole,
+    pub(crate) origin: Origin,
 }
 
 impl Model for Occurrence {
@@ -41,31 +41,6 @@ impl Model for Occurrence {
 }
 
 impl Occurrence {
-    /// An occurrence of the name `text`, which is in normal form.
-    pub(crate) fn new(
-        text: SharedSlice,
-        is_abbreviation: bool,
-        is_file: bool,
-        role: OccurrenceRole,
-        origin: Origin,
-    ) -> Self
-        ensures { result ≡ record {
-          text = text;
-          is_abbreviation = is_abbreviation;
-          is_file = is_file;
-          role = role;
-          origin = origin;
-        } }
-    {
-        Occurrence {
-            text,
-            is_abbreviation,
-            is_file,
-            role,
-            origin,
-        }
-    }
-
     /// The bytes of the name in normal form: without white space at its ends, with one space for
     /// each run of white space inside, and with one `@` for each `@@`. The three dots of an
     /// abbreviation are a part of it.

@@ -3,7 +3,7 @@ ghost use Rattle.std.specs.Prelude.{true, ◌≡◌, ◌≤◌, ◌++◌, ℕ, L
 ghost use Rattle.tangle_files.specs.Adding.{longest_line};
 ghost use Rattle.tangle_text.specs.Ahead.{IsFront};
 ghost use Rattle.tangle_lexer.specs.Reads.{IsRead};
-ghost use Rattle.tangle_text.specs.Text.{Cell, byte_at, front_line, front_cell, span_at};
+ghost use Rattle.tangle_text.specs.Text.{Cell, byte_at, front_cell, span_at};
 ghost use Rattle.tangle_text.specs.Regions.{skips_ordinary, region_end};
 ghost use Rattle.tangle_lexer.specs.declared.tokens.Token.{Token as TokenRead};
 ghost use Rattle.tangle_text.specs.declared.regions.Region.TheVariants as region;
@@ -52,14 +52,6 @@ fn push_range(
     Ok(())
 }
 
-/// The unit that is next in a region, with its first bytes and the number of its line.
-#[derive(Clone, Copy)]
-struct NextUnit {
-    unit: Unit,
-    front: Front,
-    line: u32,
-}
-
 /// Adds the tokens of a unit inside a region, whose current range starts at column `start`. Returns
 /// the column at which the range after the unit starts: `start` itself, unless the text is cut.
 #[inline(always)]
@@ -68,17 +60,17 @@ fn push_quoted_unit(
     reader: &Reader,
     region: Region,
     start: usize,
-    next: NextUnit,
+    unit: Unit,
+    front: Front,
+    last: u32,
 ) -> Result<usize, AllocError>
-    requires { IsFront reader.now next.front }
-    ensures tokens { (last : ℕ) → next.line ≡ front_line last reader.now
-        → OnOk result (tokens.new.items ≡ tokens.old.items
-        ++ spec.unit_tokens region next.unit start (front_cell last reader.now)
-        (byte_at 1 reader.now)) }
-    ensures start { (last : ℕ) → IfOk result (λ after. after
-        ≡ spec.next_start next.unit start (front_cell last reader.now) (byte_at 1 reader.now)) }
+    requires { IsFront reader.now front }
+    ensures tokens { OnOk result (tokens.new.items ≡ tokens.old.items
+        ++ spec.unit_tokens region unit start (front_cell last reader.now) (byte_at 1 reader.now)) }
+    ensures start { IfOk result (λ after. after
+        ≡ spec.next_start unit start (front_cell last reader.now) (byte_at 1 reader.now)) }
 {
-    let NextUnit { unit, front, line } = next;
+    let line = reader.line(last);
     let is_two = matches!(unit, Unit::Two);
     if is_two && holds(b'@', front.byte) {
         let end = reader.column_after();
@@ -119,12 +111,7 @@ fn cut(
         if let Unit::Stop = unit {
             return Ok(start);
         }
-        let next = NextUnit {
-            unit,
-            front,
-            line: reader.line(last),
-        };
-        start = push_quoted_unit(tokens, reader, region, start, next)?;
+        start = push_quoted_unit(tokens, reader, region, start, unit, front, last)?;
         reader.pass(unit);
         reader.skip_ordinary();
     }

@@ -74,12 +74,6 @@ fn simple_step(
     }
 }
 
-fn is_c_text(mode: Mode) -> bool
-    ensures { result ≡ spec.is_c_text mode }
-{
-    matches!(mode, Mode::CPart | Mode::Macro)
-}
-
 /// Whether a run may begin with a simple lexeme that begins with this byte. It may with a word and
 /// with a sign other than `#` of a C part, unless `#include` was begun before it.
 #[inline(always)]
@@ -140,7 +134,7 @@ pub fn read_simple(
     ensures count { IfOk result (λ after. after.occurrences ≡ from.occurrences) }
     ensures shorter { OnOk result (length reader.new ≤ length reader.old) }
 {
-    if !is_c_text(from.mode) {
+    if !matches!(from.mode, Mode::CPart | Mode::Macro) {
         return Ok(from);
     }
     // `here` and `line` are local, so that their fields stay in registers in the loop.

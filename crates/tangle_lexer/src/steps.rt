@@ -73,12 +73,8 @@ fn limbo(
     }
     if holds(b'@', front.byte) {
         let line = reader.line(state.last_line);
-        push_fault_if(
-            tokens,
-            !is_limbo_code(front.next),
-            FaultKind::LimboCode,
-            line,
-        )?;
+        let is_fault = !is_limbo_code(front.next);
+        push_fault_if(tokens, is_fault, FaultKind::LimboCode, line)?;
         reader.pass(Unit::Two);
     } else {
         prose(reader);

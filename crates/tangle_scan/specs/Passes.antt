@@ -376,12 +376,8 @@ joined_from texts first es = without_joins [] (spaced_from texts first es)
 
 -- a token other than white space, a line end of any kind, a join and a fault
 abbrev pub is_solid : Token → Bool
-is_solid token.White = false
-is_solid (token.LineEnd line) = false
-is_solid (token.InnerLineEnd line) = false
-is_solid token.Join = false
 is_solid (token.Fault kind line) = false
-is_solid e = true
+is_solid e = not (is_gap e)
 
 -- a token is a backslash before a line end, of which `gap` is left
 abbrev pub is_dropped : List (List ℕ) → Token → Gap → Bool

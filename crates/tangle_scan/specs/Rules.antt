@@ -41,6 +41,14 @@ white_inner_end e = e
 abbrev pub clean_tokens : List Token → List Token
 clean_tokens tokens = map white_inner_end (without_faults tokens)
 
+-- joins, white space and line ends
+abbrev pub is_gap : Token → Bool
+is_gap token.Join = true
+is_gap token.White = true
+is_gap (token.LineEnd line) = true
+is_gap (token.InnerLineEnd line) = true
+is_gap _ = false
+
 -- Rule 1: white space is put between an ASCII constant and another one, a word, a verbatim text, a
 -- full stop or a backslash that touch, in either order, and between a constant and a quoted text
 -- directly after it that an apostrophe begins. The constant is written as a number, and a C compiler
@@ -80,12 +88,8 @@ with_spaces texts (e ∷ f ∷ es) =
 -- parenthesis, white space, a line end or a join follows.
 
 abbrev pub may_follow_name : List (List ℕ) → Token → Bool
-may_follow_name texts token.White = true
-may_follow_name texts (token.LineEnd line) = true
-may_follow_name texts (token.InnerLineEnd line) = true
-may_follow_name texts token.Join = true
 may_follow_name texts (token.Span span_kind.Sign s) = first_byte texts s == left_parenthesis
-may_follow_name texts _ = false
+may_follow_name texts e = is_gap e
 
 abbrev pub with_space_after : List (List ℕ) → Token → List Token → List Token
 with_space_after texts first [] = first ∷ []
@@ -100,13 +104,6 @@ with_name_space texts (token.Join ∷ es) = token.Join ∷ with_name_space texts
 with_name_space texts (e ∷ es) = with_space_after texts e es
 
 -- Rule 2: each run of joins, white space and line ends that has a join is removed.
-
-abbrev pub is_gap : Token → Bool
-is_gap token.Join = true
-is_gap token.White = true
-is_gap (token.LineEnd line) = true
-is_gap (token.InnerLineEnd line) = true
-is_gap _ = false
 
 abbrev pub has_join : List Token → Bool
 has_join [] = false

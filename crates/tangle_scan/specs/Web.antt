@@ -9,7 +9,6 @@ use Rattle.tangle_faults.specs.Faults.{FaultRead, fault_at}
 use Rattle.tangle_lines.specs.Reading.{SourceLine, SourceRead, place_of, origin_at}
 use Rattle.tangle_files.specs.Lines.{FileTable}
 use Rattle.tangle_scan.specs.declared.items.Item.{Item}
-use Rattle.tangle_scan.specs.declared.items.Item.TheVariants as item
 use Rattle.tangle_scan.specs.declared.pieces.Piece.{Piece}
 use Rattle.tangle_lexer.specs.declared.tokens.Token.{Token}
 use Rattle.tangle_lexer.specs.declared.tokens.Token.TheVariants as token
@@ -41,11 +40,6 @@ no_piece =
 -- a piece as it is stored, without its items
 abbrev pub stored_piece : PieceRead → Piece
 stored_piece p = record { section = p.section; origin = p.origin; occurrence = p.occurrence }
-
--- a line mark
-abbrev pub is_line_mark : Item → Bool
-is_line_mark (item.LineMark origin) = true
-is_line_mark _ = false
 
 -- a web, with the bytes of its source lines and the names of its files
 pub record WebRead : Type 0 where

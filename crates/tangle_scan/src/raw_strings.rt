@@ -56,14 +56,7 @@ fn is_in_delimiter(byte: u8) -> bool
 fn is_delimiter(bytes: &[u8]) -> bool
     ensures { result ≡ list_all raw.is_in_delimiter bytes.now }
 {
-    let mut left = bytes;
-    while let [byte, rest @ ..] = left {
-        if !is_in_delimiter(*byte) {
-            return false;
-        }
-        left = rest;
-    }
-    true
+    bytes.iter().all(|byte| is_in_delimiter(*byte))
 }
 
 /// The number of bytes before the first opening parenthesis.

@@ -6,8 +6,7 @@ ghost use Rattle.tangle_lexer.specs.Occurrences.{occurrence_of};
 ghost use Rattle.tangle_scan.specs.LineTruth.{PiecesAreAtTheirLines};
 ghost use Rattle.tangle_scan.specs.ReadAsMeant.{ItemsAreReadAsMeant};
 ghost use Rattle.tangle_scan.specs.WellFormed.{IsWellFormed};
-ghost use Rattle.tangle_scan.specs.Rules.{texts_of};
-ghost use Rattle.tangle_scan.specs.WebBuilder.{IsGathered, nothing, builder_with};
+ghost use Rattle.tangle_scan.specs.WebBuilder.{IsGathered};
 
 use crate::web_builder::WebBuilder;
 use crate::webs::Web;
@@ -18,8 +17,8 @@ use tangle_text::Reader;
 
 /// Gathers the pieces, macros and faults of a source, and the occurrences of its names.
 fn gather(alloc: Global, source: &Source) -> Result<(WebBuilder, Vec<Occurrence>), NoMemory>
-    ensures builder { IfOk result (λ r. IsGathered (texts_of source.now.lines) r.0
-        (builder_with source.now nothing (all_tokens source.now.lines))) }
+    ensures builder { IfOk result
+        (λ r. IsGathered source.now (all_tokens source.now.lines) r.0) }
     ensures occurrences { IfOk result
         (λ r. r.1.items ≡ map (occurrence_of source.now.lines) (all_occurrences source.now.lines)) }
 {

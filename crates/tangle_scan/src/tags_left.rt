@@ -63,11 +63,7 @@ fn first_tag(bytes: &[u8], run: u16) -> Option<ItemTag>
 fn size_within(size: u16, bytes: &[u8]) -> u16
     ensures { result ≡ min size (length bytes.now) }
 {
-    if bytes.len() < size as usize {
-        bytes.len() as u16
-    } else {
-        size
-    }
+    bytes.len().min(size as usize) as u16
 }
 
 impl<'o> TagsLeft<'o> {

@@ -25,10 +25,7 @@ pub(crate) enum TouchKind {
 fn byte_at(line: &[u8], column: usize) -> u8
     ensures { result ≡ get_or line.now column 0 }
 {
-    match line.get(column) {
-        Some(byte) => *byte,
-        None => 0,
-    }
+    line.get(column).copied().unwrap_or(0)
 }
 
 /// The byte at this column of a source line, or 0 if the source has no such byte.
@@ -121,24 +118,12 @@ pub(crate) fn would_merge(source: &Source, before: Token, token: Token) -> bool
 fn sign_kind(byte: u8) -> TouchKind
     ensures { result ≡ rules.sign_kind byte }
 {
-    match byte {
-        b'(' | b')' | b'[' | b']' | b'{' | b'}' | b';' | b',' | b'~' => TouchKind::Separator,
-        b'!'
-        | b'#'
-        | b'%'
-        | b'&'
-        | b'*'
-        | b'+'
-        | b'-'
-        | b'/'
-        | b':'
-        | b'<'
-        | b'='
-        | b'>'
-        | b'?'
-        | b'^'
-        | b'|' => TouchKind::Operator,
-        _ => TouchKind::Other,
+    if b"()[]{};,~".contains(&byte) {
+        TouchKind::Separator
+    } else if b"!#%&*+-/:<=>?^|".contains(&byte) {
+        TouchKind::Operator
+    } else {
+        TouchKind::Other
     }
 }
 

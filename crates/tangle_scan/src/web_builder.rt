@@ -1,18 +1,17 @@
 //! Gathers the pieces, macros and faults of a web from the tokens of its C parts and macros.
-ghost use Rattle.std.specs.Prelude.{◌≡◌, ◌≤◌, ◌<◌, ◌+◌, ◌^◌, ◌++◌, ◌∷◌, ◌||◌, ℕ, []};
-ghost use Rattle.std.specs.Prelude.{map, if◌then◌else◌, true, false, None, IfOk, OnOk};
+ghost use Rattle.std.specs.Prelude.{◌≡◌, ◌≤◌, ◌<◌, ◌+◌, ◌^◌, ◌++◌, ◌∷◌, ℕ, [], List};
+ghost use Rattle.std.specs.Prelude.{if◌then◌else◌, true, false, None, IfOk, OnOk};
 ghost use Rattle.std.specs.List.{All, list_any};
 ghost use Rattle.tangle_faults.specs.declared.faults.FaultKind.TheVariants as fault;
 ghost use Rattle.tangle_scan.specs.Rules as rules;
-ghost use Rattle.tangle_lines.specs.Reading.{origin_at};
 ghost use Rattle.tangle_scan.specs.Web as web;
 ghost use Rattle.tangle_lexer.specs.Heads.{is_head};
 ghost use Rattle.tangle_lexer.specs.Runs.{unfolded, HasNoRun, IsRunIn};
+ghost use Rattle.tangle_lexer.specs.declared.tokens.Token.{Token as TokenRead};
 ghost use Rattle.tangle_lexer.specs.declared.tokens.Token.TheVariants as token;
 ghost use Rattle.tangle_scan.specs.MacroBytes.{macro_bytes};
 ghost use Rattle.tangle_scan.specs.Rules.{texts_of};
-ghost use Rattle.tangle_scan.specs.WebBuilder.{IsGathered, WebBuilderRead, builder_with};
-ghost use Rattle.tangle_scan.specs.WebBuilder.{nothing_stored};
+ghost use Rattle.tangle_scan.specs.WebBuilder.{IsGathered, nothing_stored, part_head};
 
 use crate::faults::{add_fault, add_faults, add_macro_faults};
 use crate::items::{Item, OccurrenceNumber};
@@ -91,9 +90,8 @@ impl WebBuilder {
     ) -> Result<(), NoMemory>
         requires no_head { list_any is_head tokens.now ≡ false }
         requires runs { All (IsRunIn (texts_of source.now.lines)) tokens.now }
-        ensures builder { OnOk result (let texts = texts_of source.now.lines in
-            (read : WebBuilderRead) → IsGathered texts self.old read
-            → IsGathered texts self.new (builder_with source.now read (unfolded texts tokens.now))) }
+        ensures builder { OnOk result (IsGathered source.now [] self.old → IsGathered source.now
+            (unfolded (texts_of source.now.lines) tokens.now) self.new) }
         ensures sections { OnOk result (self.new.sections ≡ self.old.sections) }
     {
         add_faults(alloc, source, &mut self.faults, tokens)?;
@@ -131,21 +129,9 @@ impl WebBuilder {
     ) -> Result<(), NoMemory>
         requires no_head { list_any is_head tokens.now ≡ false }
         requires runs { All (IsRunIn (texts_of source.now.lines)) tokens.now }
-        ensures piece { OnOk result (let texts = texts_of source.now.lines in
-            (read : WebBuilderRead) → IsGathered texts self.old read
-            → IsGathered texts self.new (record read {
-              pieces = read.pieces ++ record {
-                section = read.sections;
-                origin = origin_at source.now.lines line;
-                occurrence = occurrence;
-                items = rules.part_items source.now.lines line (unfolded texts tokens.now);
-              } ∷ [];
-              has_all_macros =
-                  read.has_all_macros || list_any web.is_all_macros (unfolded texts tokens.now);
-              faults = read.faults
-                  ++ web.token_faults source.now.files source.now.lines None
-                  (unfolded texts tokens.now);
-            })) }
+        ensures piece { OnOk result ((before : List TokenRead) → IsGathered source.now before self.old
+            → IsGathered source.now (before ++ part_head line occurrence
+            ∷ unfolded (texts_of source.now.lines) tokens.now) self.new) }
         ensures sections { OnOk result (self.new.sections ≡ self.old.sections) }
     {
         let has_all_macros = fill_part(
@@ -209,10 +195,9 @@ impl WebBuilder {
         requires no_head { list_any is_head tokens.now ≡ false }
         requires runs { All (IsRunIn (texts_of source.now.lines)) tokens.now }
         requires no_run { (line : ℕ) → head ≡ token.MacroStart line → HasNoRun tokens.now }
-        ensures builder { OnOk result (let texts = texts_of source.now.lines in
-            (read : WebBuilderRead) → IsGathered texts self.old read
-            → IsGathered texts self.new
-            (builder_with source.now read (head ∷ unfolded texts tokens.now))) }
+        ensures builder { OnOk result ((before : List TokenRead) → IsGathered source.now before self.old
+            → IsGathered source.now
+            (before ++ head ∷ unfolded (texts_of source.now.lines) tokens.now) self.new) }
         ensures sections { OnOk result (self.new.sections ≤ self.old.sections + 1) }
     {
         match head {

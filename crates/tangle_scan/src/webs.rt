@@ -2,11 +2,11 @@
 ghost use Rattle.std.specs.Prelude.{◌≡◌, ◌≤◌, ◌<◌, [], flat_map, get_or, length, map, slice_index_or};
 ghost use Rattle.std.specs.List.{All};
 ghost use Rattle.tangle_files.specs.Adding.{most_files};
+ghost use Rattle.tangle_lexer.specs.Steps.{all_tokens};
 ghost use Rattle.tangle_scan.specs.MacroBytes.{macro_bytes};
-ghost use Rattle.tangle_scan.specs.Rules.{texts_of};
 ghost use Rattle.tangle_scan.specs.Texts.{IsTextOf, text_of};
 ghost use Rattle.tangle_scan.specs.Web.{no_piece, stored_piece, web_of};
-ghost use Rattle.tangle_scan.specs.WebBuilder.{IsGathered, gathered_of};
+ghost use Rattle.tangle_scan.specs.WebBuilder.{IsGathered};
 ghost use Rattle.tangle_scan.specs.WellFormed.{IsWellFormed};
 
 use crate::pieces::Piece;
@@ -26,9 +26,9 @@ pub struct Web<'s, 'a> {
 }
 
 impl<'s, 'a> Model for Web<'s, 'a> {
-    ghost use Rattle.tangle_scan.specs.Rules.{texts_of};
+    ghost use Rattle.tangle_lexer.specs.Steps.{all_tokens};
     ghost use Rattle.tangle_scan.specs.Web.{WebRead, web_of};
-    ghost use Rattle.tangle_scan.specs.WebBuilder.{IsGathered, gathered_of};
+    ghost use Rattle.tangle_scan.specs.WebBuilder.{IsGathered};
     ghost use Rattle.tangle_scan.specs.WellFormed.{IsWellFormed};
     ghost use Rattle.std.specs.Prelude.{◌≡◌};
 
@@ -37,7 +37,7 @@ impl<'s, 'a> Model for Web<'s, 'a> {
     ghost view = { λ w. web_of w.source.now };
 
     ghost invariant = { λ w. record {
-      gathered : IsGathered (texts_of w.source.now.lines) w.builder (gathered_of (web_of w.source.now));
+      gathered : IsGathered w.source.now (all_tokens w.source.now.lines) w.builder;
       occurrences : w.occurrences.items ≡ (web_of w.source.now).occurrences;
       well_formed : IsWellFormed (web_of w.source.now);
     } };
@@ -50,8 +50,7 @@ impl<'s, 'a> Web<'s, 'a> {
         builder: WebBuilder,
         occurrences: Vec<Occurrence>,
     ) -> Self
-        requires gathered { IsGathered (texts_of source.now.lines) builder
-            (gathered_of (web_of source.now)) }
+        requires gathered { IsGathered source.now (all_tokens source.now.lines) builder }
         requires occurrences { occurrences.items ≡ (web_of source.now).occurrences }
         requires well_formed { IsWellFormed (web_of source.now) }
         ensures { result ≡ web_of source.now }

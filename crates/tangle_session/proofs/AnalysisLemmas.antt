@@ -1,15 +1,14 @@
 -- The analysis of a web is made from its files and roles.
 use Rattle.std.proofs.Common.{rules}
-use Rattle.std.proofs.Common.{◌≡◌, ◌∙◌, ◌++◌, List, ap, refl, sym, append_assoc}
+use Rattle.std.proofs.Common.{◌≡◌, ◌++◌, List, refl, append_assoc}
 use Rattle.tangle_faults.specs.Faults.{FaultRead}
 use Rattle.tangle_files.specs.Lines.{FileTable}
 use Rattle.tangle_lines.specs.Reading.{source_of}
 use Rattle.tangle_files.specs.Roles.{RolesRead}
 use Rattle.tangle_files.specs.declared.marks.MarkMode.{MarkMode}
 use Rattle.tangle_scan.specs.Web.{web_of}
-use Rattle.tangle_names.specs.NameTable.{table_over}
 use Rattle.tangle_session.specs.Headline.{source_at, web_at}
-use Rattle.tangle_session.specs.States.{IsAnalysis, IsAnalysisAt}
+use Rattle.tangle_session.specs.States.{IsAnalysisAt}
 use Rattle.tangle_session.specs.declared.analysis.Analysis.{Analysis}
 
 pub faults_joined : (s w t g a b c : List FaultRead) → a ≡ s ++ w → b ≡ a ++ t → c ≡ b ++ g → c ≡ s ++ (w ++ (t ++ g))
@@ -29,7 +28,3 @@ scanned_at files roles = refl
 pub analysis_of : (files : FileTable) (roles : RolesRead) (marks : MarkMode) (analysis : Analysis) → marks ≡ roles.marks
     → IsAnalysisAt files (record roles { marks = marks }) analysis → IsAnalysisAt files roles analysis
 analysis_of files roles marks analysis same is = search rules
-
--- the table of an analysis is that of the analysis's occurrences
-pub table_before : (analysis : Analysis) → IsAnalysis analysis → analysis.table ≡ table_over analysis.occurrences.items
-table_before analysis is = is.made.table ∙ ap table_over (sym is.made.occurrences)

@@ -16,9 +16,8 @@ use Rattle.tangle_files.specs.Roles.{RolesRead, fits}
 use Rattle.tangle_files.specs.declared.edits.Edit.{Edit}
 use Rattle.tangle_files.specs.declared.edits.Edit.TheVariants.{Discard}
 use Rattle.tangle_files.proofs.TableLemmas.{has_file-append}
-use Rattle.tangle_files.specs.declared.marks.MarkMode.{MarkMode}
 use Rattle.tangle_files.specs.declared.refusal.Refusal.{Refusal}
-use Rattle.tangle_session.specs.Edits.{first_refused, list_refusal, of_first}
+use Rattle.tangle_session.specs.Edits.{first_refused, list_refusal}
 use Rattle.tangle_session.specs.Edits.{session_refusal}
 use Rattle.tangle_session.specs.declared.refusing.ListRefusal.{ListRefusal}
 
@@ -70,10 +69,6 @@ pub fits_made : (files made : FileTable) (roles : RolesRead) (edits : List Edit)
     → fits files roles ≡ true → list_refusal files roles edits ≡ None → fits made roles ≡ true
 fits_made files made roles edits is h none = search (rules, fits_all)
 
--- a list of one edit is refused where the edit is
-pub one_refused : (o : Option Refusal) → first_refused o None ≡ option_map of_first o
-one_refused o = search rules
-
 -- The first refusal of the remaining edits, the first of which has this number.
 abbrev pub refused_at : ℕ → Option Refusal → Option ListRefusal → Option ListRefusal
 refused_at at (Some refusal) after = Some (record { at = at; refusal = refusal })
@@ -105,8 +100,3 @@ later_by_none refused = search rules
 pub from_none : (files : FileTable) (roles : RolesRead) (edits : List Edit)
     → refused_from 0 files roles edits ≡ list_refusal files roles edits
 from_none files roles edits = from_later 0 files roles edits ∙ later_by_none (list_refusal files roles edits)
-
--- why an edit is refused does not depend on how line marks are written
-pub refused_alike : (files : FileTable) (roles : RolesRead) (marks : MarkMode) (edit : Edit)
-    → session_refusal files (record roles { marks = marks }) edit ≡ session_refusal files roles edit
-refused_alike files roles marks edit = search rules

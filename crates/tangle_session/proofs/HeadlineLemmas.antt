@@ -2,15 +2,14 @@
 use Rattle.std.proofs.Common.{arith}
 use Rattle.std.proofs.Common.{rules}
 use Rattle.std.proofs.lemmas.Bool.Decides.{nat_tests}
-use Rattle.std.proofs.Common.{◌≡◌, ℕ, List, [], ◌∷◌, ◌++◌, refl, ap, sym, subst, append_assoc, append-nil}
+use Rattle.std.proofs.Common.{◌≡◌, List, [], ◌∷◌, ◌++◌, refl, ap, sym, subst, append_assoc, append-nil}
 use Rattle.std.specs.Prelude.{Ok, Err, Result, length}
 use Rattle.tangle_files.specs.Edited.{edited, edited_all, edited_roles, joined, roles_after}
 use Rattle.tangle_files.specs.Lines.{FileTable}
 use Rattle.tangle_files.specs.Roles.{RolesRead}
 use Rattle.tangle_files.specs.declared.edits.Edit.{Edit}
-use Rattle.tangle_faults.specs.Faults.{FaultRead}
 use Rattle.tangle_session.specs.Headline.{AreMade, Call, Apply, ApplyAll, History, Started, Answered, IsAnswered}
-use Rattle.tangle_session.specs.Headline.{ByStart, ByLast, HasMade, IsPlainTangling, list_calls}
+use Rattle.tangle_session.specs.Headline.{ByStart, ByLast, HasMade, list_calls}
 use Rattle.tangle_session.specs.Headline.{accepted, files_after, roles_with, web_after, web_at}
 use Rattle.tangle_session.specs.Sessions.{SessionRead}
 use Rattle.tangle_session.specs.declared.refusing.ListRefusal.{ListRefusal}
@@ -68,15 +67,6 @@ ends files roles calls session (Started is) =
 ends files roles calls session (Answered {calls = earlier} before call history is) =
     subst (λ lists. HasMade files roles lists session) (sym (accepted-append earlier (call ∷ [])))
     (answered files roles (accepted earlier) before session (ends files roles earlier before history) call is)
-
-pub shown : (files : FileTable) (roles : RolesRead) (calls : List Call) (session : SessionRead)
-    (made_files : List (List ℕ × List ℕ)) (faults : List FaultRead)
-    → History files roles calls session → IsPlainTangling session.files session.roles made_files faults
-    → IsPlainTangling (files_after files (accepted calls)) (roles_with roles (accepted calls)) made_files faults
-shown files roles calls session made_files faults history is =
-    let made = ends files roles calls session history in
-    subst (λ (at : FileTable × RolesRead). IsPlainTangling at.0 at.1 made_files faults)
-    (λ i. (made.files_are i, made.roles_are i)) is
 
 -- one more list, and its answer
 pub calls-more : (lists : List (List Edit)) (answers : List (Result (Unit {0}) ListRefusal)) (edits : List Edit)

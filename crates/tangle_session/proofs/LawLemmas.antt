@@ -1,7 +1,7 @@
 -- The laws of the headline: one tangling, no cycle below an output, and each cycle reported.
 use Rattle.std.proofs.Common.{rules}
-use Rattle.std.proofs.Common.{◌≡◌, ◌∙◌, ◌<◌, ◌++◌, ℕ, zero, suc, Bool, true, false, List, [], ◌∷◌, length}
-use Rattle.std.proofs.Common.{flat_map, get_or, refl, ap, sym, subst, arith}
+use Rattle.std.proofs.Common.{◌≡◌, ◌∙◌, ◌<◌, ℕ, zero, suc, true, List, [], ◌∷◌, length}
+use Rattle.std.proofs.Common.{flat_map, get_or, refl, sym, subst, arith}
 use Rattle.std.specs.Prelude.{Some, Contains, slice_get}
 use Rattle.std.proofs.lemmas.List.{get_or-map, get_or_default}
 use Rattle.std.proofs.lemmas.List.Elements.{Contains-append_left, Contains-append_right}
@@ -22,7 +22,8 @@ use Rattle.tangle_bodies.specs.Shapes.{Title, Named, Shapes, Uses}
 use Rattle.digraph.specs.Reach.{Reaches, here, on, ContainsItself}
 use Rattle.tangle_graph.specs.Faults.{AreGraphFaults, fault_of, fault_occurrence, faults_of_names}
 use Rattle.tangle_bodies.specs.Nodes.{title_at}
-use Rattle.tangle_graph.proofs.FaultLemmas.{one_list}
+use Rattle.std.proofs.Common.{inl, inr}
+use Rattle.std.proofs.lemmas.Bool.{cases_Bool}
 use Rattle.tangle_graph.proofs.NodeLemmas.{title_inside}
 use Rattle.tangle_graph.proofs.NodeMeasureLemmas.{there}
 use Rattle.tangle_graph.proofs.OutputLemmas.{IsFit, outputs_fit}
@@ -33,20 +34,7 @@ use Rattle.tangle_session.specs.Headline.{EachCycleIsReported, IsPlainTangling, 
 use Rattle.tangle_session.specs.Headline.{source_at, web_at}
 use Rattle.tangle_session.specs.Sessions.{shapes_of}
 use Rattle.tangle_names.proofs.FirstLemmas.{some_of}
-use Rattle.tangle_session.proofs.NameLemmas.{in_range}
-
-pub one_tangling : (files : FileTable) (roles : RolesRead)
-    (one other : List (List ℕ × List ℕ)) (faults others : List FaultRead)
-    → IsPlainTangling files roles one faults → IsPlainTangling files roles other others
-    → (one ≡ other) × (faults ≡ others)
-one_tangling files roles one other faults others x y =
-    let web = web_at files roles in (
-      x.writing ∙ sym y.writing,
-      x.reporting
-          ∙ ap (λ l. (source_at files roles).faults ++ (web.faults ++ (name_faults web ++ l)))
-          (one_list web (table_of web) roles.out x.of_graph y.of_graph x.are_of_graph y.are_of_graph)
-          ∙ sym y.reporting,
-    )
+use Rattle.digraph.proofs.UserLemmas.{in_range}
 
 -- no cycle below an output
 
@@ -61,11 +49,10 @@ none_reached shapes node other e (on {b = used} u r) c = no_use shapes node used
 no_cycle_below : (shapes : Shapes) (names : List (List ℕ)) (output : OutputRead) (other : Title)
     → IsFit shapes names output → Reaches (Uses shapes) (title_at names output.node) other
     → ContainsItself (Uses shapes) other → ⊥
-no_cycle_below shapes names output other fit r c = by output.has_piece refl
-  where
-    by : (b : Bool) → output.has_piece ≡ b → ⊥
-    by true e = unaffected.no_cycle levels heaviest shapes (title_at names output.node) (fit.there e) (other, r, c)
-    by false e = none_reached shapes (title_at names output.node) other (fit.none e) r c
+no_cycle_below shapes names output other fit r c = elim (cases_Bool output.has_piece) [
+  | inl e ↦ unaffected.no_cycle levels heaviest shapes (title_at names output.node) (fit.there e) (other, r, c)
+  | inr e ↦ none_reached shapes (title_at names output.node) other (fit.none e) r c
+]
 
 pub no_cycle : (files : FileTable) (roles : RolesRead) → NoOutputReachesACycle files roles
 no_cycle files roles output other listed =
@@ -112,15 +99,9 @@ module _ (web : WebRead) (out : List ℕ) (faults : List FaultRead)
 
   pub reported : Contains faults fault
   reported =
-      subst (λ l. Contains l fault) (sym are.list)
-      (Contains-append_right
-      (faults_of_names web (table_of web) out are.contains_itself are.reaches_cycle kind.Undefined)
-      _ fault
-      (Contains-append_right (faults_of_names web (table_of web) out are.contains_itself are.reaches_cycle kind.Unused)
-      _ fault
-      (Contains-append_left
-      (faults_of_names web (table_of web) out are.contains_itself are.reaches_cycle
-      kind.SelfContaining) _ fault among)))
+      let of = faults_of_names web (table_of web) out are.contains_itself are.reaches_cycle in
+      subst (λ l. Contains l fault) (sym are.list) (Contains-append_right (of kind.Undefined) _ fault
+      (Contains-append_right (of kind.Unused) _ fault (Contains-append_left (of kind.SelfContaining) _ fault among)))
 
 pub reported_in : (files : FileTable) (roles : RolesRead) (made : List (List ℕ × List ℕ)) (faults : List FaultRead)
     → IsPlainTangling files roles made faults → EachCycleIsReported files roles faults

@@ -3,18 +3,17 @@ use Rattle.std.proofs.Common.{rules}
 use Rattle.std.proofs.lemmas.Bool.Decides.{nat_tests}
 use Rattle.std.proofs.Common.{◌≡◌, ◌≢◌, ◌∙◌, ◌<◌, ◌≤◌, ◌+◌, ◌++◌, ℕ, zero, suc, true}
 use Rattle.std.proofs.Common.{map, filter, flat_map, get_or, ap, sym, subst, arith, length, ◌∷◌, [], List}
-use Rattle.std.proofs.Common.{Bool, false, not, ◌&&◌, ◌||◌, true≢false, zero-add}
+use Rattle.std.proofs.Common.{Bool, false, not, ◌&&◌, ◌||◌, true≢false}
 use Rattle.std.specs.Prelude.{Some, All, AllPairs, Contains, is_some, nat_le, nat_lt}
 use Rattle.std.specs.List.{IsDistinct, list_any, range_with_len}
 use Rattle.std.specs.Str.{bytes_eq}
 use Rattle.std.proofs.Math.Decide.{dec_lt}
-use Rattle.std.proofs.lemmas.Bool.{and_from, and_parts, or_parts}
+use Rattle.std.proofs.lemmas.Bool.{and_from, and_parts}
 use Rattle.std.proofs.lemmas.Cmp.{nat_list_eq_equiv}
 use Rattle.std.proofs.lemmas.List.{get_or-map, length-map}
 use Rattle.std.proofs.lemmas.Simd.{map-map}
 use Rattle.std.proofs.lemmas.List.Elements.{All-append, All-nil, All-map, All-filter, filter_passes}
 use Rattle.std.proofs.lemmas.List.Folds.{list_any-from_Any}
-use Rattle.std.proofs.lemmas.List.FromFn.{get_or-range_with_len, length-range_with_len}
 use Rattle.std.proofs.lemmas.List.Kept.{AllPairs-cons, AllPairs-filter}
 use Rattle.std.proofs.lemmas.Map.Made.{AllPairs-from_IsDistinct, IsDistinct-from_AllPairs}
 use Rattle.std.proofs.lemmas.Map.Views.{lookup-from_Contains}
@@ -33,10 +32,11 @@ use Rattle.tangle_bodies.specs.WebShapes.{name_at, resolved_at, shapes}
 use Rattle.tangle_expansion.specs.Limits.{heaviest, levels}
 use Rattle.tangle_graph.specs.Grouping.{has_number_in}
 use Rattle.tangle_graph.specs.Outputs.{file_names, first_file_name, first_file_occurrence}
-use Rattle.tangle_graph.specs.Outputs.{form_at, is_earlier_file, is_expandable, is_file, is_main_file, is_named_file}
+use Rattle.tangle_graph.specs.Outputs.{form_at, is_earlier_file, is_file, is_named_file}
 use Rattle.tangle_graph.specs.Outputs.{is_written, named_file, outputs, shape_has_piece}
 use Rattle.tangle_graph.specs.PlainForms.{plain_form}
 use Rattle.tangle_session.specs.Headline.{output_at, output_bytes, output_files, table_at, web_at}
+use Rattle.digraph.proofs.UserLemmas.{in_range}
 use Rattle.tangle_session.proofs.OutputLemmas.{names_written}
 
 -- a name comes at its first occurrence with `@(`, and so once
@@ -72,14 +72,14 @@ module _ (table : TableRead) where
           grind (arith, nat_tests, are 0 x (omega arith), later (a + 1) n i d h))) rest
       by (x ∷ y ∷ ids) are few rest = search rules
 
-pub in_range : (n k : ℕ) → k < n → Contains (range_with_len 0 n) k
-in_range n k h = (k, omega (arith, length-range_with_len 0 n), get_or-range_with_len 0 n k k h ∙ zero-add k)
-
 of_not : (b : Bool) → not b ≡ true → b ≡ false
 of_not b h = search rules
 
-unclashed : (f s : Bool) → f ≡ true → (f && s) ≡ false → (f && not s) ≡ true
-unclashed f s is no_clash = ap (λ b. b && not s) is ∙ ap not (ap (λ b. b && s) (sym is) ∙ no_clash)
+-- a file that is written, by the tests that say so
+owned : (has within marked same earlier : Bool) → marked ≡ true
+    → ((has && within) && not (((marked && has) && same) || earlier)) ≡ true
+    → (((marked && has) && not same) ≡ true) × (earlier ≡ false)
+owned has within marked same earlier m is = grind (arith, nat_tests)
 
 abbrev name_of : OutputRead → List ℕ
 name_of o = o.name
@@ -88,21 +88,18 @@ module _ (web : WebRead) (out : List ℕ) where
   abbrev table : TableRead
   table = table_of web
 
-  ids : List ℕ
+  abbrev ids : List ℕ
   ids = filter (is_written web table out) (file_names web table)
 
   ids_once : AllPairs (λ a b. a ≢ b) ids
-  unfolding ids
   ids_once = AllPairs-filter (λ a b. a ≢ b) (is_written web table out) (file_names web table)
       (apart table 0 (length web.occurrences))
 
   ids_written : All (λ id. is_written web table out id ≡ true) ids
-  unfolding ids
   ids_written = filter_passes (is_written web table out) (file_names web table)
 
   -- each has an occurrence with `@(`
   ids_marked : All (λ id. is_some (first_file_occurrence table id) ≡ true) ids
-  unfolding ids
   ids_marked = All-filter (is_written web table out) (λ id. is_some (first_file_occurrence table id) ≡ true)
       (file_names web table)
       (λ i d h. (let from = later table 0 (length web.occurrences) i d h in ap is_some from.1))
@@ -115,19 +112,11 @@ module _ (web : WebRead) (out : List ℕ) where
   own : (id : ℕ) → is_some (first_file_occurrence table id) ≡ true → is_written web table out id ≡ true → IsOwn id
   own id marked is =
       let title = Named (name_at table id) in
-      let both = and_parts (is_expandable (shapes web table) title)
-      (not (is_main_file (shapes web table) table out id || is_earlier_file (shapes web table) table out id)) is in
-      let has = (and_parts (shape_has_piece (shapes web table title))
+      let tests = owned (shape_has_piece (shapes web table title))
       (nat_lt (depth levels (shapes web table) title) levels && nat_le (weight levels (shapes web table) title) heaviest)
-      both.0).0 in
-      let apart = or_parts (is_main_file (shapes web table) table out id) (is_earlier_file (shapes web table) table out id)
-      (of_not _ both.1) in
-      record {
-        named = unclashed (is_file (shapes web table) table id) (bytes_eq (form_at table id) (plain_form out))
-            (and_from (is_some (first_file_occurrence table id)) (shape_has_piece (shapes web table title)) marked has)
-            apart.0;
-        first = apart.1;
-      }
+      (is_some (first_file_occurrence table id)) (bytes_eq (form_at table id) (plain_form out))
+      (is_earlier_file (shapes web table) table out id) marked is in
+      record { named = tests.0; first = tests.1 }
 
   ids_own : All IsOwn ids
   ids_own i d h = own (get_or ids i d) (ids_marked i d h) (ids_written i d h)
@@ -173,7 +162,6 @@ module _ (web : WebRead) (out : List ℕ) where
       ids (λ i d h. not_main (get_or ids i d) (ids_own i d h)))
 
   pub forms_once : AllPairs (λ a b. a ≢ b) (map plain_form (map name_of (outputs web table out)))
-  unfolding ids
   forms_once = search (rules, main_apart, named_once)
 
 -- where no two of the values that a function gives are equal, no two of its arguments are

@@ -1,6 +1,6 @@
 -- The fields of a session's state, which are made one after another, agree with the files.
 use Rattle.std.proofs.Common.{rules}
-use Rattle.std.proofs.Common.{◌≡◌, ◌∙◌, arith, ℕ, Bool, true, false, List, [], ◌∷◌, length, refl, ap, sym}
+use Rattle.std.proofs.Common.{◌≡◌, ◌∙◌, arith, ℕ, Bool, true, false, List, [], ◌∷◌, refl, ap, sym}
 use Rattle.std.proofs.Common.{subst, Bor, Contains, map}
 use Rattle.std.specs.List.{IsDistinct}
 use Rattle.std.specs.Option.{option_copied, option_map}
@@ -58,12 +58,6 @@ lists_nodes web store nodes is names_are lists = record {
       ));
 }
 
--- the list that has each affected node of the store has each affected node of the web
-pub lists_titles : (old new : WebRead) (store : StoreRead) (nodes : List Node)
-    → IsStoreOf (shapes_of new) store → store.names ≡ (table_of new).names
-    → affected.ListsAffected (shapes_of old) (shapes_of new) store nodes → ListsAffectedOfWebs old new nodes
-lists_titles old new store nodes is names_are lists = record { once = lists.once; just = rw names_are at lists.just }
-
 -- the web does not depend on the setting for line marks
 pub same_web : (files : FileTable) (roles : RolesRead) (marks : MarkMode)
     → web_at files (record roles { marks = marks }) ≡ web_at files roles
@@ -105,7 +99,7 @@ located files roles node =
     node_is_located (source_at files roles) (web_at files roles) levels node true None (web-line-truth (source_at files roles))
 
 -- Finding an output by its name in a session.
-module _ (state : SessionState) (roles : RolesRead) (session : SessionRead) (view : view_of state roles ≡ session)
+module _ {state : SessionState} {roles : RolesRead} {session : SessionRead} (view : view_of state roles ≡ session)
     (hold : AgreesWithFiles state.files roles state) (name : List ℕ) where
   abbrev named : OutputRead → Bool
   named o = bytes_eq name o.name
@@ -119,7 +113,7 @@ module _ (state : SessionState) (roles : RolesRead) (session : SessionRead) (vie
   -- no two outputs of the store have the same name
   pub names_apart : IsDistinct bytes_eq (map (λ (o : OutputRead). o.name) state.analysis.store.outputs)
   names_apart =
-      subst (λ os. IsDistinct bytes_eq (map (λ (o : OutputRead). o.name) os)) (sym hold.analysis.outputs_are)
+      subst (λ os. IsDistinct bytes_eq (map (λ (o : OutputRead). o.name) os)) (sym hold.analysis.store.outputs)
       (subst (IsDistinct bytes_eq) (sym (names_written bytes_of (outputs web (table_of web) roles.out)))
       (names_distinct state.files roles))
 
@@ -128,14 +122,10 @@ module _ (state : SessionState) (roles : RolesRead) (session : SessionRead) (vie
   looked_up =
       ap (λ (s : SessionRead). output_at s.files s.roles name) (sym view)
       ∙ look_up bytes_of name (outputs web (table_of web) roles.out)
-      ∙ ap (λ os. option_map bytes_of (find named os)) (sym hold.analysis.outputs_are)
+      ∙ ap (λ os. option_map bytes_of (find named os)) (sym hold.analysis.store.outputs)
 
-  none_at : find named state.analysis.store.outputs ≡ None → output_at session.files session.roles name ≡ None
+  pub none_at : find named state.analysis.store.outputs ≡ None → output_at session.files session.roles name ≡ None
   none_at e = looked_up ∙ ap (option_map bytes_of) e
-
-  pub no_size : find named state.analysis.store.outputs ≡ None
-      → None ≡ option_map length (output_at session.files session.roles name)
-  no_size e = ap (option_map length) (sym (none_at e))
 
   pub writes_none : (old new : Stream) → find named state.analysis.store.outputs ≡ None → new ≡ old
       → WritesOutput (output_at session.files session.roles name) old new (Err refusal.NoOutput)
@@ -147,27 +137,24 @@ module _ (state : SessionState) (roles : RolesRead) (session : SessionRead) (vie
     some_at = looked_up ∙ ap (option_map bytes_of) found
 
     found_there : find named (outputs web (table_of web) roles.out) ≡ Some output
-    found_there = ap (find named) (sym hold.analysis.outputs_are) ∙ found
+    found_there = ap (find named) (sym hold.analysis.store.outputs) ∙ found
 
     fit : IsFit (shapes_of web) state.analysis.store.names output
-    fit = subst (λ names. IsFit (shapes_of web) names output) (sym hold.analysis.store_names)
+    fit = subst (λ names. IsFit (shapes_of web) names output) (sym hold.analysis.store.names)
         (outputs_fit web (table_of web) (table_inside web) roles.out output
         (found_in named (outputs web (table_of web) roles.out) output found_there))
 
     pub is_ready : IsReady output state.kept
     is_ready = ready (shapes_of web) state.analysis.store
-        state.kept hold.analysis.store hold.kept output fit (λ shapes node e. e.light)
+        state.kept hold.analysis.store.store hold.kept output fit (λ shapes node e. e.light)
 
     abbrev bytes : List ℕ
     bytes = kept_output_bytes state.analysis.numbers state.kept output
 
-    is_its : output_at session.files session.roles name ≡ Some bytes
+    pub is_its : output_at session.files session.roles name ≡ Some bytes
     is_its = some_at ∙ ap Some (sym (ap (λ n. kept_output_bytes n state.kept output) hold.analysis.numbers
         ∙ same_bytes state.files roles state.analysis.store state.kept
-        hold.analysis.store hold.analysis.store_names hold.kept output fit))
-
-    pub its_size : Some (length bytes) ≡ option_map length (output_at session.files session.roles name)
-    its_size = ap (option_map length) (sym is_its)
+        hold.analysis.store.store hold.analysis.store.names hold.kept output fit))
 
     pub writes_it : (old new : Stream) (r : Result ℕ Refusal) → WritesOut old new bytes r
         → WritesOutput (output_at session.files session.roles name) old new r

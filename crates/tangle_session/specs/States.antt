@@ -2,9 +2,9 @@
 use Rattle.std.specs.Prelude.{◌≡◌, true}
 use Rattle.tangle_files.specs.Lines.{FileTable}
 use Rattle.tangle_files.specs.Roles.{RolesRead, fits}
+use Rattle.tangle_names.specs.NameTable.{table_over}
 use Rattle.tangle_expansion.specs.Numbers.{numbers_of}
-use Rattle.tangle_graph.specs.Outputs.{outputs}
-use Rattle.tangle_graph.specs.Stores.{IsStoreOf}
+use Rattle.tangle_graph.specs.WebStores.{IsStoreOfWeb}
 use Rattle.tangle_graph.specs.Keeping.{KeepsJust}
 use Rattle.tangle_session.specs.Headline.{IsPlainTangling, output_files}
 use Rattle.tangle_session.specs.Headline.{table_at, web_at}
@@ -18,19 +18,14 @@ pub record IsAnalysisAt (files : FileTable) (roles : RolesRead)
     (analysis : Analysis) : Type 0 where
   pub occurrences : analysis.occurrences.items ≡ (web_at files roles).occurrences
   pub table : analysis.table ≡ table_at files roles
-  pub store : IsStoreOf (shapes_of (web_at files roles)) analysis.store
-  pub store_names : analysis.store.names ≡ (table_at files roles).names
-  pub outputs_are : analysis.store.outputs
-      ≡ outputs (web_at files roles) (table_at files roles) roles.out
+  pub store : IsStoreOfWeb (web_at files roles) (table_at files roles) roles.out analysis.store
   pub numbers : analysis.numbers
       ≡ numbers_of (web_at files roles) (table_at files roles) roles.marks
   pub plain : IsPlainTangling files roles (output_files files roles) analysis.faults.items
 
--- the analysis is made from some files and roles
-pub record IsAnalysis (analysis : Analysis) : Type 0 where
-  pub files : FileTable
-  pub roles : RolesRead
-  pub made : IsAnalysisAt files roles analysis
+-- the table of the analysis is that of its occurrences
+abbrev pub HasItsTable : Analysis → Type 0
+HasItsTable analysis = analysis.table ≡ table_over analysis.occurrences.items
 
 -- The state is made from the files, which have the web and the change file, and keeps the expansion
 -- of each expandable node.

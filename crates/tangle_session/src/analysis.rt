@@ -4,7 +4,7 @@ ghost use Rattle.tangle_files.specs.Roles.{fits};
 ghost use Rattle.tangle_names.specs.NameTable.{table_of};
 ghost use Rattle.tangle_graph.specs.Stores.{AreNewShapes};
 ghost use Rattle.tangle_graph.specs.WebStores.{IsStoreOfWeb};
-ghost use Rattle.tangle_session.specs.States.{IsAnalysis, IsAnalysisAt};
+ghost use Rattle.tangle_session.specs.States.{HasItsTable, IsAnalysisAt};
 
 use std::alloc::Global;
 use tangle_expansion::Numbers;
@@ -29,7 +29,7 @@ pub(crate) struct Analysis {
 
 /// Makes the table of a web's names, from the table of the old analysis if there is one.
 fn name_table(alloc: Global, web: &Web, old: Option<&Analysis>) -> Result<NameTable, NoMemory>
-    requires { IfSome old (λ before. IsAnalysis before.now) }
+    requires { IfSome old (λ before. HasItsTable before.now) }
     ensures { IfOk result (λ table. table ≡ table_of web.now) }
 {
     match old {
@@ -70,7 +70,7 @@ impl Analysis {
         old: Option<&Analysis>,
     ) -> Result<Analysis, NoMemory>
         requires fits { fits files.now roles.now ≡ true }
-        requires old { IfSome old (λ before. IsAnalysis before.now) }
+        requires old { IfSome old (λ before. HasItsTable before.now) }
         ensures made { IfOk result (λ made.
             IsAnalysisAt files.now (record roles.now { marks = marks }) made) }
         ensures new_shapes { IfOk result (λ made. IfSome old.entry

@@ -12,7 +12,7 @@ ghost use Rattle.tangle_session.specs.Writes.{IsTrueFile, WritesOutput};
 use crate::analysis::Analysis;
 use crate::outputs::OutputNames;
 use crate::refusing::{ListRefusal, refusal_to_apply};
-use crate::tangling::{SessionState, marks_after, tangle_again};
+use crate::tangling::{SessionState, mode_after, tangle_again};
 use std::alloc::Global;
 use std::marker::Model;
 use tangle_expansion::{Work, file_size, write_file};
@@ -132,7 +132,7 @@ impl Session {
     {
         // The setting of line marks, on which neither the web nor a refusal depends, is changed
         // last: this cannot fail, and by then the new state is whole.
-        let marks = marks_after(&self.roles, edits);
+        let marks = mode_after(&self.roles, edits);
         let next = tangle_again(self.alloc, &self.state, &self.roles, edits, marks)?;
         self.roles.set_marks(marks);
         self.state = next;

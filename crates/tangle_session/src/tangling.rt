@@ -53,7 +53,7 @@ impl SessionState {
 
 /// The setting for line marks after a list of edits: that of the last edit which sets it, if any
 /// does.
-pub(crate) fn marks_after(roles: &Roles, edits: &[Edit]) -> MarkMode
+pub(crate) fn mode_after(roles: &Roles, edits: &[Edit]) -> MarkMode
     ensures { record roles.now { marks = result } ≡ roles_after roles.now edits.now }
 {
     let mut marks = roles.marks();

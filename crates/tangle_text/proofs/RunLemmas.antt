@@ -1,9 +1,12 @@
 -- Words and white space, which end in their line.
 use Rattle.std.proofs.Common.{rules}
 use Rattle.std.proofs.lemmas.Bool.Decides.{nat_tests}
-use Rattle.std.proofs.Common.{◌≡◌, ℕ, ◌+◌, ◌≤◌, zero, suc, Bool, false, not, List, [], ◌∷◌, ◌++◌, Option}
+use Rattle.std.proofs.Common.{◌≡◌, ℕ, ◌+◌, ◌≤◌, true, zero, suc, Bool, false, not, List, [], ◌∷◌, ◌++◌, Option}
 use Rattle.std.proofs.Common.{Some, None, length, take, drop, refl, ap, arith, drop-drop, length-drop}
 use Rattle.std.specs.List.{prefix_len}
+use Rattle.std.proofs.Math.Numerals.{one-add}
+use Rattle.std.proofs.lemmas.Bool.{cases_Bool}
+use Rattle.std.proofs.Common.{inl, inr}
 use Rattle.tangle_lines.specs.Bytes.{is_white}
 use Rattle.tangle_lines.specs.Reading.{SourceLine}
 use Rattle.tangle_text.specs.declared.regions.Region.{Region}
@@ -19,6 +22,16 @@ use Rattle.tangle_text.proofs.UnitLemmas.{counted, count-is}
 pub record HasComeTo (size : List ℕ → ℕ) (bytes : List ℕ) (from end : ℕ) : Type 0 where
   pub same : end + size (drop end bytes) ≡ from + size (drop from bytes)
   pub inside : end ≤ length bytes
+
+-- a run is one by a stricter test, and the run after it
+pub prefix-more : (strict test : ℕ → Bool) → ((b : ℕ) → strict b ≡ true → test b ≡ true) → (bs : List ℕ)
+    → prefix_len test bs ≡ prefix_len strict bs + prefix_len test (drop (prefix_len strict bs) bs)
+prefix-more strict test passes [] = refl
+prefix-more strict test passes (b ∷ bs) =
+    elim (cases_Bool (strict b)) [
+      | inl h ↦ rw (h, passes b h, one-add (prefix_len strict bs)) (omega (arith, prefix-more strict test passes bs))
+      | inr h ↦ rw h (omega arith)
+    ]
 
 -- the region is a run of bytes that pass a test, and ends at a line end
 pub record IsRunOf (r : Region) (test : ℕ → Bool) : Type 0 where

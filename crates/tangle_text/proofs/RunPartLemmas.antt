@@ -2,7 +2,7 @@
 use Rattle.std.proofs.Common.{rules}
 use Rattle.std.proofs.lemmas.Bool.Decides.{nat_tests}
 use Rattle.std.proofs.Common.{◌≡◌, ℕ, ◌+◌, ◌<◌, ◌≤◌, zero, suc, Bool, true, false, List, [], ◌∷◌, ◌++◌}
-use Rattle.std.proofs.Common.{cond, length, take, drop, get_or, slice_get, refl, ap, ◌∙◌, arith, drop-cons, drop-drop}
+use Rattle.std.proofs.Common.{Option, cond, length, take, drop, get_or, slice_get, refl, ap, ◌∙◌, arith, drop-cons, drop-drop}
 use Rattle.std.specs.List.{prefix_len}
 use Rattle.std.proofs.Math.Numerals.{one-add}
 use Rattle.std.proofs.lemmas.Bool.{cases_Bool, ne_eqb}
@@ -16,7 +16,7 @@ use Rattle.tangle_text.specs.Bytes.{is_word_byte}
 use Rattle.tangle_text.specs.declared.runs.RunPart.TheVariants as part
 use Rattle.tangle_text.specs.Text.{Cell, line_text, line_bytes}
 use Rattle.tangle_text.specs.Ahead.{rest_of}
-use Rattle.tangle_text.specs.Runs.{is_run_byte, is_in_run, longest_run, run_count, run_size}
+use Rattle.tangle_text.specs.Runs.{is_in_run, passing, run_count, run_size}
 use Rattle.tangle_text.specs.Runs.{with_front_byte, chunks, parts_of}
 
 line_bytes-line : (line column : ℕ) (bs : List ℕ) (rest : List Cell)
@@ -53,19 +53,11 @@ get-drop-next (b ∷ bs) (suc column) =
     let next : suc (column + 1) ≡ suc column + 1 = omega arith in
     get-drop-next bs column ∙ ap (slice_get (b ∷ bs)) next
 
-pub longest_run_step : (bytes : List ℕ) (column : ℕ) → column < length bytes → longest_run (drop column bytes)
-    ≡ cond (is_run_byte (get_or bytes column 0) (slice_get bytes (column + 1))) (1 + longest_run (drop (column + 1) bytes)) 0
-longest_run_step bytes column h =
-    at_drop_more longest_run bytes column 0 h ∙ rw (get-drop bytes (column + 1)) refl
-
-pub longest_run-over : (bytes : List ℕ) (column next : ℕ) → column < length bytes → next ≡ column + 1
-    → is_run_byte (get_or bytes column 0) (slice_get bytes (column + 1)) ≡ true
-    → longest_run (drop column bytes) ≡ 1 + longest_run (drop next bytes)
-longest_run-over bytes column next h after is = rw (longest_run_step bytes column h, is, after) refl
-
-pub longest_run-end : (bytes : List ℕ) (column : ℕ) → column < length bytes
-    → is_run_byte (get_or bytes column 0) (slice_get bytes (column + 1)) ≡ false → longest_run (drop column bytes) ≡ 0
-longest_run-end bytes column h is = rw (longest_run_step bytes column h, is) refl
+pub passing_step : (test : ℕ → Option ℕ → Bool) (bytes : List ℕ) (column : ℕ) → column < length bytes
+    → passing test (drop column bytes)
+    ≡ cond (test (get_or bytes column 0) (slice_get bytes (column + 1))) (1 + passing test (drop (column + 1) bytes)) 0
+passing_step test bytes column h =
+    at_drop_more (passing test) bytes column 0 h ∙ rw (get-drop bytes (column + 1)) refl
 
 -- the word bytes at the front are a chunk
 pub chunks-word : (b : ℕ) (bs : List ℕ) → is_word_byte b ≡ true

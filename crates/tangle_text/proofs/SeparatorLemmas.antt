@@ -153,31 +153,24 @@ other-between (b ∷ bs) (suc k) h other =
     (λ word. other-between bs k (omega (arith, longest-over b bs run)) other)
     (λ first. no-separator b (slice_get bs 0) (slice_get bs 0) run)
 
--- before a space in front of the word
-run_size-before_space : (bs : List ℕ) (k : ℕ) → is_before_separator (drop (suc k) bs) ≡ true → k < longest_run bs
-    → get_or bs k 0 ≡ space → run_size bs ≡ k
-run_size-before_space [] k h inside is = absurd (omega arith)
-run_size-before_space (b ∷ bs) zero h inside is = run_size-space b bs (ap (λ x. x == space) is) h
-run_size-before_space (b ∷ bs) (suc k) h inside is =
+-- before the word, and before a space in front of it
+run_size-before : (bs : List ℕ) (k : ℕ) → is_before_separator (drop (suc k) bs) ≡ true → k < longest_run bs
+    → is_word_byte (get_or bs k 0) ≡ false
+    → ((get_or bs k 0 == space) ≡ true → run_size bs ≡ k) × ((get_or bs k 0 == space) ≡ false → run_size bs ≡ suc k)
+run_size-before [] k h inside other = absurd (omega arith)
+run_size-before (b ∷ bs) zero h inside other = (
+  λ is. run_size-space b bs is h,
+  λ no_space.
+      run_size-over b bs (longest-first b bs zero inside) (other-between (b ∷ bs) zero inside other) (rw no_space refl)
+      ∙ ap suc (run_size-none bs h),
+)
+run_size-before (b ∷ bs) (suc k) h inside other =
     let run = longest-first b bs (suc k) inside in
     let less : k < longest_run bs = omega (arith, longest-over b bs run) in
-    let other : is_word_byte (get_or bs k 0) ≡ false = ap is_word_byte is in
-    run_size-over b bs run (other-between (b ∷ bs) (suc k) inside other)
-    (and_right _ _ (other-between bs k less other)) ∙ ap suc (run_size-before_space bs k h less is)
-
--- before the word
-run_size-before_word : (bs : List ℕ) (k : ℕ) → is_before_separator (drop (suc k) bs) ≡ true → k < longest_run bs
-    → is_word_byte (get_or bs k 0) ≡ false → (get_or bs k 0 == space) ≡ false → run_size bs ≡ suc k
-run_size-before_word [] k h inside other no_space = absurd (omega arith)
-run_size-before_word (b ∷ bs) zero h inside other no_space =
-    let run = longest-first b bs zero inside in
-    let first : ((b == space) && is_before_separator bs) ≡ false = rw no_space refl in
-    run_size-over b bs run (other-between (b ∷ bs) zero inside other) first ∙ ap suc (run_size-none bs h)
-run_size-before_word (b ∷ bs) (suc k) h inside other no_space =
-    let run = longest-first b bs (suc k) inside in
-    let less : k < longest_run bs = omega (arith, longest-over b bs run) in
-    run_size-over b bs run (other-between (b ∷ bs) (suc k) inside other)
-    (and_right _ _ (other-between bs k less other)) ∙ ap suc (run_size-before_word bs k h less other no_space)
+    let over = run_size-over b bs run (other-between (b ∷ bs) (suc k) inside other)
+    (and_right _ _ (other-between bs k less other)) in
+    let before = run_size-before bs k h less other in
+    (λ is. over ∙ ap suc (before.0 is), λ no_space. over ∙ ap suc (before.1 no_space))
 
 -- The same at columns of a line, where only word bytes are from `start` up to a separator.
 
@@ -201,18 +194,13 @@ module _ (bytes : List ℕ) (from start : ℕ) (low : from < start)
   last-is =
       let e : from + back ≡ start - 1 = omega arith in get_or-drop from bytes back 0 ∙ ap (λ n. get_or bytes n 0) e
 
-  pub column-before_space : get_or bytes (start - 1) 0 ≡ space → start - 1 ≡ from + run_size (drop from bytes)
-  column-before_space is =
-      omega (arith, run_size-before_space (drop from bytes) back further (omega arith) (last-is ∙ is))
-
-  pub column-before_word : is_word_byte (get_or bytes (start - 1) 0) ≡ false
-      → (get_or bytes (start - 1) 0 == space) ≡ false → start ≡ from + run_size (drop from bytes)
-  column-before_word other no_space =
-      omega (
-        arith,
-        run_size-before_word (drop from bytes) back further (omega arith) (ap is_word_byte last-is ∙ other)
-            (ap (λ b. b == space) last-is ∙ no_space),
-      )
+  pub column-before : is_word_byte (get_or bytes (start - 1) 0) ≡ false
+      → ((get_or bytes (start - 1) 0 == space) ≡ true → start - 1 ≡ from + run_size (drop from bytes))
+      × ((get_or bytes (start - 1) 0 == space) ≡ false → start ≡ from + run_size (drop from bytes))
+  column-before other =
+      let before = run_size-before (drop from bytes) back further (omega arith) (ap is_word_byte last-is ∙ other) in
+      let same = ap (λ b. b == space) last-is in
+      (λ is. omega (arith, before.0 (same ∙ is)), λ no_space. omega (arith, before.1 (same ∙ no_space)))
 
 -- a separator at a column of a line, by the bytes that were found there
 pub separates-at : (bytes : List ℕ) (column : ℕ) (b next : Option ℕ) (t : Bool) → b ≡ slice_get bytes column

@@ -2,49 +2,43 @@
 use Rattle.std.proofs.lemmas.Bool.Decides.{eqb_tells}
 use Rattle.std.proofs.lemmas.Option.{same_Some}
 use Rattle.std.proofs.Common.{inl, inr}
-use Rattle.std.proofs.Common.{◌≡◌, ℕ, ◌+◌, ◌-◌, ◌<◌, ◌≤◌, false, List, None, Some, ◌==◌}
-use Rattle.std.proofs.Common.{false, length, take, drop, refl, ap, sym, ◌∙◌, arith}
+use Rattle.std.proofs.Common.{◌≡◌, ℕ, ◌+◌, ◌-◌, ◌<◌, ◌≤◌, List, None, Some, ◌==◌}
+use Rattle.std.proofs.Common.{IsSome, false, length, take, drop, refl, sym, arith}
 use Rattle.tangle_text.specs.declared.reader.Reader.TheInside.{Inside}
 use Rattle.tangle_text.specs.declared.spans.Span.{Span}
-use Rattle.tangle_text.specs.Text.{Cell, bytes_of, span_at}
+use Rattle.tangle_text.specs.Text.{Cell, byte_at, bytes_of, span_at}
 use Rattle.tangle_text.specs.Ahead.{rest_of}
 use Rattle.tangle_text.specs.Runs.{run_count, run_size, run_at}
-use Rattle.tangle_text.proofs.AheadLemmas.{IsAtByte}
+use Rattle.tangle_text.proofs.AheadLemmas.{at-byte}
 use Rattle.tangle_text.proofs.RunLemmas.{rest_of-further, run-bytes}
 use Rattle.tangle_text.proofs.RunPartLemmas.{run_count-rest}
 
--- where a byte is, the last line was not read yet
-pub front-is : (r : Inside) (text : List Cell) → rest_of r.source.now.lines r.bytes.now r.line r.column r.is_done ≡ text
-    → IsAtByte r text → rest_of r.source.now.lines r.bytes.now r.line r.column false ≡ text
-front-is r text is at = ap (rest_of r.source.now.lines r.bytes.now r.line r.column) (sym at.done) ∙ is
+-- a reader goes over `n` bytes of its line, up to a column
+pub record Takes (r : Inside) (text : List Cell) (n end : ℕ) : Type 0 where
+  pub span : record { line = r.line; start = r.column; end = end } ≡ span_at n text
+  pub ahead : rest_of r.source.now.lines r.bytes.now r.line end r.is_done ≡ drop n text
+  pub bytes : bytes_of (take n text) ≡ take (end - r.column) (drop r.column r.bytes.now)
 
-pub span-taken : (r : Inside) (text : List Cell) (n end : ℕ) → IsAtByte r text → end ≡ r.column + n
-    → record { line = r.line; start = r.column; end = end } ≡ span_at n text
-span-taken r text n end at is = rw (is, at.ahead) refl
-
-pub rest-taken : (r : Inside) (text : List Cell) (n end : ℕ)
-    → rest_of r.source.now.lines r.bytes.now r.line r.column r.is_done ≡ text → end ≡ r.column + n
-    → end ≤ length r.bytes.now → rest_of r.source.now.lines r.bytes.now r.line end r.is_done ≡ drop n text
-rest-taken r text n end is ends fits =
-    ap (λ k. rest_of r.source.now.lines r.bytes.now r.line k r.is_done) ends
-    ∙ (rest_of-further r.source.now.lines r.bytes.now r.line r.column n r.is_done (omega arith) ∙ ap (drop n) is)
-
-pub bytes-taken : (r : Inside) (text : List Cell) (n end : ℕ)
-    → rest_of r.source.now.lines r.bytes.now r.line r.column r.is_done ≡ text → IsAtByte r text → end ≡ r.column + n
-    → end ≤ length r.bytes.now → bytes_of (take n text) ≡ take (end - r.column) (drop r.column r.bytes.now)
-bytes-taken r text n end is at ends fits =
-    let count : n ≡ end - r.column = omega arith in
-    ap (λ t. bytes_of (take n t)) (sym (front-is r text is at))
-    ∙ (run-bytes r.source.now.lines r.bytes.now r.line r.column n (omega arith)
-    ∙ ap (λ k. take k (drop r.column r.bytes.now)) count)
+pub takes : (r : Inside) (text : List Cell) (n end : ℕ)
+    → rest_of r.source.now.lines r.bytes.now r.line r.column r.is_done ≡ text → IsSome (byte_at 0 text)
+    → end ≡ r.column + n → end ≤ length r.bytes.now → Takes r text n end
+takes r text n end is some ends fits =
+    let at = at-byte r text is some in
+    let inside : r.column + n ≤ length r.bytes.now = omega arith in
+    let size : end - r.column ≡ n = omega arith in
+    record {
+      span = rw (ends, at.ahead) refl;
+      ahead = rw (ends, ← is) (rest_of-further r.source.now.lines r.bytes.now r.line r.column n r.is_done inside);
+      bytes = rw (size, ← is, at.done) (run-bytes r.source.now.lines r.bytes.now r.line r.column n inside);
+    }
 
 -- a reader goes over the run at its position
 
 pub run_count-taken : (r : Inside) (text : List Cell)
-    → rest_of r.source.now.lines r.bytes.now r.line r.column r.is_done ≡ text → IsAtByte r text
+    → rest_of r.source.now.lines r.bytes.now r.line r.column r.is_done ≡ text → IsSome (byte_at 0 text)
     → run_count text ≡ run_size (drop r.column r.bytes.now)
-run_count-taken r text is at =
-    ap run_count (sym (front-is r text is at)) ∙ run_count-rest r.source.now.lines r.bytes.now r.line r.column
+run_count-taken r text is some =
+    rw (← is, (at-byte r text is some).done) (run_count-rest r.source.now.lines r.bytes.now r.line r.column)
 
 pub run_at-none : (text : List Cell) → run_count text ≡ 0 → run_at text ≡ None
 run_at-none text h = rw h refl

@@ -28,10 +28,18 @@ is_run_byte b next =
     is_plain b || b == space && holds_plain next
     || b == slash && not (holds asterisk next || holds slash next)
 
+-- the number of bytes at the front that pass a test of a byte and the one after it
+abbrev pub passing : (ℕ → Option ℕ → Bool) → List ℕ → ℕ
+passing test [] = 0
+passing test (b ∷ bs) = if test b (slice_get bs 0) then 1 + passing test bs else 0
+
 -- the number of bytes at the front of the rest of a line that a run may go over
 abbrev pub longest_run : List ℕ → ℕ
-longest_run [] = 0
-longest_run (b ∷ bs) = if is_run_byte b (slice_get bs 0) then 1 + longest_run bs else 0
+longest_run bs = passing is_run_byte bs
+
+-- a number goes over word bytes, and over an apostrophe before one
+abbrev pub is_number_byte : ℕ → Option ℕ → Bool
+is_number_byte b next = is_word_byte b || is_separator (Some b) next
 
 -- Word bytes, as many as there are, are directly before an apostrophe and a word byte, which may
 -- belong to their word.

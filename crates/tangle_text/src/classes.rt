@@ -13,54 +13,6 @@ struct ByteClass {
     is_sign: bool,
 }
 
-/// A letter, a digit, `_`, `$` or a byte past 127.
-const WORD: ByteClass = ByteClass {
-    is_word: true,
-    is_ordinary: true,
-    is_plain: true,
-    is_sign: false,
-};
-
-/// White space.
-const WHITE: ByteClass = ByteClass {
-    is_word: false,
-    is_ordinary: true,
-    is_plain: false,
-    is_sign: false,
-};
-
-/// Any byte that is in no other class: a sign.
-const SIGN: ByteClass = ByteClass {
-    is_word: false,
-    is_ordinary: true,
-    is_plain: true,
-    is_sign: true,
-};
-
-/// `*` or `>`: a sign with a meaning in comments or file names.
-const SPECIAL: ByteClass = ByteClass {
-    is_word: false,
-    is_ordinary: false,
-    is_plain: true,
-    is_sign: true,
-};
-
-/// `<`, which may open a file name.
-const LESS: ByteClass = ByteClass {
-    is_word: false,
-    is_ordinary: true,
-    is_plain: true,
-    is_sign: false,
-};
-
-/// `/`, which may open a comment.
-const SLASH: ByteClass = ByteClass {
-    is_word: false,
-    is_ordinary: true,
-    is_plain: false,
-    is_sign: false,
-};
-
 /// `@`, `"` or `'`, which opens something longer, and has a meaning inside of it; and `\`, which may
 /// continue a line, and has a meaning in quoted texts.
 const DELIMITER: ByteClass = ByteClass {
@@ -68,6 +20,39 @@ const DELIMITER: ByteClass = ByteClass {
     is_ordinary: false,
     is_plain: false,
     is_sign: false,
+};
+
+/// White space.
+const WHITE: ByteClass = ByteClass {
+    is_ordinary: true,
+    ..DELIMITER
+};
+
+/// `/`, which may open a comment.
+const SLASH: ByteClass = WHITE;
+
+/// `<`, which may open a file name.
+const LESS: ByteClass = ByteClass {
+    is_plain: true,
+    ..SLASH
+};
+
+/// A letter, a digit, `_`, `$` or a byte past 127.
+const WORD: ByteClass = ByteClass {
+    is_word: true,
+    ..LESS
+};
+
+/// Any byte that is in no other class: a sign.
+const SIGN: ByteClass = ByteClass {
+    is_sign: true,
+    ..LESS
+};
+
+/// `*` or `>`: a sign with a meaning in comments or file names.
+const SPECIAL: ByteClass = ByteClass {
+    is_ordinary: false,
+    ..SIGN
 };
 
 /// The class of each byte.

@@ -1,12 +1,10 @@
 //! Reads the text ahead of a position.
-ghost use Rattle.std.specs.Prelude.{◌≡◌, ◌==◌, ◌≤◌, ◌<◌, ◌+◌, ◌^◌, ℕ, List, [], length, take, drop};
+ghost use Rattle.std.specs.Prelude.{◌≡◌, ◌≤◌, ◌<◌, ◌+◌, ◌^◌, ℕ, List, [], length, take, drop};
 ghost use Rattle.std.specs.Prelude.{get_or, slice_get, IsSome, IfOk, IfSome, IfNone, true, false};
-ghost use Rattle.std.specs.List.{prefix_len};
 ghost use Rattle.tangle_files.specs.Adding.{longest_line};
-ghost use Rattle.tangle_files.specs.Bytes.{space};
+ghost use Rattle.std.specs.List.{prefix_len};
 ghost use Rattle.tangle_lines.specs.Bytes as lines;
 ghost use Rattle.tangle_text.specs.Ahead.{IsFront};
-ghost use Rattle.tangle_text.specs.Bytes as byte;
 ghost use Rattle.tangle_text.specs.NameBytes.{BeginsName};
 ghost use Rattle.tangle_text.specs.declared.regions.Region.TheVariants as region;
 ghost use Rattle.tangle_text.specs.Words.{word_more, is_include_word};
@@ -17,9 +15,8 @@ ghost use Rattle.tangle_text.specs.Regions as regions;
 ghost use Rattle.tangle_text.specs.Regions.{count_before, more_by, region_end};
 
 use crate::bytes::{holds, is_digit, is_white};
-use crate::classes::{is_ordinary, is_word_byte};
 use crate::regions::{Region, Unit, skips_ordinary, unit_of};
-use crate::runs::run_end;
+use crate::runs::{Number, Ordinary, Spaces, Words, end_of, run_end};
 use crate::spans::Span;
 use memchr::memchr;
 use std::alloc::AllocError;
@@ -86,60 +83,6 @@ fn at_sign_from(bytes: &[u8], column: usize) -> usize
     }
 }
 
-/// The column after a run of bytes that pass the test.
-// Four bytes are tested in a turn, since most words have as many.
-macro_rules! run_end {
-    ($passes:ident, $bytes:ident, $from:ident) => {{
-        let mut end = $from;
-        while $bytes.len() - end >= 4 {
-            if !$passes($bytes[end]) {
-                return end;
-            }
-            if !$passes($bytes[end + 1]) {
-                return end + 1;
-            }
-            if !$passes($bytes[end + 2]) {
-                return end + 2;
-            }
-            if !$passes($bytes[end + 3]) {
-                return end + 3;
-            }
-            end += 4;
-        }
-        while end < $bytes.len() && $passes($bytes[end]) {
-            end += 1;
-        }
-        end
-    }};
-}
-
-/// The column after the run of word bytes from this column on.
-#[inline(always)]
-pub(crate) fn word_end(bytes: &[u8], from: usize) -> usize
-    requires { from ≤ length bytes.now }
-    ensures end { result ≡ from + prefix_len byte.is_word_byte (drop from bytes.now) }
-    ensures inside { result ≤ length bytes.now }
-{
-    run_end!(is_word_byte, bytes, from)
-}
-
-/// The column where a number ends of which the bytes before this column were read.
-fn number_end(bytes: &[u8], from: usize) -> usize
-    requires { from ≤ length bytes.now }
-    ensures end { result ≡ from + count_before region.Number (line_text 0 0 (drop from bytes.now)) }
-    ensures inside { result ≤ length bytes.now }
-{
-    let mut end = from;
-    while end < bytes.len() {
-        match unit_of(Region::Number, byte_of(bytes, end), byte_of(bytes, end + 1)) {
-            Unit::Stop => return end,
-            Unit::One => end += 1,
-            Unit::Two => end += 2,
-        }
-    }
-    end
-}
-
 /// The column after the word that begins at this column.
 #[inline(always)]
 fn whole_word_end(bytes: &[u8], from: usize) -> usize
@@ -148,36 +91,10 @@ fn whole_word_end(bytes: &[u8], from: usize) -> usize
     ensures inside { result ≤ length bytes.now }
 {
     if is_digit(bytes[from]) {
-        number_end(bytes, from + 1)
+        end_of::<Number>(bytes, from + 1)
     } else {
-        word_end(bytes, from + 1)
+        end_of::<Words>(bytes, from + 1)
     }
-}
-
-/// The column after the run of ordinary bytes from this column on.
-fn ordinary_end(bytes: &[u8], from: usize) -> usize
-    requires { from ≤ length bytes.now }
-    ensures end { result ≡ from + prefix_len regions.is_ordinary (drop from bytes.now) }
-    ensures inside { result ≤ length bytes.now }
-{
-    run_end!(is_ordinary, bytes, from)
-}
-
-fn is_space(byte: u8) -> bool
-    ensures { result ≡ (byte == space) }
-{
-    byte == b' '
-}
-
-/// The column after the run of spaces from this column on. White space may go on after it.
-#[inline(always)]
-fn space_end(bytes: &[u8], from: usize) -> usize
-    requires { from ≤ length bytes.now }
-    ensures white { result + prefix_len lines.is_white (drop result bytes.now)
-        ≡ from + prefix_len lines.is_white (drop from bytes.now) }
-    ensures inside { result ≤ length bytes.now }
-{
-    run_end!(is_space, bytes, from)
 }
 
 /// The column after the run of white space from this column on.
@@ -188,7 +105,7 @@ fn white_end(bytes: &[u8], from: usize) -> usize
     ensures end { result ≡ from + prefix_len lines.is_white (drop from bytes.now) }
     ensures inside { result ≤ length bytes.now }
 {
-    let mut end = space_end(bytes, from);
+    let mut end = end_of::<Spaces>(bytes, from);
     while end < bytes.len() && is_white(bytes[end]) {
         end += 1;
     }
@@ -456,7 +373,7 @@ impl<'s, 'a> Reader<'s, 'a> {
     pub fn skip_ordinary(&mut self)
         ensures { (n : ℕ) × (self.new ≡ drop n self.old) × regions.AreOrdinary n self.old }
     {
-        self.column = ordinary_end(self.bytes, self.column);
+        self.column = end_of::<Ordinary>(self.bytes, self.column);
     }
 
     /// Advances to the next `@` of this line, or to its end. Returns the bytes in between, which

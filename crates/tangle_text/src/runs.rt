@@ -1,13 +1,16 @@
 //! Runs: ranges of a line that consist of words, signs and single spaces.
-ghost use Rattle.std.specs.Prelude.{◌≡◌, ◌≤◌, ◌<◌, ◌+◌, ◌-◌, ◌^◌, length, take, drop, get_or};
-ghost use Rattle.std.specs.Prelude.{true, false, slice_get};
-ghost use Rattle.tangle_text.specs.Regions.{is_separator};
+ghost use Rattle.std.specs.Prelude.{◌≡◌, ◌==◌, ◌≤◌, ◌<◌, ◌+◌, ◌-◌, ◌^◌, length, take, drop, get_or};
+ghost use Rattle.std.specs.Prelude.{true, false, slice_get, ℕ, List, [], if◌then◌else◌, refl};
+ghost use Rattle.std.specs.List.{prefix_len};
+ghost use Rattle.tangle_files.specs.Bytes.{space};
+ghost use Rattle.tangle_text.specs.Bytes as byte;
+ghost use Rattle.tangle_text.specs.Regions.{is_separator, is_ordinary};
 ghost use Rattle.tangle_text.specs.Runs as runs;
-ghost use Rattle.tangle_text.specs.Runs.{chunks, parts_of, longest_run, run_size};
+ghost use Rattle.tangle_text.specs.Runs.{chunks, parts_of, longest_run, run_size, passing, is_number_byte};
 
 use crate::bytes::{holds, holds_word_byte};
-use crate::classes::{is_plain, is_word_byte};
-use crate::reader::{byte_of, word_end};
+use crate::classes::{is_ordinary, is_plain, is_word_byte};
+use crate::reader::byte_of;
 use crate::spans::Span;
 use std::marker::Model;
 
@@ -36,42 +39,118 @@ fn run_goes_on(bytes: &[u8], column: usize) -> bool
     }
 }
 
-/// Whether a run may go over the byte at this column.
-#[inline(always)]
-fn goes_over(bytes: &[u8], column: usize) -> bool
-    requires { column < length bytes.now }
-    ensures { result
-        ≡ runs.is_run_byte (get_or bytes.now column 0) (slice_get bytes.now (column + 1)) }
-{
-    is_plain(bytes[column]) || run_goes_on(bytes, column)
+/// A kind of run: bytes of a line, up to the first one that the run does not go over.
+pub(crate) trait Run {
+    /// The number of bytes of the run at the front of these bytes.
+    ghost size: { List ℕ → ℕ };
+
+    /// Whether the run goes over the byte at this column.
+    fn goes_over(bytes: &[u8], column: usize) -> bool
+        requires { column < length bytes.now }
+        ensures { size (drop column bytes.now)
+            ≡ (if result then 1 + size (drop (column + 1) bytes.now) else 0) };
+
+    ghost ends: { size [] ≡ 0 };
 }
 
-/// The column of the first byte from this column on that no run goes over.
-// Four bytes are tested in a turn, as for words.
-#[tactic(auto, using(crate::proofs::RunPartLemmas::longest_run_step))]
-#[inline(always)]
-fn longest_run_end(bytes: &[u8], from: usize) -> usize
+/// Word bytes.
+pub(crate) struct Words;
+
+impl Run for Words {
+    ghost size = { prefix_len byte.is_word_byte };
+
+    ghost ends = { refl };
+
+    #[inline(always)]
+    fn goes_over(bytes: &[u8], column: usize) -> bool {
+        is_word_byte(bytes[column])
+    }
+}
+
+/// Ordinary bytes.
+pub(crate) struct Ordinary;
+
+impl Run for Ordinary {
+    ghost size = { prefix_len is_ordinary };
+
+    ghost ends = { refl };
+
+    #[inline(always)]
+    fn goes_over(bytes: &[u8], column: usize) -> bool {
+        is_ordinary(bytes[column])
+    }
+}
+
+/// Spaces.
+pub(crate) struct Spaces;
+
+impl Run for Spaces {
+    ghost size = { prefix_len (λ b. b == space) };
+
+    ghost ends = { refl };
+
+    #[inline(always)]
+    fn goes_over(bytes: &[u8], column: usize) -> bool {
+        bytes[column] == b' '
+    }
+}
+
+/// The bytes of a number after its first.
+pub(crate) struct Number;
+
+#[tactic(auto, using(crate::proofs::RunPartLemmas::passing_step))]
+impl Run for Number {
+    ghost size = { passing is_number_byte };
+
+    ghost ends = { refl };
+
+    #[inline(always)]
+    fn goes_over(bytes: &[u8], column: usize) -> bool {
+        let byte = bytes[column];
+        is_word_byte(byte) || byte == b'\'' && holds_word_byte(byte_of(bytes, column + 1))
+    }
+}
+
+/// Bytes that a run of words, signs and single spaces may go over.
+struct Longest;
+
+#[tactic(auto, using(crate::proofs::RunPartLemmas::passing_step))]
+impl Run for Longest {
+    ghost size = { longest_run };
+
+    ghost ends = { refl };
+
+    #[inline(always)]
+    fn goes_over(bytes: &[u8], column: usize) -> bool {
+        is_plain(bytes[column]) || run_goes_on(bytes, column)
+    }
+}
+
+/// The column after the run from this column on.
+// Four bytes are tested in a turn, since most words have as many.
+#[inline]
+pub(crate) fn end_of<R: Run>(bytes: &[u8], from: usize) -> usize
     requires { from ≤ length bytes.now }
-    ensures end { result ≡ from + longest_run (drop from bytes.now) }
+    ensures end { result ≡ from + R.size (drop from bytes.now) }
     ensures inside { result ≤ length bytes.now }
 {
     let mut end = from;
     while bytes.len() - end >= 4 {
-        if !goes_over(bytes, end) {
+        if !R::goes_over(bytes, end) {
             return end;
         }
-        if !goes_over(bytes, end + 1) {
+        if !R::goes_over(bytes, end + 1) {
             return end + 1;
         }
-        if !goes_over(bytes, end + 2) {
+        if !R::goes_over(bytes, end + 2) {
             return end + 2;
         }
-        if !goes_over(bytes, end + 3) {
+        if !R::goes_over(bytes, end + 3) {
             return end + 3;
         }
         end += 4;
     }
-    while end < bytes.len() && goes_over(bytes, end) {
+    while end < bytes.len() && R::goes_over(bytes, end) {
         end += 1;
     }
     end
@@ -115,7 +194,7 @@ pub(crate) fn run_end(bytes: &[u8], from: usize) -> usize
     ensures end { result ≡ from + run_size (drop from bytes.now) }
     ensures inside { result ≤ length bytes.now }
 {
-    let end = longest_run_end(bytes, from);
+    let end = end_of::<Longest>(bytes, from);
     if has_separator(bytes, end) {
         before_word(bytes, from, end)
     } else {
@@ -201,7 +280,7 @@ impl<'a> RunParts<'a> {
             return Some(RunPart::Space);
         }
         if is_word_byte(byte) {
-            self.column = word_end(self.bytes, start + 1);
+            self.column = end_of::<Words>(self.bytes, start + 1);
             return Some(RunPart::Word(span_between(self.line, start, self.column)));
         }
         Some(RunPart::Sign(span_between(self.line, start, start + 1)))

@@ -168,26 +168,20 @@ module _ (texts : List (List ℕ)) where
   code-whole : (kind : ControlCode) (s : LexerState) (c : Cell) (cs : List Cell) → IsInLine texts c cs
       → holds at_sign c.byte ≡ true → AreWhole (c_code kind s (c ∷ cs)).tokens
   code-whole code.DoubleAt s c cs is sign = grind (arith, nat_tests, sign-whole c cs is c.byte)
-  code-whole code.ControlText s c cs is sign = others-whole _ (search (rules, no-white, no-line_ends, no-fault))
   code-whole code.Verbatim s c cs is sign = others-whole _ (search (rules, no-cut))
   code-whole code.Name s c cs is sign = others-whole _ (search (rules, no-append, no-fault))
-  code-whole code.AllMacros s c cs is sign = others-whole _ (search rules)
-  code-whole code.AsciiConstant s c cs is sign = search (rules, others-whole, no-constant)
-  code-whole _ s c cs is sign = others-whole _ (seen _ refl)
+  code-whole code s c cs is sign = others-whole _ (search (rules, seen, no-white, no-line_ends, no-fault, no-constant))
 
   kind-whole : (kind : LexemeKind) (s : LexerState) (c : Cell) (cs : List Cell) → AreInLines texts (c ∷ cs)
       → Shows kind c.byte → AreWhole (c_lexeme kind s (c ∷ cs)).tokens
   kind-whole (lexeme_kind.Control code) s c cs is shows = code-whole code s c cs is.0 shows
-  kind-whole lexeme_kind.BlockComment s c cs is shows =
-      others-whole _ (search (rules, no-white, no-line_ends, no-fault))
-  kind-whole lexeme_kind.LineComment s c cs is shows = search (rules, others-whole, no-white, no-fault)
   kind-whole lexeme_kind.DoubleQuote s c cs is shows = quoted-whole _ (string-text texts s c cs is shows)
   kind-whole lexeme_kind.Apostrophe s c cs is shows = quoted-whole _ (character-text texts s c cs is shows)
   kind-whole lexeme_kind.HeaderName s c cs is shows = quoted-whole _ (header-text texts s c cs is shows)
-  kind-whole lexeme_kind.LineEnd s c cs is shows = others-whole _ (seen _ refl)
-  kind-whole lexeme_kind.White s c cs is shows = others-whole _ (seen _ refl)
   kind-whole lexeme_kind.Word s c cs is shows = word-whole c cs is.0 c.byte refl shows
   kind-whole lexeme_kind.Other s c cs is shows = sign-whole c cs is.0 c.byte refl shows
+  kind-whole kind s c cs is shows =
+      search (rules, others-whole, seen, no-white, no-line_ends, no-fault)
 
   documentation-whole : (kind : ControlCode) (s : LexerState) (text : List Cell)
       → AreWhole (documentation_code kind s text).tokens
@@ -196,12 +190,8 @@ module _ (texts : List (List ℕ)) where
 
   macro-whole : (kind : LexemeKind) (s : LexerState) (c : Cell) (cs : List Cell) → AreInLines texts (c ∷ cs)
       → Shows kind c.byte → AreWhole (macro_lexeme kind s (c ∷ cs)).tokens
-  macro-whole (lexeme_kind.Control code.Macro) s c cs is shows = others-whole _ (seen _ refl)
-  macro-whole (lexeme_kind.Control code.UnnamedPart) s c cs is shows = others-whole _ (seen _ refl)
   macro-whole (lexeme_kind.Control code.Name) s c cs is shows = others-whole _ (no-name s (c ∷ cs))
-  macro-whole (lexeme_kind.Control code.Format) s c cs is shows = others-whole _ (seen _ refl)
-  macro-whole (lexeme_kind.Control code.AllMacros) s c cs is shows = others-whole _ (seen _ refl)
-  macro-whole (lexeme_kind.Control code) s c cs is shows = code-whole code s c cs is.0 shows
+  macro-whole (lexeme_kind.Control code) s c cs is shows = search (rules, others-whole, seen, code-whole)
   macro-whole kind s c cs is shows = kind-whole kind s c cs is shows
 
   lexeme-whole : (s : LexerState) (c : Cell) (cs : List Cell) → AreInLines texts (c ∷ cs)

@@ -2,7 +2,6 @@
 use Rattle.std.proofs.Common.{rules}
 use Rattle.std.proofs.Common.{arith}
 use Rattle.std.proofs.Common.{ℕ, zero, suc, ◌+◌, Bool, List, [], ◌∷◌, refl, Option, None, Some}
-use Rattle.std.proofs.Common.{map}
 use Rattle.std.specs.Prelude.{◌&&◌, not}
 use Rattle.std.specs.List.{AllByRecursion}
 use Rattle.std.proofs.lemmas.Bool.{cond_both}
@@ -13,7 +12,7 @@ use Rattle.tangle_lines.specs.Change.{Change}
 use Rattle.tangle_lines.specs.declared.changes.ChangePhase.{ChangePhase}
 use Rattle.tangle_lines.specs.declared.changes.ChangePhase.TheVariants.{Outside, InOld, InNew}
 use Rattle.tangle_lines.specs.declared.changes.LineKind.{LineKind}
-use Rattle.tangle_lines.specs.Changes.{line_kind_of, next_phase, at_end, changes_from}
+use Rattle.tangle_lines.specs.Changes.{line_kind_of, next_phase, changes_from}
 use Rattle.tangle_lines.specs.Inclusion.{included_name}
 use Rattle.tangle_lines.specs.Reading.{SourceLine, WaitingLine, waiting_lines, change_lines, begins, change_here}
 use Rattle.tangle_lines.specs.Reading.{State, ReadingStep, plain_step, line_step}
@@ -21,7 +20,7 @@ use Rattle.tangle_lines.specs.Reading.{reads_in, source_of}
 use Rattle.tangle_lines.specs.Reading.ReadingStep.{Ends, Goes}
 use Rattle.tangle_c_tokens.specs.LineFeeds.{TextHasNoLineFeed, SourceLinesHaveNoLineFeed, FileLinesHaveNoLineFeed}
 use Rattle.std.proofs.lemmas.Bool.Decides.{nat_tests}
-use Rattle.tangle_c_tokens.proofs.ListLemmas.{all-append, all-drop}
+use Rattle.tangle_c_tokens.proofs.ListLemmas.{all-append, all-drop, all-each, all-map}
 
 -- the lines that bytes are cut into
 
@@ -34,11 +33,9 @@ raw-have [] = tt
 raw-have (b ∷ bs) = grind (arith, nat_tests, raw-have bs)
 
 pub cut-have : (bytes : List ℕ) → AllByRecursion TextHasNoLineFeed (cut bytes)
-cut-have bytes = all (raw_lines bytes) (raw-have bytes)
-  where
-    all : (ls : List (List ℕ)) → AllByRecursion TextHasNoLineFeed ls → AllByRecursion TextHasNoLineFeed (map trimmed ls)
-    all [] h = tt
-    all (l ∷ ls) h = (trimmed-has l h.0, all ls h.1)
+cut-have bytes =
+    all-map TextHasNoLineFeed trimmed (raw_lines bytes)
+    (all-each TextHasNoLineFeed (λ l. TextHasNoLineFeed (trimmed l)) (raw_lines bytes) trimmed-has (raw-have bytes))
 
 -- What is true of each line of each file, with its number, is true of the lines that are read.
 module _ (P : ℕ → List ℕ → Type 0) where
@@ -79,12 +76,9 @@ module _ (P : ℕ → List ℕ → Type 0) where
       → IsPhase (next_phase file phase n line kind).0 × HaveLines (next_phase file phase n line kind).1.changes
   phase-has file phase n line kind h of_line = search (rules, all-append)
 
-  end-has : (file : List ℕ) (phase : ChangePhase) → IsPhase phase → HaveLines (at_end file phase).changes
-  end-has file phase h = search rules
-
   changes-have : (file : List ℕ) (phase : ChangePhase) (n : ℕ) (ls : List (List ℕ)) → IsPhase phase → AreNumbered n ls
       → HaveLines (changes_from file phase n ls).changes
-  changes-have file phase n [] h all = end-has file phase h
+  changes-have file phase n [] h all = search rules
   changes-have file phase n (l ∷ ls) h all =
       let next = phase-has file phase n l (line_kind_of l) h all.0 in
       all-append HasLines (next_phase file phase n l (line_kind_of l)).1.changes _ next.1

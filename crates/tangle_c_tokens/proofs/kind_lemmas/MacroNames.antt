@@ -1,9 +1,9 @@
 -- A macro that is kept has no range of a quoted text where its name is.
+use Rattle.tangle_c_tokens.proofs.ListLemmas.{all-append}
 use Rattle.std.proofs.Common.{arith}
 use Rattle.std.proofs.Common.{rules}
 use Rattle.std.proofs.lemmas.Bool.Decides.{nat_tests}
 use Rattle.std.proofs.Common.{◌≡◌, ℕ, Bool, true, false, List, [], ◌∷◌, ◌++◌, refl, None}
-use Rattle.std.specs.Prelude.{if◌then◌else◌}
 use Rattle.std.specs.List.{AllByRecursion}
 use Rattle.tangle_lexer.specs.declared.tokens.Token.{Token}
 use Rattle.tangle_lexer.specs.declared.tokens.Token.TheVariants as token
@@ -29,15 +29,11 @@ abbrev AreNameGaps : List Token → Type 0
 AreNameGaps run = AllByRecursion (λ t. is_name_gap t ≡ true) run
 
 gaps-last : (run : List Token) (t : Token) → AreNameGaps run → is_name_gap t ≡ true → AreNameGaps (run ++ t ∷ [])
-gaps-last [] t all gap = (gap, tt)
-gaps-last (u ∷ run) t all gap = (all.0, gaps-last run t all.1 gap)
-
-range-first : (t : Token) (ts : List Token) → is_range t ≡ true → first_is_range (t ∷ ts) ≡ true
-range-first t ts h = range-by (λ u. first_is_range (u ∷ ts) ≡ true) (λ s. refl) (λ n. refl) t h
+gaps-last run t all gap = all-append (λ t. is_name_gap t ≡ true) run (t ∷ []) all (gap, tt)
 
 after-gaps : (run : List Token) (t : Token) (ts : List Token) → AreNameGaps run → has_join run ≡ false → is_range t
     ≡ true → first_is_range (run ++ t ∷ ts) ≡ true
-after-gaps [] t ts gaps none h = range-first t ts h
+after-gaps [] t ts gaps none h = range-by (λ u. first_is_range (u ∷ ts) ≡ true) (λ s. refl) (λ n. refl) t h
 after-gaps (u ∷ run) t ts gaps none h = search (rules, after-gaps run t ts)
 
 module _ (texts : List (List ℕ)) where

@@ -6,7 +6,7 @@ use Rattle.std.proofs.Common.{◌≡◌, ℕ, zero, suc, Bool, true, false, not,
 use Rattle.std.proofs.Common.{None}
 use Rattle.std.proofs.Common.{refl, ap, sym, ◌∙◌, subst}
 use Rattle.std.specs.Prelude.{◌==◌, ◌&&◌, ◌||◌, slice_get}
-use Rattle.std.proofs.lemmas.Bool.{and_parts, or_parts, both_ways}
+use Rattle.std.proofs.lemmas.Bool.{or_parts}
 use Rattle.std.proofs.lemmas.Bool.{eqb-true}
 use Rattle.tangle_lines.specs.Bytes.{at_sign}
 use Rattle.tangle_text.specs.declared.regions.Region.{Region}
@@ -36,6 +36,23 @@ pub gives-nothing : (test : List ℕ → Bool) → test [] ≡ false → Gives f
 gives-nothing test h zero = h
 gives-nothing test h (suc n) = h
 
+-- a byte that such a test passes over
+abbrev PassesOver : (List ℕ → Bool) → ℕ → Type 0
+PassesOver test b = (t : List ℕ) → test (b ∷ t) ≡ test t
+
+gives-more : (test : List ℕ → Bool) (b : ℕ) → test [] ≡ false → PassesOver test b → (ends : Bool) (t : List ℕ) → Gives ends test t
+    → Gives ends test (b ∷ t)
+gives-more test b none over true t h = over t ∙ h
+gives-more test b none over false t h = all
+  where
+    all : Gives false test (b ∷ t)
+    all zero = none
+    all (suc n) = over (take n t) ∙ h n
+
+gives-after : (test : List ℕ → Bool) (b : ℕ) → PassesOver test b → (ends : Bool) (t : List ℕ) → Gives ends test (b ∷ t) → Gives ends test t
+gives-after test b over true t h = sym (over t) ∙ h
+gives-after test b over false t h = λ n. sym (over (take n t)) ∙ h (suc n)
+
 -- a byte before bytes that do not begin with a line feed is kept
 pub kept-first : (b : ℕ) (q : List ℕ) → holds line_feed (slice_get q 0) ≡ false → spliced (b ∷ q) ≡ b ∷ spliced q
 kept-first b q h = search rules
@@ -45,18 +62,13 @@ module _ (close : ℕ) (no_sign : (at_sign == close) ≡ false) (no_back : (back
   abbrev GivesQuoted : Bool → List ℕ → Type 0
   GivesQuoted ends t = Gives ends (ends_quoted close) t
 
-  byte-true : (b : ℕ) (t : List ℕ) → (b == backslash) ≡ false → (b == close) ≡ false → (b == line_feed) ≡ false
-      → ends_quoted close t ≡ true → ends_quoted close (b ∷ t) ≡ true
-  byte-true b t back closing feed h = search rules
+  over-byte : (b : ℕ) → (b == backslash) ≡ false → (b == close) ≡ false → (b == line_feed) ≡ false → PassesOver (ends_quoted close) b
+  over-byte b back closing feed [] = closing
+  over-byte b back closing feed (c ∷ t) = rw (back, closing, feed) refl
 
   gives-byte : (ends : Bool) (b : ℕ) (t : List ℕ) → (b == backslash) ≡ false → (b == close) ≡ false
       → (b == line_feed) ≡ false → GivesQuoted ends t → GivesQuoted ends (b ∷ t)
-  gives-byte true b t back closing feed h = byte-true b t back closing feed h
-  gives-byte false b t back closing feed h = all
-    where
-      all : GivesQuoted false (b ∷ t)
-      all zero = search rules
-      all (suc n) = search rules
+  gives-byte ends b t back closing feed = gives-more (ends_quoted close) b refl (over-byte b back closing feed) ends t
 
   -- a backslash and the byte after it
   gives-escape : (ends : Bool) (y : ℕ) (t : List ℕ) → (y == line_feed) ≡ false → GivesQuoted ends t
@@ -68,16 +80,6 @@ module _ (close : ℕ) (no_sign : (at_sign == close) ≡ false) (no_back : (back
       all zero = search rules
       all (suc zero) = cc no_back
       all (suc (suc n)) = search rules
-
-  -- what is after an @
-  gives-after : (ends : Bool) (t : List ℕ) → GivesQuoted ends (at_sign ∷ t) → GivesQuoted ends t
-  gives-after true [] h = absurd (both_ways (at_sign == close) no_sign h)
-  gives-after true (c ∷ t) h = (and_parts (not (at_sign == close || false)) (ends_quoted close (c ∷ t)) h).1
-  gives-after false t h = λ n. one (take n t) (h (suc n))
-    where
-      one : (u : List ℕ) → ends_quoted close (at_sign ∷ u) ≡ false → ends_quoted close u ≡ false
-      one [] h = search rules
-      one (c ∷ u) h = search rules
 
   module _ (r : Region) (is : (b n : Option ℕ) → unit_of r b n ≡ quoted_unit close b n) where
     pub quote-stops : (b : ℕ) (n : Option ℕ) → unit_of r (Some b) n ≡ unit.Stop → (b == close) ≡ true
@@ -97,7 +99,7 @@ module _ (close : ℕ) (no_sign : (at_sign == close) ≡ false) (no_back : (back
         by false back closing pair = gives-byte ends b (spliced q) back closing feed h
         by true back closing pair =
             subst (λ k. GivesQuoted ends (k ∷ spliced q)) (sym (eqb-true b backslash back))
-            (search (rules, gives-escape, gives-after))
+            (search (rules, gives-escape, gives-after (ends_quoted close) at_sign (over-byte at_sign refl no_sign refl)))
           where
             sign : (s : Bool) → not s ≡ false → s ≡ true
             sign true p = refl
@@ -132,18 +134,13 @@ pub header-pairs : (b : ℕ) (n : Option ℕ) → unit_of region.HeaderName (Som
     → are_bytes at_sign at_sign (Some b) n ≡ false → b ≡ backslash
 header-pairs b n e pair = grind (arith, nat_tests)
 
-header-true : (b : ℕ) (q : List ℕ) → (b == greater_sign) ≡ false → (b == line_feed) ≡ false
-    → ends_header_name q ≡ true → ends_header_name (b ∷ q) ≡ true
-header-true b q closing feed h = search rules
+over-header : (b : ℕ) → (b == greater_sign) ≡ false → (b == line_feed) ≡ false → PassesOver ends_header_name b
+over-header b closing feed [] = closing
+over-header b closing feed (c ∷ t) = rw (closing, feed) refl
 
-header-byte : (ends : Bool) (b : ℕ) (q : List ℕ) → (b == greater_sign) ≡ false → (b == line_feed) ≡ false
+pub header-byte : (ends : Bool) (b : ℕ) (q : List ℕ) → (b == greater_sign) ≡ false → (b == line_feed) ≡ false
     → GivesHeader ends q → GivesHeader ends (b ∷ q)
-header-byte true b q closing feed h = header-true b q closing feed h
-header-byte false b q closing feed h = all
-  where
-    all : GivesHeader false (b ∷ q)
-    all zero = search rules
-    all (suc n) = search rules
+header-byte ends b q closing feed = gives-more ends_header_name b refl (over-header b closing feed) ends q
 
 pub header-stops : (b : ℕ) (n : Option ℕ) → unit_of region.HeaderName (Some b) n ≡ unit.Stop
     → (b == greater_sign) ≡ true
@@ -153,10 +150,6 @@ pub header-one : (ends : Bool) (b : ℕ) (q : List ℕ) → unit_of region.Heade
     → (b == line_feed) ≡ false → holds line_feed (slice_get q 0) ≡ false → GivesHeader ends q
     → GivesHeader ends (b ∷ q)
 header-one ends b q e feed next h = search (rules, header-byte)
-
-pub header-signs : (ends : Bool) (q : List ℕ) → holds line_feed (slice_get q 0) ≡ false → GivesHeader ends q
-    → GivesHeader ends (at_sign ∷ q)
-header-signs ends q next h = header-byte ends at_sign q refl refl h
 
 pub header-others : (ends : Bool) (b y : ℕ) (q : List ℕ) → unit_of region.HeaderName (Some b) (Some y) ≡ unit.Two
     → (b == at_sign) ≡ false → (y == line_feed) ≡ false → holds line_feed (slice_get q 0) ≡ false

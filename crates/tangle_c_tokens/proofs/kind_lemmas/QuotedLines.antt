@@ -16,7 +16,7 @@ use Rattle.tangle_scan.specs.Rules.{without_faults}
 use Rattle.c_tokens.specs.Bytes.{line_feed}
 use Rattle.c_tokens.specs.Reading.{spliced}
 use Rattle.c_lines.proofs.JoinedLemmas.{spliced-other}
-use Rattle.tangle_c_tokens.specs.Kinds.{range_bytes}
+use Rattle.tangle_c_tokens.specs.Groups.{group_text}
 use Rattle.tangle_c_tokens.specs.LineFeeds.{TextHasNoLineFeed}
 use Rattle.tangle_c_tokens.proofs.kind_lemmas.Lines.{AreInLines}
 use Rattle.tangle_c_tokens.proofs.kind_lemmas.QuoteBytes.{kept-first}
@@ -30,9 +30,6 @@ one-byte : (b : ℕ) (q : List ℕ) → (b == line_feed) ≡ false → holds lin
     → IsOneLine (b ∷ q)
 one-byte b q feed next line = subst TextHasNoLineFeed (sym (kept-first b q next)) (grind (arith, nat_tests))
 
-taken-feed : (b : ℕ) (q : List ℕ) → b ≡ backslash → IsOneLine q → IsOneLine (b ∷ line_feed ∷ q)
-taken-feed b q same line = subst (λ c. IsOneLine (c ∷ line_feed ∷ q)) (sym same) line
-
 -- `r` is the region of such texts, in which only a backslash continues a line.
 module _ (texts : List (List ℕ)) (r : Region) (close last_line : ℕ) (cut : IsCut r)
     (kind : kind_in r ≡ span_kind.Quoted)
@@ -40,18 +37,16 @@ module _ (texts : List (List ℕ)) (r : Region) (close last_line : ℕ) (cut : I
     (closes : (close == line_feed) ≡ false)
     (pairs : (b : ℕ) (n : Option ℕ) → unit_of r (Some b) n ≡ unit.Two
     → are_bytes at_sign at_sign (Some b) n ≡ false → b ≡ backslash) where
-  no-feed : (b : ℕ) → b ≡ backslash → (b == line_feed) ≡ false
-  no-feed b same = ap (λ c. c == line_feed) same
-
   pub text-lines : (c : Cell) (cs : List Cell) (b : ℕ) → c.byte ≡ Some b → AreInLines texts (c ∷ cs)
       → (b == backslash) ≡ false → (b == line_feed) ≡ false
-      → IsOneLine (range_bytes texts (without_faults (cut_tokens (quote_end r close last_line) r 0 c.column cs)))
+      → IsOneLine (group_text texts (without_faults (cut_tokens (quote_end r close last_line) r 0 c.column cs)))
   text-lines c cs b x is back feed =
       let whole = (text-whole texts r close last_line cut kind stops (λ ends q. IsOneLine q) (one-byte close [] closes refl refl)
       refl (λ ends b q e feed next line. one-byte b q feed next line)
       (λ ends q next line. one-byte at_sign q refl next line)
       (λ ends b y q e sign feed next line.
-      one-byte b (y ∷ q) (no-feed b (pairs b (Some y) e (rw sign refl))) feed (one-byte y q feed next line))
-      (λ ends b q e line. taken-feed b q (pairs b None e (and-false (b == at_sign))) line) c cs b x is).1 in
+      one-byte b (y ∷ q) (ap (λ c. c == line_feed) (pairs b (Some y) e (rw sign refl))) feed (one-byte y q feed next line))
+      (λ ends b q e line.
+      subst (λ c. IsOneLine (c ∷ line_feed ∷ q)) (sym (pairs b None e (and-false (b == at_sign)))) line) c cs b x is).1 in
       subst IsOneLine (sym whole.bytes)
       (subst TextHasNoLineFeed (sym (spliced-other b whole.ahead back)) (grind (arith, nat_tests, feed, whole.closes)))

@@ -1,11 +1,11 @@
 -- The ranges of a quoted text have the bytes of one text, unit by unit.
 use Rattle.std.proofs.Common.{rules}
 use Rattle.std.proofs.Common.{◌≡◌, ℕ, suc, ◌+◌, ◌≤◌, Bool, true, false, List, [], ◌∷◌, ◌++◌}
-use Rattle.std.proofs.Common.{Option, Some, None, refl, ap, sym, ◌∙◌, subst, arith, append_assoc}
+use Rattle.std.proofs.Common.{Option, Some, None, refl, ap, sym, ◌∙◌, subst, arith, append_assoc, append-nil}
 use Rattle.std.proofs.Common.{cond, get_or, length}
 use Rattle.std.specs.Prelude.{◌==◌, ◌&&◌, slice_get}
 use Rattle.std.specs.List.{list_all}
-use Rattle.std.proofs.lemmas.Bool.{eqb-true}
+use Rattle.std.proofs.lemmas.Bool.{cond_both, eqb-true}
 use Rattle.tangle_faults.specs.declared.faults.FaultKind.TheVariants as fault
 use Rattle.tangle_lines.specs.Bytes.{at_sign}
 use Rattle.tangle_text.specs.declared.regions.Region.{Region}
@@ -25,15 +25,17 @@ use Rattle.tangle_scan.specs.Rules.{without_faults}
 use Rattle.tangle_scan.specs.ReadAsMeant.{token_bytes}
 use Rattle.c_tokens.specs.Bytes.{line_feed}
 use Rattle.c_tokens.specs.Borders.{has_bytes}
+use Rattle.tangle_c_tokens.specs.Groups.{group_text}
 use Rattle.tangle_c_tokens.specs.Edges.{last_byte_passes}
-use Rattle.tangle_c_tokens.specs.Kinds.{is_range, range_bytes}
+use Rattle.tangle_c_tokens.proofs.TextLemmas.{ends-append}
+use Rattle.tangle_c_tokens.specs.Kinds.{is_range}
 use Rattle.tangle_c_tokens.proofs.kind_lemmas.Lines.{IsInLine, AreInLines, Continues, after-byte, byte-within, range}
 use Rattle.tangle_c_tokens.proofs.kind_lemmas.Lines.{range-none, range-byte, range-some}
 use Rattle.std.proofs.lemmas.Bool.Decides.{nat_tests}
 
--- the last byte of a text is that of the text with one more byte before it
-last-more : (test : ℕ → Bool) (b : ℕ) (q : List ℕ) → last_byte_passes test q ≡ true → last_byte_passes test (b ∷ q) ≡ true
-last-more test b q h = search rules
+held : (b : ℕ) (x : Option ℕ) → holds b x ≡ true → x ≡ Some b
+held b None h = search rules
+held b (Some c) h = cc (eqb-true c b h)
 
 -- `Closes` is true of the bytes of a text after its opening byte: of a text that ends, or of one that does not. `r` is
 -- the region of such texts, which this byte closes.
@@ -63,7 +65,7 @@ module _ (texts : List (List ℕ)) (r : Region) (close last_line : ℕ) (cut : I
   pub record Ends (before : List ℕ) (front : Option ℕ) (ts : List Token) : Type 0 where
     pub ends : Bool
     pub ahead : List ℕ
-    pub bytes : range_bytes texts (without_faults ts) ≡ before ++ ahead
+    pub bytes : group_text texts (without_faults ts) ≡ before ++ ahead
     pub first : slice_get ahead 0 ≡ front
     pub closes : Closes ends ahead
     pub last : ends ≡ true → last_byte_passes is_closing ahead ≡ true
@@ -77,21 +79,32 @@ module _ (texts : List (List ℕ)) (r : Region) (close last_line : ℕ) (cut : I
       AreInLines texts (c ∷ cs) → (start : ℕ) → start ≤ c.column
       → Ends (range texts c.line start c.column) c.byte (tokens_of start (c ∷ cs))
 
-  end-holds : Holds 0 []
-  end-holds = grind (arith, nat_tests)
-
-  -- the tokens after a range are ranges with these bytes
-  abbrev IsAfter : ℕ → ℕ → ℕ → List Token → Type 0
-  IsAfter line start end ts =
-      (range_bytes texts (without_faults (cut_range r line start end ++ ts))
-      ≡ range texts line start end ++ range_bytes texts (without_faults ts))
-      × (list_all is_range (without_faults (cut_range r line start end ++ ts)) ≡ list_all is_range (without_faults ts))
-      × (list_all is_full (without_faults (cut_range r line start end ++ ts)) ≡ list_all is_full (without_faults ts))
+  -- tokens that are ranges with these bytes, and then other tokens
+  record Adds (bytes : List ℕ) (ts rest : List Token) : Type 0 where
+    text : group_text texts (without_faults ts) ≡ bytes ++ group_text texts (without_faults rest)
+    ranges : list_all is_range (without_faults ts) ≡ list_all is_range (without_faults rest)
+    full : list_all is_full (without_faults ts) ≡ list_all is_full (without_faults rest)
 
   -- a range that may be empty
   cut-range : (line start end : ℕ) → start ≤ end → end ≤ length (get_or texts line []) → (ts : List Token)
-      → IsAfter line start end ts
+      → Adds (range texts line start end) (cut_range r line start end ++ ts) ts
   cut-range line start end low within ts = search (rules, range-some)
+
+  -- a text with these bytes before it
+  add-ends : (before first rest_before : List ℕ) (b : ℕ) (more : List ℕ) (front rest_front : Option ℕ) (ts rest : List Token)
+      → Adds first ts rest → (further : Ends rest_before rest_front rest) → front ≡ Some b → first ++ rest_before ≡ before ++ b ∷ more
+      → Closes further.ends (b ∷ more ++ further.ahead) → Ends before front ts
+  add-ends before first rest_before b more front rest_front ts rest adds further x same closes = record {
+    ends = further.ends;
+    ahead = b ∷ more ++ further.ahead;
+    bytes = adds.text ∙ ap (λ t. first ++ t) further.bytes ∙ sym (append_assoc first rest_before further.ahead)
+        ∙ ap (λ t. t ++ further.ahead) same ∙ append_assoc before (b ∷ more) further.ahead;
+    first = sym x;
+    closes = closes;
+    last = λ k. ends-append is_closing (b ∷ more) further.ahead (further.last k);
+    ranges = adds.ranges ∙ further.ranges;
+    full = adds.full ∙ further.full;
+  }
 
   -- the end of the text
 
@@ -102,23 +115,14 @@ module _ (texts : List (List ℕ)) (r : Region) (close last_line : ℕ) (cut : I
       (cut_range r c.line start c.column ++ token.Fault fault.StringEnd c.line ∷ []))
   stop-by c cs start false same e is low = search (rules, cut-range)
   stop-by c cs start true same stop is low =
-      let e = closing c.byte same in
+      let e = held close c.byte same in
       let only = cut-range c.line start (c.column + 1) (omega arith) (byte-within texts c cs close e is) [] in
       search (rules, range-byte)
-    where
-      closing : (b : Option ℕ) → holds close b ≡ true → b ≡ Some close
-      closing None h = search rules
-      closing (Some b) h = cc (eqb-true b close h)
 
   stop-holds : (text : List Cell) → unit_at r text ≡ unit.Stop → Holds 0 text
   stop-holds text e = search (rules, cut-stop, stop-by)
 
   -- a unit of one byte
-
-  no-faults : (b : Bool) (line : ℕ) (ts : List Token)
-      → without_faults (fault_if b fault.StringAt line ++ ts) ≡ without_faults ts
-  no-faults true line ts = refl
-  no-faults false line ts = refl
 
   one-holds : (n : ℕ) (c : Cell) (cs : List Cell) → unit_at r (c ∷ cs) ≡ unit.One → Holds n cs → Holds (suc n) (c ∷ cs)
   one-holds n c [] e next is start low = grind (arith, nat_tests)
@@ -129,21 +133,14 @@ module _ (texts : List (List ℕ)) (r : Region) (close last_line : ℕ) (cut : I
       by (Some b) x =
           let at = after-byte texts c d cs b x is.0 in
           let tail = tokens_of start (d ∷ cs) in
-          let faults : List Token = fault_if (holds at_sign c.byte) fault.StringAt c.line in
-          let tokens : tokens_of start (c ∷ d ∷ cs) ≡ faults ++ tail = rw e refl in
-          let kept = ap without_faults tokens ∙ no-faults (holds at_sign c.byte) c.line tail in
-          let further = next is.1 start (omega arith) in
+          let tokens : tokens_of start (c ∷ d ∷ cs) ≡ fault_if (holds at_sign c.byte) fault.StringAt c.line ++ tail = rw e refl in
+          let kept = ap without_faults tokens ∙ cond_both (holds at_sign c.byte) (token.Fault fault.StringAt c.line ∷ []) []
+          (λ fs. without_faults (fs ++ tail) ≡ without_faults tail) (λ _. refl) (λ _. refl) in
           let moved = (λ i. range texts (at.0 i) start (at.1 i)) ∙ range-byte texts c (d ∷ cs) b start x is.0 low in
-          record {
-            ends = further.ends;
-            ahead = b ∷ further.ahead;
-            bytes = search (rules, append_assoc);
-            first = sym x;
-            closes = search rules;
-            last = λ k. last-more is_closing b further.ahead (further.last k);
-            ranges = ap (list_all is_range) kept ∙ further.ranges;
-            full = ap (list_all is_full) kept ∙ further.full;
-          }
+          let further = next is.1 start (omega arith) in
+          add-ends _ [] _ b [] _ _ _ tail
+          (record { text = ap (group_text texts) kept; ranges = ap (list_all is_range) kept; full = ap (list_all is_full) kept })
+          further x moved (search rules)
 
   -- a unit of two bytes, or of a backslash and a line end
 
@@ -164,19 +161,15 @@ module _ (texts : List (List ℕ)) (r : Region) (close last_line : ℕ) (cut : I
       let cut = cut-range c.line start (c.column + 1) (omega arith) (byte-within texts c (d ∷ cs) b x is.0)
       (token.QuoteBreak c.line ∷ tokens_of 0 cs) in
       let further = (from-front n d cs y next is.1).1 in
-      record {
-        ends = further.ends;
-        ahead = b ∷ line_feed ∷ further.ahead;
-        bytes = ap (λ ts. range_bytes texts (without_faults ts)) tokens ∙ cut.0
-            ∙ ap (λ t. range texts c.line start (c.column + 1) ++ line_feed ∷ t) further.bytes
-            ∙ ap (λ t. t ++ line_feed ∷ further.ahead) (range-byte texts c (d ∷ cs) b start x is.0 low)
-            ∙ append_assoc (range texts c.line start c.column) (b ∷ []) (line_feed ∷ further.ahead);
-        first = sym x;
-        closes = broken further.ends b further.ahead ((λ i. unit_of r (sym x i) (sym y i)) ∙ e) further.closes;
-        last = search rules;
-        ranges = ap (λ ts. list_all is_range (without_faults ts)) tokens ∙ cut.1 ∙ further.ranges;
-        full = ap (λ ts. list_all is_full (without_faults ts)) tokens ∙ cut.2 ∙ further.full;
-      }
+      let before = range texts c.line start c.column in
+      subst (Ends before c.byte) (sym tokens)
+      (add-ends before (range texts c.line start (c.column + 1) ++ line_feed ∷ []) [] b (line_feed ∷ []) _ _ _ (tokens_of 0 cs) (record {
+        text = cut.text ∙ sym (append_assoc (range texts c.line start (c.column + 1)) (line_feed ∷ []) _);
+        ranges = cut.ranges;
+        full = cut.full;
+      }) further x (append-nil _ ∙ ap (λ t. t ++ line_feed ∷ []) (range-byte texts c (d ∷ cs) b start x is.0 low)
+      ∙ append_assoc before (b ∷ []) (line_feed ∷ []))
+      (broken further.ends b further.ahead ((λ i. unit_of r (sym x i) (sym y i)) ∙ e) further.closes))
 
   signs-holds : (n : ℕ) (c d : Cell) (cs : List Cell) (y start : ℕ) → holds at_sign c.byte ≡ true → d.byte ≡ Some y
       → Holds n cs → AreInLines texts (c ∷ d ∷ cs) → start ≤ c.column
@@ -184,29 +177,17 @@ module _ (texts : List (List ℕ)) (r : Region) (close last_line : ℕ) (cut : I
       → Ends (range texts c.line start c.column) c.byte (tokens_of start (c ∷ d ∷ cs))
   signs-holds n c d [] y start sign z next is low tokens = grind (arith, nat_tests)
   signs-holds n c d (f ∷ cs) y start sign z next is low tokens =
-      let x = here c.byte sign in
+      let x = held at_sign c.byte sign in
       let at = after-byte texts c d (f ∷ cs) at_sign x is.0 in
       let cut = cut-range c.line start (c.column + 1) (omega arith)
       (byte-within texts c (d ∷ f ∷ cs) at_sign x is.0) (tokens_of (c.column + 2) (f ∷ cs)) in
       let column : f.column ≡ c.column + 2 = omega (arith, (after-byte texts d f cs y z is.1.0).1) in
+      let none = ap (range texts f.line (c.column + 2)) column ∙ range-none texts f.line (c.column + 2) in
       let further = next is.1.1 (c.column + 2) (omega arith) in
-      record {
-        ends = further.ends;
-        ahead = at_sign ∷ further.ahead;
-        bytes = ap (λ ts. range_bytes texts (without_faults ts)) tokens ∙ cut.0
-            ∙ ap (λ t. range texts c.line start (c.column + 1) ++ t) (further.bytes ∙ ap (λ t. t ++ further.ahead) (ap (range texts f.line (c.column + 2)) column ∙ range-none texts f.line (c.column + 2)))
-            ∙ ap (λ t. t ++ further.ahead) (range-byte texts c (d ∷ f ∷ cs) at_sign start x is.0 low)
-            ∙ append_assoc (range texts c.line start c.column) (at_sign ∷ []) further.ahead;
-        first = sym x;
-        closes = search rules;
-        last = λ k. last-more is_closing at_sign further.ahead (further.last k);
-        ranges = ap (λ ts. list_all is_range (without_faults ts)) tokens ∙ cut.1 ∙ further.ranges;
-        full = ap (λ ts. list_all is_full (without_faults ts)) tokens ∙ cut.2 ∙ further.full;
-      }
-    where
-      here : (b : Option ℕ) → holds at_sign b ≡ true → b ≡ Some at_sign
-      here None h = search rules
-      here (Some b) h = search rules
+      subst (Ends (range texts c.line start c.column) c.byte) (sym tokens)
+      (add-ends _ (range texts c.line start (c.column + 1)) _ at_sign [] _ _ _ _ cut further x
+      (ap (λ t. range texts c.line start (c.column + 1) ++ t) none ∙ append-nil _ ∙ range-byte texts c (d ∷ f ∷ cs) at_sign start x is.0 low)
+      (search rules))
 
   others-holds : (n : ℕ) (c d : Cell) (cs : List Cell) (b y start : ℕ) → c.byte ≡ Some b → d.byte ≡ Some y
       → unit_of r c.byte d.byte ≡ unit.Two → holds at_sign c.byte ≡ false
@@ -217,21 +198,14 @@ module _ (texts : List (List ℕ)) (r : Region) (close last_line : ℕ) (cut : I
   others-holds n c d (f ∷ cs) b y start x z e other next is low tokens =
       let at = after-byte texts c d (f ∷ cs) b x is.0 in
       let then = after-byte texts d f cs y z is.1.0 in
-      let further = next is.1.1 start (omega arith) in
       let moved = (λ i. range texts (then.0 i) start (then.1 i))
       ∙ range-byte texts d (f ∷ cs) y start z is.1.0 (omega arith)
       ∙ ap (λ t. t ++ y ∷ []) ((λ i. range texts (at.0 i) start (at.1 i))
       ∙ range-byte texts c (d ∷ f ∷ cs) b start x is.0 low) in
-      record {
-        ends = further.ends;
-        ahead = b ∷ y ∷ further.ahead;
-        bytes = search (rules, append_assoc);
-        first = sym x;
-        closes = search rules;
-        last = search (rules, last-more);
-        ranges = ap (λ ts. list_all is_range (without_faults ts)) tokens ∙ further.ranges;
-        full = ap (λ ts. list_all is_full (without_faults ts)) tokens ∙ further.full;
-      }
+      let further = next is.1.1 start (omega arith) in
+      subst (Ends (range texts c.line start c.column) c.byte) (sym tokens)
+      (add-ends _ [] _ b (y ∷ []) _ _ _ _ (record { text = refl; ranges = refl; full = refl }) further x
+      (moved ∙ append_assoc (range texts c.line start c.column) (b ∷ []) (y ∷ [])) (search rules))
 
   two-holds : (n : ℕ) (c d : Cell) (cs : List Cell) → unit_at r (c ∷ d ∷ cs) ≡ unit.Two → Holds n cs
       → Holds (suc (suc n)) (c ∷ d ∷ cs)
@@ -268,8 +242,5 @@ module _ (texts : List (List ℕ)) (r : Region) (close last_line : ℕ) (cut : I
       ∙ ap (λ t. t ++ b ∷ []) (range-none texts c.line c.column) in (
         d.byte,
         subst (λ t. Ends t d.byte (tokens_of c.column (d ∷ cs))) first
-            ((units-by r Holds stop-holds end-holds one-holds two-holds (λ f e. lone f e) (d ∷ cs)) is.1 c.column (omega arith)),
+            ((units-by r Holds stop-holds (grind (arith, nat_tests)) one-holds two-holds (λ f e is start low. search rules) (d ∷ cs)) is.1 c.column (omega arith)),
       )
-    where
-      lone : (f : Cell) → unit_at r (f ∷ []) ≡ unit.Two → Holds 1 (f ∷ [])
-      lone f e is start low = search rules

@@ -1,4 +1,5 @@
 -- The rules that make items of tokens leave texts as they are.
+use Rattle.tangle_c_tokens.proofs.ListLemmas.{all-append}
 use Rattle.std.proofs.Common.{rules}
 use Rattle.std.proofs.Common.{arith}
 use Rattle.std.proofs.Common.{◌≡◌, ℕ, Bool, true, false, List, [], ◌∷◌, ◌++◌, refl, ap, sym, ◌∙◌, subst, map}
@@ -58,15 +59,13 @@ module _ (texts : List (List ℕ)) where
 
   -- the tokens before the next head
   pub body-texts : (ts : List Token) → AreTexts texts ts → AreTexts texts (body ts)
-  body-texts = edited-texts body (texts-none texts)
-      (λ t ts h. range-by (λ t. body (t ∷ ts) ≡ t ∷ body ts) (λ s. refl) (λ n. refl) t h)
+  body-texts = edited-texts body (texts-none texts) (search rules)
       (λ t ts alone kind made.
       cond_both (is_head t) [] (t ∷ body ts) (AreTexts texts) (λ e. texts-none texts)
       (λ e. texts-alone texts t (body ts) alone kind made))
 
   inner-texts : (ts : List Token) → AreTexts texts ts → AreTexts texts (map white_inner_end ts)
-  inner-texts = edited-texts (map white_inner_end) (texts-none texts)
-      (λ t ts h. range-by (λ t. map white_inner_end (t ∷ ts) ≡ t ∷ map white_inner_end ts) (λ s. refl) (λ n. refl) t h)
+  inner-texts = edited-texts (map white_inner_end) (texts-none texts) (search rules)
       (λ t ts alone kind made. one t (map white_inner_end ts) alone kind made)
     where
       one : (t : Token) (ts : List Token) → is_range t ≡ false → HasItsKind texts t → AreTexts texts ts
@@ -75,20 +74,8 @@ module _ (texts : List (List ℕ)) where
       one t ts alone kind made = texts-alone texts t ts alone kind made
 
   spaces-texts : (ts : List Token) → AreTexts texts ts → AreTexts texts (with_spaces texts ts)
-  spaces-texts = edited-texts (with_spaces texts) (texts-none texts)
-      (λ t ts h. range-by (λ t. with_spaces texts (t ∷ ts) ≡ t ∷ with_spaces texts ts) (λ s. range s ts) (λ n. break n ts) t h)
-      (λ t ts alone kind made. one t ts alone kind made)
+  spaces-texts = edited-texts (with_spaces texts) (texts-none texts) (search rules) one
     where
-      range : (s : Span) (ts : List Token) → with_spaces texts (token.Span span_kind.Quoted s ∷ ts)
-          ≡ token.Span span_kind.Quoted s ∷ with_spaces texts ts
-      range s [] = refl
-      range s (f ∷ ts) = refl
-
-      break : (n : ℕ) (ts : List Token) → with_spaces texts (token.QuoteBreak n ∷ ts)
-          ≡ token.QuoteBreak n ∷ with_spaces texts ts
-      break n [] = refl
-      break n (f ∷ ts) = refl
-
       one : (t : Token) (ts : List Token) → is_range t ≡ false → HasItsKind texts t
           → AreTexts texts (with_spaces texts ts) → AreTexts texts (with_spaces texts (t ∷ ts))
       one t [] alone kind made = texts-alone texts t [] alone kind made
@@ -112,16 +99,8 @@ module _ (texts : List (List ℕ)) where
   alone-texts [] all = texts-none texts
   alone-texts (t ∷ run) all = texts-alone texts t run all.0.0 all.0.1 (alone-texts run all.1)
 
-  alone-last : (run : List Token) (t : Token) → AreAlone run → is_range t ≡ false → HasItsKind texts t
-      → AreAlone (run ++ t ∷ [])
-  alone-last [] t all alone kind = ((alone, kind), tt)
-  alone-last (u ∷ run) t all alone kind = (all.0, alone-last run t all.1 alone kind)
-
   left-texts : (run : List Token) → AreAlone run → AreTexts texts (left_of_run run)
   left-texts run all = search (rules, alone-texts)
-
-  runs-keep : KeepsRanges (map_runs left_of_run [])
-  runs-keep t ts h = grind (arith, nat_tests)
 
   runs-texts : (ts : List Token) → AreTexts texts ts → (run : List Token) → AreAlone run
       → AreTexts texts (map_runs left_of_run run ts)
@@ -129,7 +108,7 @@ module _ (texts : List (List ℕ)) where
       texts-by texts (λ ts. (run : List Token) → AreAlone run → AreTexts texts (map_runs left_of_run run ts)) left-texts
       (λ t ts alone kind all made run is.
       cond_both (is_gap t) (map_runs left_of_run (run ++ t ∷ []) ts) (left_of_run run ++ t ∷ map_runs left_of_run [] ts)
-      (AreTexts texts) (λ e. made (run ++ t ∷ []) (alone-last run t is alone kind))
+      (AreTexts texts) (λ e. made (run ++ t ∷ []) (all-append (λ t. (is_range t ≡ false) × HasItsKind texts t) run (t ∷ []) is ((alone, kind), tt)))
       (search (rules, texts-append, left-texts, texts-alone)))
       (λ part ts quoted all made run is. by part ts quoted run is (made run is) (made [] tt))
     where
@@ -141,7 +120,7 @@ module _ (texts : List (List ℕ)) where
           let first : map_runs left_of_run run (t ∷ part ++ ts)
           ≡ left_of_run run ++ t ∷ map_runs left_of_run [] (part ++ ts)
           = search rules in
-          subst (AreTexts texts) (sym (first ∙ (ap (λ us. left_of_run run ++ t ∷ us) (cc (keeps-part (map_runs left_of_run []) runs-keep part ts (and_parts (is_range t) (list_all is_range part) quoted.ranges).1)))))
+          subst (AreTexts texts) (sym (first ∙ (ap (λ us. left_of_run run ++ t ∷ us) (cc (keeps-part (map_runs left_of_run []) (λ t ts h. grind (arith, nat_tests)) part ts (and_parts (is_range t) (list_all is_range part) quoted.ranges).1)))))
           (texts-append texts (left_of_run run) _ (left-texts run is)
           (texts-part texts (t ∷ part) (map_runs left_of_run [] ts) quoted made))
 

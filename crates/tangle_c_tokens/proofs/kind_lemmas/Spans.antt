@@ -19,7 +19,7 @@ use Rattle.c_tokens.specs.Grammar.{is_number, apostrophes_separate}
 use Rattle.c_tokens.specs.Touching.TextKind.{Plain, Other}
 use Rattle.tangle_c_tokens.specs.Kinds.{IsTextOfKind, HasItsKind}
 use Rattle.tangle_c_tokens.proofs.kind_lemmas.Lines.{IsInLine, span-bytes, first-byte}
-use Rattle.tangle_c_tokens.proofs.kind_lemmas.NumberWords.{is_separated_byte, separated-number, separates-word, separates-more}
+use Rattle.c_tokens.proofs.NumberLemmas.{is_separated_byte, separated-number, separates-word, separates-more}
 use Rattle.tangle_c_tokens.proofs.kind_lemmas.WordKinds.{number-text, plain-text}
 use Rattle.std.proofs.lemmas.Bool.Decides.{nat_tests}
 
@@ -53,7 +53,7 @@ number-bytes : (text : List Cell) → IsSeparated (take (count_before region.Num
 number-bytes =
     units-by region.Number (λ n text. IsSeparated (take n (line_bytes text))) (λ text e. (refl, refl)) (refl, refl)
     (λ n c cs e h. one n cs h (byte_at 0 cs) c.byte e) (λ n c d cs e h. two n cs h c.byte d.byte e)
-    (λ c e. absurd (never c.byte e))
+    (λ c e. grind (arith, nat_tests))
   where
     one : (n : ℕ) (cs : List Cell) → IsSeparated (take n (line_bytes cs)) → (next b : Option ℕ)
         → unit_of region.Number b next ≡ unit.One → IsSeparated (take (suc n) (bytes_by b (line_bytes cs)))
@@ -73,11 +73,6 @@ number-bytes =
         let more = more-separated c a parts.1 h in
         subst (λ k. IsSeparated (k ∷ c ∷ a)) (sym (eqb-true b apostrophe parts.0))
         (more.0, separates-more c a parts.1 h.0 more.1)
-
-    never : (b : Option ℕ) → unit_of region.Number b None ≡ unit.Two → ⊥
-    never None e = false≢true (unit-two false false e)
-    never (Some b) e =
-        false≢true (and_parts (b == apostrophe) false (unit-two (is_word_byte b) (is_separator (Some b) None) e)).1
 
 -- a word with this first byte is of its kind
 abbrev IsWord : ℕ → List ℕ → Type 0

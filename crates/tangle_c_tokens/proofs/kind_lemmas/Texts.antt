@@ -12,9 +12,6 @@ use Rattle.tangle_lexer.proofs.lemmas.PlainTokens.{HasNone}
 use Rattle.tangle_c_tokens.specs.Kinds.{HasItsKind, is_range, IsQuotedText, IsAlone, AreTexts}
 use Rattle.std.proofs.lemmas.Bool.Decides.{nat_tests}
 
-abbrev joined : List (List Token) → List Token
-joined parts = flat_map (λ part. part) parts
-
 -- a word, a sign, or a part of a quoted text
 abbrev pub is_source : Token → Bool
 is_source (token.Span span_kind.Verbatim s) = false
@@ -46,7 +43,7 @@ module _ (texts : List (List ℕ)) where
       → P (t ∷ ts))
       (quoted : (part ts : List Token) → IsQuotedText texts part → AreTexts texts ts → P ts → P (part ++ ts)) where
     parts-by : (parts : List (List Token))
-        → AllByRecursion (λ part. IsAlone texts part ⊎ IsQuotedText texts part) parts → P (joined parts)
+        → AllByRecursion (λ part. IsAlone texts part ⊎ IsQuotedText texts part) parts → P (flat_map (λ part. part) parts)
     parts-by [] all = none
     parts-by (part ∷ parts) all = search (rules, alone, quoted, parts-by parts)
 

@@ -6,12 +6,12 @@ use Rattle.std.specs.Prelude.{◌==◌}
 use Rattle.std.specs.List.{list_any, list_all}
 use Rattle.std.proofs.lemmas.Bool.{and_parts, or_left, or_parts}
 use Rattle.c_tokens.specs.Bytes.{space, slash, backslash, is_digit, is_word_byte}
-use Rattle.c_tokens.specs.Borders.{last_byte}
 use Rattle.c_tokens.specs.Grammar.{is_comment, is_element}
 use Rattle.c_tokens.specs.Reading.{spliced, longest, elements_from}
 use Rattle.c_tokens.specs.Touching.TextKind.{Plain, Other}
 use Rattle.tangle_c_tokens.specs.Kinds.{IsTextOfKind}
-use Rattle.tangle_c_tokens.proofs.kind_lemmas.NumberWords.{is_separated_byte, word-separated}
+use Rattle.c_tokens.proofs.LongerLemmas.{all-last-byte}
+use Rattle.c_tokens.proofs.NumberLemmas.{is_separated_byte, word-separated}
 use Rattle.std.proofs.lemmas.Bool.Decides.{nat_tests}
 
 abbrev is_open : List ℕ → Bool
@@ -47,10 +47,6 @@ number-spliced a h = no-splice a (not-in-number backslash refl a h)
 word-spliced : (a : List ℕ) → list_all is_word_byte a ≡ true → spliced a ≡ a
 word-spliced a h = number-spliced a (word-separated a h)
 
-word-last : (b : ℕ) (a : List ℕ) → list_all is_word_byte (b ∷ a) ≡ true → is_word_byte (last_byte b a) ≡ true
-word-last b [] h = (and_parts (is_word_byte b) true h).0
-word-last b (c ∷ a) h = word-last c a (and_parts (is_word_byte b) (list_all is_word_byte (c ∷ a)) h).1
-
 -- a number is of the other kind, and a word that begins with no digit is plain
 
 pub number-text : (b : ℕ) (a : List ℕ) → list_all is_separated_byte (b ∷ a) ≡ true → IsTextOfKind Other (b ∷ a)
@@ -64,4 +60,4 @@ number-text b a h = record {
 
 pub plain-text : (b : ℕ) (a : List ℕ) → is_digit b ≡ false → list_all is_word_byte (b ∷ a) ≡ true
     → IsTextOfKind Plain (b ∷ a)
-plain-text b a digit h = search (rules, word-spliced, or_left, and_parts, word-last)
+plain-text b a digit h = search (rules, word-spliced, or_left, and_parts, all-last-byte is_word_byte)

@@ -12,7 +12,7 @@ use Rattle.tangle_text.specs.declared.regions.Unit.TheVariants as unit
 use Rattle.tangle_lines.specs.Bytes.{at_sign}
 use Rattle.tangle_text.specs.Bytes.{backslash, holds}
 use Rattle.tangle_text.specs.Text.{Cell, byte_at}
-use Rattle.tangle_text.specs.Regions.{unit_of, unit_at, count_before}
+use Rattle.tangle_text.specs.Regions.{unit_of, count_before}
 use Rattle.tangle_lexer.specs.Lexemes.{fault_if}
 use Rattle.tangle_lexer.specs.Quoted.{cut_range, cut_tokens}
 use Rattle.tangle_lexer.proofs.lemmas.CutLemmas.{cut-stop}
@@ -73,14 +73,10 @@ module _ (texts : List (List ℕ)) (r : Region) (cut : IsCut r) (ends : ℕ → 
       (at : Point) (start : ℕ) → start ≤ at.column → IsTextAt texts at text
       → P at start (cut_tokens ends r 0 start text) n text
 
-  two-holds : (n : ℕ) (c d : Cell) (cs : List Cell)
-      → unit_at r (c ∷ d ∷ cs) ≡ unit.Two → Holds n cs → Holds (suc (suc n)) (c ∷ d ∷ cs)
-  two-holds n c d cs e next at start h is = search (rules, append_assoc)
-
   cut-holds : (text : List Cell) → Holds (count_before r text) text
   cut-holds =
       units-by r Holds (search (rules, cut-stop)) (λ at start h is. stop at start [] h is) (search rules)
-      two-holds (search rules)
+      (search (rules, append_assoc)) (search rules)
 
   -- the text from the start of a range on, to the end of the region
   pub cut-by : (at : Point) (start : ℕ) (text : List Cell) → start ≤ at.column → IsTextAt texts at text

@@ -54,8 +54,7 @@ part_points within (_ ∷ us) = part_points within us
 -- plain tokens are in one part, or outside of all
 part_points-plain : (within : Bool) (ts us : List Token) → list_any is_not_plain ts ≡ false
     → part_points within (ts ++ us) ≡ (if within then token_points ts else []) ++ part_points within us
-part_points-plain true [] us h = refl
-part_points-plain false [] us h = refl
+part_points-plain x [] us h = search rules
 part_points-plain within (t ∷ ts) us h = grind (arith, part_points-plain within ts us, append_assoc)
 
 -- tokens without a span have no points

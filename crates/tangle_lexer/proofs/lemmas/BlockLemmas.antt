@@ -45,46 +45,6 @@ pub rest-drop : (lines : List SourceLine) (n : ℕ) (text : List Cell)
     → IsRestOf lines text → IsRestOf lines (drop n text)
 rest-drop lines n text ours = (ours.0 + n, ap (drop n) ours.1 ∙ drop-drop n ours.0 _)
 
--- a step that adds no head
-
--- a step whose tokens are no runs does not change the list of the tokens read and those ahead
-pub plain-tokens : (texts : List (List ℕ)) (old new : List Token) (s after : LexerState) (text rest : List Cell)
-    → 0 < length text → IsRead old new text rest after (lexeme s text) → HasNone is_run (lexeme s text).tokens
-    → unfolded texts new ++ tokens_from after rest ≡ unfolded texts old ++ tokens_from s text
-plain-tokens texts old new s after text rest inside read none =
-    grind (arith, unfolded-append texts old, unfolded-plain texts, append_assoc (unfolded texts old), tokens_from-step s text inside)
-
-pub plain-runs : (texts : List (List ℕ)) (old new : List Token) (s after : LexerState) (text rest : List Cell)
-    → IsRead old new text rest after (lexeme s text) → HasNone is_run (lexeme s text).tokens
-    → All (IsRunIn texts) old → All (IsRunIn texts) new
-plain-runs texts old new s after text rest read none runs =
-    subst (All (IsRunIn texts)) (sym read.tokens)
-    (All-append (IsRunIn texts) old (lexeme s text).tokens runs (runs-plain texts (lexeme s text).tokens none))
-
-pub plain-none : (test : Token → Bool) (old new : List Token) (s after : LexerState) (text rest : List Cell)
-    → IsRead old new text rest after (lexeme s text) → HasNone test (lexeme s text).tokens
-    → HasNone test old → HasNone test new
-plain-none test old new s after text rest read here before = grind (arith, nat_tests, none-append)
-
-pub read-ours : (lines : List SourceLine) (old new : List Token) (s after : LexerState) (text rest : List Cell)
-    → IsRead old new text rest after (lexeme s text) → IsRestOf lines text → IsRestOf lines rest
-read-ours lines old new s after text rest read ours =
-    subst (IsRestOf lines) (sym read.ahead)
-    (rest-drop lines (lexeme s text).more (drop 1 text) (rest-drop lines 1 text ours))
-
-pub plain-reads-on : (lines : List SourceLine) (old new : List Token) (s after : LexerState) (text rest : List Cell)
-    → 0 < length text → IsRead old new text rest after (lexeme s text) → HasNone is_run (lexeme s text).tokens
-    → occurrences_from after rest ≡ occurrences_from s text → IsRestOf lines text
-    → ReadsOn lines old new s after text rest
-plain-reads-on lines old new s after text rest inside read none occurrences ours =
-    search (rules, plain-tokens, plain-runs, read-ours)
-
--- one after another
-
-pub reads-trans : (lines : List SourceLine) (ts us vs : List Token) (s t u : LexerState) (x y z : List Cell)
-    → ReadsOn lines ts us s t x y → ReadsOn lines us vs t u y z → ReadsOn lines ts vs s u x z
-reads-trans lines ts us vs s t u x y z first more = grind (arith, nat_tests)
-
 -- the tokens before a head that was removed
 
 same-parts : (xs ys : List Token) (x y : Token) → xs ++ x ∷ [] ≡ ys ++ y ∷ [] → (xs ≡ ys) × (x ≡ y)
@@ -103,21 +63,53 @@ pub record IsTaken (old kept : List Token) (here : Lexeme) (head : Token) : Type
   pub tokens : here.tokens ≡ head ∷ []
   pub begins : BeginsIn head here.after.mode
 
-pub taken : (old new kept : List Token) (s after : LexerState) (text rest : List Cell) (head : Token)
-    → HasNone is_head old → IsRead old new text rest after (lexeme s text)
-    → (new ≡ kept ++ head ∷ []) × (is_head head ≡ true) → IsTaken old kept (lexeme s text) head
-taken old new kept s after text rest head none read popped =
-    grind (arith, lexeme-alone s text, no_head-snoc kept head popped.1, none-append is_head old, no-head, same-parts kept old head)
+-- a step was read
+module _ {old new : List Token} (s : LexerState) {after : LexerState} {text rest : List Cell}
+    (read : IsRead old new text rest after (lexeme s text)) where
+  -- a step whose tokens are no runs does not change the list of the tokens read and those ahead
+  pub plain-tokens : (texts : List (List ℕ)) → 0 < length text → HasNone is_run (lexeme s text).tokens
+      → unfolded texts new ++ tokens_from after rest ≡ unfolded texts old ++ tokens_from s text
+  plain-tokens texts inside none =
+      grind (arith, unfolded-append texts old, unfolded-plain texts, append_assoc (unfolded texts old), tokens_from-step s text inside)
 
--- no head was removed: the lexeme is none
-pub not-taken : (old new : List Token) (s after : LexerState) (text rest : List Cell)
-    → IsRead old new text rest after (lexeme s text)
-    → ((ts : List Token) (head : Token) → new ≡ ts ++ head ∷ [] → is_head head ≡ false) → IsPlain s (lexeme s text)
-not-taken old new s after text rest read none = grind (arith, nat_tests, lexeme-alone s text)
+  pub plain-runs : (texts : List (List ℕ)) → HasNone is_run (lexeme s text).tokens
+      → All (IsRunIn texts) old → All (IsRunIn texts) new
+  plain-runs texts none runs =
+      subst (All (IsRunIn texts)) (sym read.tokens)
+      (All-append (IsRunIn texts) old (lexeme s text).tokens runs (runs-plain texts (lexeme s text).tokens none))
 
-pub taken-tokens : (texts : List (List ℕ)) (old new kept : List Token) (s after : LexerState) (text rest : List Cell)
-    (head : Token) → 0 < length text → IsRead old new text rest after (lexeme s text)
-    → (new ≡ kept ++ head ∷ []) × (is_head head ≡ true) → IsTaken old kept (lexeme s text) head
-    → unfolded texts kept ++ head ∷ [] ++ tokens_from after rest ≡ unfolded texts old ++ tokens_from s text
-taken-tokens texts old new kept s after text rest head inside read popped taken =
-    grind (arith, unfolded-append texts kept (head ∷ []), plain-tokens texts old new s after text rest inside read)
+  pub plain-none : (test : Token → Bool) → HasNone test (lexeme s text).tokens → HasNone test old → HasNone test new
+  plain-none test here before = grind (arith, nat_tests, none-append)
+
+  pub read-ours : (lines : List SourceLine) → IsRestOf lines text → IsRestOf lines rest
+  read-ours lines ours =
+      subst (IsRestOf lines) (sym read.ahead)
+      (rest-drop lines (lexeme s text).more (drop 1 text) (rest-drop lines 1 text ours))
+
+  pub plain-reads-on : (lines : List SourceLine) → 0 < length text → HasNone is_run (lexeme s text).tokens
+      → occurrences_from after rest ≡ occurrences_from s text → IsRestOf lines text
+      → ReadsOn lines old new s after text rest
+  plain-reads-on lines inside none occurrences ours = search (rules, plain-tokens, plain-runs, read-ours)
+
+  -- no head was removed: the lexeme is none
+  pub not-taken : ((ts : List Token) (head : Token) → new ≡ ts ++ head ∷ [] → is_head head ≡ false)
+      → IsPlain s (lexeme s text)
+  not-taken none = grind (arith, nat_tests, lexeme-alone s text)
+
+  -- a head was removed
+  pub taken : (kept : List Token) (head : Token) → HasNone is_head old
+      → (new ≡ kept ++ head ∷ []) × (is_head head ≡ true) → IsTaken old kept (lexeme s text) head
+  taken kept head none popped =
+      grind (arith, lexeme-alone s text, no_head-snoc kept head popped.1, none-append is_head old, no-head, same-parts kept old head)
+
+  pub taken-tokens : (texts : List (List ℕ)) (kept : List Token) (head : Token) → 0 < length text
+      → (new ≡ kept ++ head ∷ []) × (is_head head ≡ true) → IsTaken old kept (lexeme s text) head
+      → unfolded texts kept ++ head ∷ [] ++ tokens_from after rest ≡ unfolded texts old ++ tokens_from s text
+  taken-tokens texts kept head inside popped taken =
+      grind (arith, unfolded-append texts kept (head ∷ []), plain-tokens texts inside)
+
+-- one after another
+
+pub reads-trans : (lines : List SourceLine) (ts us vs : List Token) (s t u : LexerState) (x y z : List Cell)
+    → ReadsOn lines ts us s t x y → ReadsOn lines us vs t u y z → ReadsOn lines ts vs s u x z
+reads-trans lines ts us vs s t u x y z first more = grind (arith, nat_tests)

@@ -78,10 +78,9 @@ module _ (P : Lexeme → Type 0) (s : LexerState) (text : List Cell) (by : Lexem
   macro-by kind m o = grind arith
 
   mode-by : (m : Mode) → s.mode ≡ m → P (lexeme_in m s text)
-  mode-by mode.Limbo m = search rules
-  mode-by mode.Documentation m = search rules
   mode-by mode.CPart m = search (rules, c-by, kind-opens)
   mode-by mode.Macro m = search (rules, macro-by, kind-opens)
+  mode-by _ m = search rules
 
   pub lexeme-by : P (lexeme s text)
   unfolding lexeme

@@ -1,19 +1,18 @@
 -- Occurrences are numbered one after another, so their numbers in tokens are below their count.
 use Rattle.std.proofs.Common.{rules}
 use Rattle.std.proofs.lemmas.Bool.Decides.{nat_tests}
-use Rattle.std.proofs.Common.{◌≡◌, ◌≤◌, ◌<◌, ℕ, zero, suc, ◌+◌, false, ◌||◌, List, [], ◌∷◌, ◌++◌, length}
+use Rattle.std.proofs.Common.{◌≡◌, ◌≤◌, ◌<◌, ℕ, zero, suc, ◌+◌, false, List, [], ◌∷◌, ◌++◌, length}
 use Rattle.std.proofs.Common.{flat_map, refl, ap, arith, Option, None, Some, option_to_list}
 use Rattle.std.proofs.Common.{length-append}
 use Rattle.std.specs.List.{list_any, AllByRecursion}
-use Rattle.tangle_faults.specs.declared.faults.FaultKind.TheVariants as fault
 use Rattle.tangle_lexer.specs.declared.tokens.Token.{Token}
 use Rattle.tangle_lexer.specs.declared.tokens.Token.TheVariants as token
 use Rattle.tangle_lexer.specs.declared.modes.LexerState.{LexerState}
 use Rattle.tangle_text.specs.Text.{Cell}
 use Rattle.tangle_lexer.specs.Lexemes.{Lexeme}
-use Rattle.tangle_lexer.specs.Names.{definition_or_mention, definition_count}
+use Rattle.tangle_lexer.specs.Names.{definition_or_mention, use_of_name}
 use Rattle.tangle_lexer.specs.Steps.{lexeme, lexemes, tokens_from, occurrences_from}
-use Rattle.tangle_lexer.proofs.lemmas.PlainTokens.{ArePlain, is_not_plain, seen, fault_if-plain}
+use Rattle.tangle_lexer.proofs.lemmas.PlainTokens.{ArePlain, is_not_plain, fault_if-plain}
 use Rattle.tangle_lexer.proofs.lemmas.PlainLexemes.{IsPlainLexeme, use-plain, mention-plain, fault-plain, kind-plain}
 use Rattle.tangle_lexer.proofs.lemmas.LexemeCases.{lexeme-by}
 
@@ -60,21 +59,13 @@ name-keeps None s text =
     record { count = refl; below = plain-below (s.occurrences + 1) _ (mention-plain s text).none }
 name-keeps (Some count) s text = record { count = refl; below = (omega arith, tt) }
 
+used-keeps : (s : LexerState) (text : List Cell) → Keeps s (use_of_name s text)
+used-keeps s text = record { count = refl; below = (omega arith, plain-below (s.occurrences + 1) _ (use-plain s text).none) }
+
 pub lexeme-keeps : (s : LexerState) (text : List Cell) → Keeps s (lexeme s text)
 lexeme-keeps s text =
-    lexeme-by (Keeps s) s text (record {
-      section = head-keeps s _ token.Section refl refl refl tt;
-      macro = λ o. head-keeps s _ _ refl refl refl tt;
-      part = λ o. head-keeps s _ _ refl refl refl tt;
-      used = λ m o.
-          record { count = refl; below = (omega arith, plain-below (s.occurrences + 1) _ (use-plain s text).none) };
-      name = λ out. name-keeps (definition_count text) s text;
-      limbo = λ m is_fault. plain-keeps s _ refl refl (fault_if-plain is_fault fault.LimboCode _);
-      skip = λ out n. plain-keeps s _ refl refl (seen _ refl);
-      format = λ m. plain-keeps s _ refl refl (seen _ refl);
-      misplaced = λ m o. lexeme-plain s _ (fault-plain fault.MisplacedH s text);
-      inside = λ within kind p o. lexeme-plain s _ (kind-plain kind s text p);
-    })
+    lexeme-by (Keeps s) s text
+    (search (rules, head-keeps, used-keeps, name-keeps, plain-keeps, fault_if-plain, lexeme-plain, fault-plain, kind-plain))
 
 -- all lexemes of a text
 

@@ -43,12 +43,8 @@ is_not_plain t = is_head t
 pub record ArePlain (ts : List Token) : Type 0 where
   pub none : HasNone is_not_plain ts
 
--- tokens are plain if a search finds no other
-pub seen : (ts : List Token) → HasNone is_not_plain ts → ArePlain ts
-seen ts h = record { none = h }
-
 pub plain-append : (xs ys : List Token) → ArePlain xs → ArePlain ys → ArePlain (xs ++ ys)
-plain-append xs ys h k = seen (xs ++ ys) (none-append is_not_plain xs ys h.none k.none)
+plain-append xs ys h k = record { none = none-append is_not_plain xs ys h.none k.none }
 
 pub fault_if-plain : (b : Bool) (kind : FaultKind) (line : ℕ) → ArePlain (fault_if b kind line)
 fault_if-plain x kind line = grind arith

@@ -10,7 +10,7 @@ use Rattle.std.proofs.Common.{sym, ◌∙◌, subst, arith, append_assoc, append
 use Rattle.std.proofs.Common.{Some}
 use Rattle.std.proofs.lemmas.Option.{slice_get-get_or}
 use Rattle.std.specs.List.{All}
-use Rattle.std.proofs.lemmas.Bool.{and_parts, not-true}
+use Rattle.std.proofs.lemmas.Bool.{and_parts}
 use Rattle.std.proofs.lemmas.List.Elements.{All-push}
 use Rattle.tangle_lines.specs.Reading.{SourceLine}
 use Rattle.tangle_text.specs.declared.spans.Span.{Span}
@@ -159,7 +159,7 @@ line-run lines l stays occurrences last line column rest real inside begins sign
     let span_is : span_at (run_count text) text ≡ span
     = ap (λ k. span_at k text) count ∙ span-line line column n bytes rest in
     let parts : run_parts texts span ≡ parts_of line column (chunks (take n bytes)) = parts-are texts line column n in
-    let goes = run-goes l stays occurrences last line rest column bytes in
+    let goes = (run-goes l stays occurrences last line rest column bytes).0 in
     let some : 0 < n = begins-size bytes begins in
     let run : IsRunOf texts span = record {
       span = record {
@@ -197,9 +197,7 @@ lexeme-apart s text p here m h apart = grind (arith, nat_tests, kind-apart p s t
 
 -- a first byte that is apart is no #
 apart-sign : (inc : IncludeState) (b : Option ℕ) → is_apart inc b ≡ true → holds number_sign b ≡ false
-apart-sign include.AtStart b h = not-true (holds number_sign b) h
-apart-sign include.Elsewhere b h = not-true (holds number_sign b) h
-apart-sign _ b h = cc
+apart-sign x b h = grind arith
 
 -- a run that may begin at a simple lexeme, and has bytes, is read from there on
 pub run-read : (lines : List SourceLine) (s : LexerState) (text : List Cell) (p : SimpleLexeme)

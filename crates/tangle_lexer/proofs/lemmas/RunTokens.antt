@@ -1,7 +1,7 @@
 -- The tokens of a run are those of the words, signs and spaces that it consists of.
 use Rattle.std.proofs.Common.{rules}
 use Rattle.std.proofs.lemmas.Bool.Decides.{nat_tests}
-use Rattle.std.proofs.Common.{◌≡◌, ◌<◌, ℕ, zero, suc, ◌+◌, Bool, true, false, ◌==◌, List, [], ◌∷◌}
+use Rattle.std.proofs.Common.{◌≡◌, ◌<◌, ℕ, suc, ◌+◌, Bool, true, false, ◌==◌, List, [], ◌∷◌}
 use Rattle.std.proofs.Common.{◌++◌, length, take, drop, map, Option, Some, None, ◌⊎◌, slice_get, inl, inr, refl, ap}
 use Rattle.std.proofs.Common.{sym, ◌∙◌, subst, arith}
 use Rattle.std.proofs.lemmas.Bool.{cases_Bool}
@@ -9,7 +9,7 @@ use Rattle.tangle_files.specs.Bytes.{space}
 use Rattle.tangle_text.specs.declared.regions.Region.{Region}
 use Rattle.tangle_text.specs.declared.regions.Region.TheVariants as region
 use Rattle.tangle_text.specs.declared.regions.Unit.TheVariants as unit
-use Rattle.tangle_text.specs.Bytes.{holds_white, holds_word_byte}
+use Rattle.tangle_text.specs.Bytes.{holds_white}
 use Rattle.tangle_text.specs.Bytes.{is_word_byte, number_sign, backslash}
 use Rattle.tangle_text.specs.Text.{Cell, line_text, byte_at, span_at}
 use Rattle.tangle_text.specs.Regions.{unit_at, count_before}
@@ -18,8 +18,14 @@ use Rattle.tangle_text.specs.Runs.{chunks, parts_of, has_single_spaces}
 use Rattle.tangle_text.proofs.SeparatorLemmas.{IsInRun, in_run-is, run_size-in, run_size-first, plain-in_run}
 use Rattle.tangle_text.proofs.SeparatorLemmas.{word-plain, plain-no_space, before-word}
 use Rattle.tangle_text.proofs.WordLemmas.{word_more-plain}
-use Rattle.tangle_text.proofs.RunChunks.{alone-chunk, front-chunk, alone-before, part-word}
-use Rattle.tangle_text.proofs.UnitLemmas.{count-one}
+use Rattle.tangle_text.proofs.RunChunks.{alone-chunk, part-word}
+use Rattle.tangle_text.proofs.RunLemmas.{word-run, counted-run}
+use Rattle.tangle_text.proofs.RunPartLemmas.{chunks-word}
+use Rattle.tangle_text.proofs.UnitLemmas.{count-is}
+use Rattle.std.specs.List.{prefix_len}
+use Rattle.std.proofs.lemmas.List.{length-take}
+use Rattle.std.proofs.lemmas.List.Sums.{prefix_len-le-length}
+use Rattle.tangle_text.specs.declared.runs.RunPart.TheVariants as part
 use Rattle.tangle_lexer.specs.declared.modes.Mode.TheVariants as mode
 use Rattle.tangle_lexer.specs.declared.modes.IncludeState.TheVariants as include
 use Rattle.tangle_lexer.specs.declared.modes.LineOfC.{LineOfC}
@@ -61,10 +67,6 @@ pub front-byte : (line column : ℕ) (bs : List ℕ) (rest : List Cell)
 front-byte line column [] rest = refl
 front-byte line column (b ∷ bs) rest = refl
 
-front-take : (n c : ℕ) (bs : List ℕ) → is_word_byte c ≡ false → holds_word_byte (slice_get (take n (c ∷ bs)) 0) ≡ false
-front-take zero c bs h = refl
-front-take (suc n) c bs h = h
-
 -- regions that end at once
 
 stop-count : (r : Region) (text : List Cell) → unit_at r text ≡ unit.Stop → count_before r text ≡ 0
@@ -72,9 +74,6 @@ stop-count r x h = grind arith
 
 plain-no_white : (b : Option ℕ) → holds_plain b ≡ true → holds_white b ≡ false
 plain-no_white x h = grind arith
-
-word-stop : (text : List Cell) → holds_word_byte (byte_at 0 text) ≡ false → count_before region.Word text ≡ 0
-word-stop text h = stop-count region.Word text (rw h refl)
 
 -- lexemes of a C part where no #include was begun, after an item of a line
 
@@ -95,14 +94,6 @@ lexeme-reads : (s : LexerState) (text : List Cell) (here : Lexeme)
     → 0 < length text → lexeme s text ≡ here → here.occurrence ≡ None → here.after ≡ s
     → Reads s text here.tokens (drop here.more (drop 1 text))
 lexeme-reads s text here inside is none after = search (rules, tokens_from-step, occurrences_from-step)
-
-end_of : List Token → ℕ
-end_of (token.Span kind s ∷ ts) = s.end
-end_of _ = 0
-
-more_of : List Token → List Token
-more_of [] = []
-more_of (t ∷ ts) = ts
 
 -- single spaces
 
@@ -150,19 +141,57 @@ module _ (l : LineOfC) (stays : (b : Bool) → with_item b l ≡ l) (occurrences
   inside : (column b : ℕ) (bs : List ℕ) → 0 < length (at column (b ∷ bs))
   inside column b bs = omega arith
 
+  -- the same from the text after the word at the front on, which has this size
+  abbrev GoesOn : ℕ → List ℕ → List ℕ → List Cell → Type 0
+  GoesOn column bs xs after =
+      (n next : ℕ) × (next ≡ column + n) × (prefix_len is_word_byte bs ≡ n) × (prefix_len is_word_byte xs ≡ n)
+      × Reads here (drop n (at column bs)) (tokens_of next (drop n xs)) after
+      × (has_single_spaces false (parts_of line next (chunks (drop n xs))) ≡ true)
+
+  abbrev Both : ℕ → List ℕ → List ℕ → List Cell → Type 0
+  Both column bs xs after = Goes column bs xs after × (is_before_separator bs ≡ false → GoesOn column bs xs after)
+
+  -- no word is at the front
+  alone-goes : (column b : ℕ) (bs xs : List ℕ) (after : List Cell) → is_word_byte b ≡ false
+      → prefix_len is_word_byte xs ≡ 0 → Goes column (b ∷ bs) xs after → Both column (b ∷ bs) xs after
+  alone-goes column b bs xs after other none goes =
+      (goes, λ apart. (0, column, omega arith, rw other refl, none, goes.0, goes.1 false (λ e. cc)))
+
   -- a word that no separator follows is read
-  word-reads : (column b : ℕ) (bs : List ℕ) → is_word_byte b ≡ true → is_before_separator (b ∷ bs) ≡ false →
-      Reads here (at column (b ∷ bs))
-      (token.Span span_kind.Word (span_at (1 + count_before region.Word (at (column + 1) bs)) (at column (b ∷ bs)))
-      ∷ []) (drop (count_before region.Word (at (column + 1) bs)) (at (column + 1) bs))
-  word-reads column b bs word apart =
+  word-reads : (column b n : ℕ) (bs : List ℕ)
+      → is_word_byte b ≡ true → is_before_separator (b ∷ bs) ≡ false → prefix_len is_word_byte bs ≡ n →
+      Reads here (at column (b ∷ bs)) (token.Span span_kind.Word (span_at (1 + n) (at column (b ∷ bs))) ∷ [])
+      (drop n (at (column + 1) bs))
+  word-reads column b n bs word apart size =
       let text = at column (b ∷ bs) in
       let next = at (column + 1) bs in
       subst (λ n. Reads here text (token.Span span_kind.Word (span_at (1 + n) text) ∷ []) (drop n next))
-      (word_more-plain line column b bs rest (sym (before-word b bs word) ∙ apart))
+      (word_more-plain line column b bs rest (sym (before-word b bs word) ∙ apart)
+      ∙ (count-is region.Word next
+      ∙ (counted-run region.Word is_word_byte word-run line (column + 1) bs rest ∙ size)))
       (lexeme-reads here text (c_lexeme lexeme_kind.Word here text) (inside column b bs)
       (lexeme-here here text lexeme_kind.Word refl (kind-at column b bs ∙ (grind (arith, nat_tests)))) refl
       (same-line false))
+
+  -- the first of the parts is a word
+  word-parts : (column b n end : ℕ) (xs : List ℕ)
+      → is_word_byte b ≡ true → prefix_len is_word_byte xs ≡ n → column + (1 + n) ≡ end → parts_of line column (chunks (b ∷ xs))
+      ≡ part.Word (record { line = line; start = column; end = end }) ∷ parts_of line end (chunks (drop n xs))
+  word-parts column b n end xs word size ends =
+      let short = prefix_len-le-length is_word_byte xs in
+      let long : column + length (b ∷ take n xs) ≡ end = omega (arith, length-take n xs) in
+      rw (chunks-word b xs word, size, part-word line column b (take n xs) word, long) refl
+
+  -- a word byte of a run
+  word-goes : (column b : ℕ) (bs xs : List ℕ) (after : List Cell) → is_word_byte b ≡ true
+      → is_before_separator (b ∷ bs) ≡ false → GoesOn (column + 1) bs xs after → Both column (b ∷ bs) (b ∷ xs) after
+  word-goes column b bs xs after word apart (n, next, is, in_bs, in_xs, more, single) =
+      let ends : column + (1 + n) ≡ next = omega arith in
+      let first = word-reads column b n bs word apart in_bs in
+      let parts = word-parts column b n next xs word in_xs ends in (
+        (search rules, λ before h. rw parts single),
+        λ h. (suc n, next, omega arith, rw word (omega arith), rw word (omega arith), more, single),
+      )
 
   sign-continues : (column b : ℕ) (bs xs : List ℕ) (after : List Cell)
       → kind_of b (slice_get bs 0) ≡ lexeme_kind.Other → is_word_byte b ≡ false → (b == space) ≡ false
@@ -190,95 +219,38 @@ module _ (l : LineOfC) (stays : (b : Bool) → with_item b l ≡ l) (occurrences
       single true h = let never = (h refl).1 in cc
       single false h = rw (alone-chunk space (chunks xs) refl) (more.1 true (λ e. plain-begins bs plain apart))
 
-  word-continues : (column b : ℕ) (bs xs : List ℕ) (after : List Cell) → is_word_byte b ≡ true
-      → is_before_separator (b ∷ bs) ≡ false → holds_word_byte (slice_get bs 0) ≡ false → holds_word_byte (slice_get xs 0) ≡ false
-      → Goes (column + 1) bs xs after → Goes column (b ∷ bs) (b ∷ xs) after
-  word-continues column b bs xs after word apart other first_other more =
-      grind (
-        arith,
-        nat_tests,
-        word-stop,
-        front-byte,
-        word-reads column b bs word apart,
-        alone-before b xs word first_other,
-      )
-
-  -- a word byte before another belongs to the word of that
-  word-joins : (column b c : ℕ) (bs xs : List ℕ) (after : List Cell)
-      → is_word_byte b ≡ true → is_word_byte c ≡ true → is_before_separator (b ∷ c ∷ bs) ≡ false
-      → Goes (column + 1) (c ∷ bs) (c ∷ xs) after → Goes column (b ∷ c ∷ bs) (b ∷ c ∷ xs) after
-  unfolding end_of more_of
-  word-joins column b c bs xs after word next_word apart more =
-      let text = at column (b ∷ c ∷ bs) in
-      let next = at (column + 1) (c ∷ bs) in
-      let past = at (column + 1 + 1) bs in
-      let n : ℕ = count_before region.Word past in
-      let one_more : 1 + n ≡ suc n = omega arith in
-      let counts : count_before region.Word next ≡ 1 + n
-      = count-one region.Word (record { line = line; column = column + 1; byte = Some c }) past (rw next_word refl) in
-      let first = word-reads column b (c ∷ bs) word apart in
-      let second = word-reads (column + 1) c bs next_word (sym (before-word b (c ∷ bs) word) ∙ apart) in
-      let chunk = front-chunk c xs in
-      let zs : List ℕ = chunk.0 in
-      let others = map part_token (parts_of line (column + 1 + length (c ∷ zs)) chunk.1) in
-      let next_parts : tokens_of (column + 1) (c ∷ xs)
-      ≡ token.Span span_kind.Word
-      (record { line = line; start = column + 1; end = column + 1 + length (c ∷ zs) }) ∷ others
-      = rw (chunk.2, part-word line (column + 1) c zs next_word) refl in
-      let both = sym second.tokens ∙ (more.0.tokens ∙ ap (λ ts. ts ++ tokens_from here after) next_parts) in
-      let ends : column + 1 + (1 + n) ≡ column + 1 + length (c ∷ zs) = ap end_of both in
-      let rests : tokens_from here (drop n past) ≡ others ++ tokens_from here after = ap more_of both in
-      let this : Token = token.Span span_kind.Word
-      (record { line = line; start = column; end = column + length (b ∷ c ∷ zs) }) in
-      let column_is : column + length (b ∷ c ∷ zs) ≡ column + 1 + length (c ∷ zs) = omega arith in
-      let parts : tokens_of column (b ∷ c ∷ xs) ≡ this ∷ others = search rules in
-      let size_is : 1 + count_before region.Word next ≡ length (b ∷ c ∷ zs) = omega arith in
-      let past_is : drop (count_before region.Word next) next ≡ drop n past
-      = ap (λ k. drop k next) (counts ∙ one_more) in
-      let single : has_single_spaces false (parts_of line (column + 1 + length (c ∷ zs)) chunk.1) ≡ true
-      = rw (chunk.2, part-word line (column + 1) c zs next_word) at (more.1 false (λ e. cc)) in search rules
-
-  -- a word byte of a run
-  word-goes : (column b : ℕ) (bs : List ℕ) → is_word_byte b ≡ true → is_before_separator (b ∷ bs) ≡ false
-      → Goes (column + 1) bs (take (run_size bs) bs) (drop (run_size bs) (at (column + 1) bs))
-      → Goes column (b ∷ bs) (b ∷ take (run_size bs) bs) (drop (run_size bs) (at (column + 1) bs))
-  word-goes column b [] word apart more = word-continues column b [] [] (at (column + 1) []) word apart refl refl more
-  word-goes column b (c ∷ bs) word apart more =
-      let after : List Cell = drop (run_size (c ∷ bs)) (at (column + 1) (c ∷ bs)) in
-      elim (cases_Bool (is_word_byte c)) [
-        | inl next_word ↦
-            let next_apart = sym (before-word b (c ∷ bs) word) ∙ apart in
-            let size = run_size-in c bs (plain-in_run c bs (word-plain c next_word) next_apart) in
-            let xs = ap (λ n. take n (c ∷ bs)) size in
-            subst (λ ys. Goes column (b ∷ c ∷ bs) (b ∷ ys) after) (sym xs)
-            (word-joins column b c bs (take (run_size bs) bs) after word next_word apart
-            (subst (λ ys. Goes (column + 1) (c ∷ bs) ys after) xs more))
-        | inr other ↦
-            word-continues column b (c ∷ bs) (take (run_size (c ∷ bs)) (c ∷ bs)) after word apart other
-            (front-take (run_size (c ∷ bs)) c bs other) more
-      ]
-
   -- the run at the front is read
-  pub run-goes : (column : ℕ) (bs : List ℕ) → Goes column bs (take (run_size bs) bs) (drop (run_size bs) (at column bs))
-  run-goes column [] = (record { tokens = refl; occurrences = refl }, (grind arith))
+  pub run-goes : (column : ℕ) (bs : List ℕ) → Both column bs (take (run_size bs) bs) (drop (run_size bs) (at column bs))
+  run-goes column [] =
+      let none : Reads here (at column []) [] (at column []) = record { tokens = refl; occurrences = refl } in
+      ((none, (grind arith)), λ apart. (0, column, omega arith, refl, refl, none, refl))
   run-goes column (b ∷ bs) =
-      let first : ℕ → Type 0 = λ n. Goes column (b ∷ bs) (take n (b ∷ bs)) (drop n (at column (b ∷ bs))) in
+      let first : ℕ → Type 0 = λ n. Both column (b ∷ bs) (take n (b ∷ bs)) (drop n (at column (b ∷ bs))) in
       let more = run-goes (column + 1) bs in
+      let xs : List ℕ = take (run_size bs) bs in
       elim (cases_Bool (is_in_run b bs)) [
         | inl h ↦
             let in_run : IsInRun b bs = in_run-is b bs h in
             subst first (sym (run_size-in b bs in_run)) (elim (run-byte b (slice_get bs 0) in_run.byte) [
-              | inl word ↦ word-goes column b bs word in_run.apart more
-              | inr (inl sign) ↦ sign-continues column b bs (take (run_size bs) bs) _ sign.0 sign.1 sign.2 sign.3 more
+              | inl word ↦
+                  word-goes column b bs xs _ word in_run.apart (more.1 (sym (before-word b bs word) ∙ in_run.apart))
+              | inr (inl sign) ↦
+                  alone-goes column b bs (b ∷ xs) _ sign.1 (rw sign.1 refl)
+                  (sign-continues column b bs xs _ sign.0 sign.1 sign.2 sign.3 more.0)
               | inr (inr spaces) ↦
                   let is : (b == space) ≡ true = ap (λ x. x == space) spaces.0 in
-                  subst (λ x. Goes column (x ∷ bs) (x ∷ take (run_size bs) bs)
-                  (drop (run_size bs) (at (column + 1) bs))) (sym spaces.0)
-                  (space-continues column bs (take (run_size bs) bs) _ spaces.1 (rw is at in_run.after) more)
+                  subst (λ x. Both column (x ∷ bs) (x ∷ xs) (drop (run_size bs) (at (column + 1) bs))) (sym spaces.0)
+                  (alone-goes column space bs (space ∷ xs) _ refl refl
+                  (space-continues column bs xs _ spaces.1 (rw is at in_run.after) more.0))
             ])
         | inr h ↦
             let none : run_size (b ∷ bs) ≡ 0 = rw h refl in
-            subst first (sym none) (record { tokens = refl; occurrences = refl }, stop none)
+            let goes : Goes column (b ∷ bs) [] (at column (b ∷ bs))
+            = (record { tokens = refl; occurrences = refl }, stop none) in
+            subst first (sym none) (elim (cases_Bool (is_word_byte b)) [
+              | inl word ↦ (goes, λ apart. absurd (omega (arith, run_size-in b bs (plain-in_run b bs (word-plain b word) apart))))
+              | inr other ↦ alone-goes column b bs [] _ other refl goes
+            ])
       ]
     where
       -- no part, and so no space, is in an empty run

@@ -17,31 +17,29 @@ use Rattle.tangle_lexer.proofs.lemmas.HeadLemmas.{is_special}
 use Rattle.tangle_lexer.proofs.lemmas.PlainTokens.{HasNone}
 use Rattle.tangle_lexer.proofs.lemmas.StepLemmas.{occurrences_from-step}
 
--- a simple lexeme is the same in C parts and in macros
-pub lexeme-simple : (s : LexerState) (text : List Cell) (p : SimpleLexeme)
-    → IsSimple text p → is_c_text s.mode ≡ true → lexeme s text ≡ c_lexeme (simple_kind p) s text
-unfolding lexeme
-lexeme-simple s text p here h = grind (arith, nat_tests)
-
 pub simple-again : (old new : List Token) (l : LineState)
     (s state after : LexerState) (text rest : List Cell) (p : SimpleLexeme) → state ≡ with_line l s
     → IsRead old new text rest after (c_lexeme (simple_kind p) state text) →
     IsRead old new text rest (with_line after.line s) (c_lexeme (simple_kind p) (with_line l s) text)
 simple-again old new l s state after text rest p is read = grind (arith, nat_tests)
 
-pub simple-special : (s : LexerState) (text : List Cell) (p : SimpleLexeme) → IsSimple text p → is_c_text s.mode ≡ true
-    → HasNone is_special (lexeme s text).tokens
-simple-special s text p here h = grind (arith, nat_tests, lexeme-simple s text p here h)
+-- a simple lexeme is the same in C parts and in macros
+module _ (s : LexerState) (text : List Cell) (p : SimpleLexeme)
+    (here : IsSimple text p) (h : is_c_text s.mode ≡ true) where
+  pub lexeme-simple : lexeme s text ≡ c_lexeme (simple_kind p) s text
+  unfolding lexeme
+  lexeme-simple = grind (arith, nat_tests)
 
-pub simple-read : (old new : List Token) (s after : LexerState) (text rest : List Cell) (p : SimpleLexeme)
-    → IsSimple text p → is_c_text s.mode ≡ true
-    → IsRead old new text rest after (c_lexeme (simple_kind p) s text) → IsRead old new text rest after (lexeme s text)
-simple-read old new s after text rest p here h read = grind (arith, nat_tests, lexeme-simple)
+  pub simple-special : HasNone is_special (lexeme s text).tokens
+  simple-special = grind (arith, nat_tests, lexeme-simple)
 
-pub simple-occurrences_from : (old new : List Token) (s after : LexerState) (text rest : List Cell) (p : SimpleLexeme)
-    → IsSimple text p → is_c_text s.mode ≡ true → IsRead old new text rest after (c_lexeme (simple_kind p) s text)
-    → occurrences_from after rest ≡ occurrences_from s text
-simple-occurrences_from old new s after text rest p here h read = search (rules, lexeme-simple, occurrences_from-step)
+  module _ (old new : List Token) (after : LexerState) (rest : List Cell)
+      (read : IsRead old new text rest after (c_lexeme (simple_kind p) s text)) where
+    pub simple-read : IsRead old new text rest after (lexeme s text)
+    simple-read = grind (arith, nat_tests, lexeme-simple)
+
+    pub simple-occurrences_from : occurrences_from after rest ≡ occurrences_from s text
+    simple-occurrences_from = search (rules, lexeme-simple, occurrences_from-step)
 
 -- the kind of a lexeme that begins with a byte that opens nothing longer
 

@@ -38,24 +38,22 @@ pub occurrences_from-step : (s : LexerState) (text : List Cell) → 0 < length t
 unfolding occurrences_from
 occurrences_from-step s text h = grind (arith, nat_tests, lexemes-drop)
 
--- a step does not change the list of the occurrences read and those ahead
-pub step-occurrences : (lines : List SourceLine) (old new : List OccurrenceRead)
-    (from to : List Token) (s after : LexerState) (text rest : List Cell) → 0 < length text
-    → IsRead from to text rest after (lexeme s text) → AddsOccurrence lines old new (lexeme s text).occurrence
-    → new ++ map (occurrence_of lines) (occurrences_from after rest)
-    ≡ old ++ map (occurrence_of lines) (occurrences_from s text)
-step-occurrences lines old new from to s after text rest h read adds =
-    search (rules, occurrences_from-step, append_assoc)
+-- a step was read
+module _ {from to : List Token} (s : LexerState) {after : LexerState} {text rest : List Cell}
+    (read : IsRead from to text rest after (lexeme s text)) where
+  -- a step makes the text ahead shorter
+  pub step-shorter : 0 < length text → length rest < length text
+  step-shorter h = grind (arith, nat_tests, length-drop)
 
--- a step makes the text ahead shorter
-pub step-shorter : (old new : List Token) (s after : LexerState) (text rest : List Cell)
-    → 0 < length text → IsRead old new text rest after (lexeme s text) → length rest < length text
-step-shorter old new s after text rest h read = grind (arith, nat_tests, length-drop)
+  -- a step does not change the list of the occurrences read and those ahead
+  pub step-occurrences : (lines : List SourceLine) (old new : List OccurrenceRead) → 0 < length text
+      → AddsOccurrence lines old new (lexeme s text).occurrence
+      → new ++ map (occurrence_of lines) (occurrences_from after rest)
+      ≡ old ++ map (occurrence_of lines) (occurrences_from s text)
+  step-occurrences lines old new h adds = search (rules, occurrences_from-step, append_assoc)
 
--- the number of occurrences that were read grows by one with each name
-
-pub step-count : (lines : List SourceLine) (old new : List OccurrenceRead)
-    (from to : List Token) (s after : LexerState) (text rest : List Cell)
-    → IsRead from to text rest after (lexeme s text) → AddsOccurrence lines old new (lexeme s text).occurrence
-    → s.occurrences ≡ length old → after.occurrences ≡ length new
-step-count lines old new from to s after text rest read adds before = search (rules, lexeme-keeps, length_push)
+  -- the number of occurrences that were read grows by one with each name
+  pub step-count : (lines : List SourceLine) (old new : List OccurrenceRead)
+      → AddsOccurrence lines old new (lexeme s text).occurrence
+      → s.occurrences ≡ length old → after.occurrences ≡ length new
+  step-count lines old new adds before = search (rules, lexeme-keeps, length_push)

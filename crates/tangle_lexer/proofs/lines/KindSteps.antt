@@ -137,18 +137,11 @@ module _ (texts : List (List ℕ)) (R : Judgement texts) where
   kind-follows (lexeme_kind.Control code.DoubleAt) s at c cs m plain o is =
       sign-follows s.line.line s.line.at_line_end at c cs false false (grind arith) is.0
       (other-byte at_sign number_sign c.byte refl o.0) (other-byte at_sign backslash c.byte refl o.0)
-  kind-follows (lexeme_kind.Control code.Macro) s at c cs m plain o is = white-alone s fault.CodeInC _ m refl
-  kind-follows (lexeme_kind.Control code.Format) s at c cs m plain o is = white-alone s fault.CodeInC _ m refl
-  kind-follows (lexeme_kind.Control code.UnnamedPart) s at c cs m plain o is = white-alone s fault.CodeInC _ m refl
-  kind-follows (lexeme_kind.Control code.Join) s at c cs m plain o is = join-step texts R
-  kind-follows (lexeme_kind.Control code.Other) s at c cs m plain o is = white-step texts R
-  kind-follows lexeme_kind.LineEnd s at c cs m plain o is = line_end-step texts R _
-  kind-follows lexeme_kind.White s at c cs m plain o is = white-step texts R
   kind-follows lexeme_kind.Word s at c cs m plain o is = item-step texts R _ refl
   kind-follows lexeme_kind.Other s at c cs m plain o is =
       sign-follows s.line.line s.line.at_line_end at c cs (holds number_sign c.byte) (holds backslash c.byte)
       (some-byte c.byte o.0) is.0 refl refl
   kind-follows (lexeme_kind.Control kind) s at c cs m plain o is =
-      search (rules, white-follows, line_ends-are, faults-step, verbatim-steps, use-step, constant-follows)
+      search (rules, white-alone, white-step, join-step, white-follows, line_ends-are, faults-step, verbatim-steps, use-step, constant-follows)
   kind-follows _ s at c cs m plain o is =
-      search (rules, white-follows, line_ends-are, faults-step, quoted-steps, some-byte)
+      search (rules, line_end-step, white-step, white-follows, line_ends-are, faults-step, quoted-steps, some-byte)

@@ -115,8 +115,7 @@ module _ (texts : List (List ℕ)) (R : Judgement texts) where
 
   pub faults-step : {l : LineOfC} {e : AtLineEnd} (b : Bool) (kind : FaultKind) (n : ℕ)
       → is_use_fault (token.Fault kind n) ≡ false → Steps l e (fault_if b kind n) l e
-  faults-step true kind n h = fault-step kind n h
-  faults-step false kind n h = no-steps
+  faults-step x kind n h = search (rules, fault-step, no-steps)
 
   -- items
   item-settled : (n : Bool) (l : LineOfC) (j : Bool) → with_item n (settled l false) ≡ settled (with_item n l) j

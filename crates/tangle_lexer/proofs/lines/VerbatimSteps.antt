@@ -1,15 +1,13 @@
 -- A verbatim text is an item of the open line of C, which may end in a backslash.
 use Rattle.std.proofs.Common.{rules}
-use Rattle.std.proofs.Common.{◌≡◌, ℕ, ◌+◌, ◌-◌, ◌≤◌, Bool, true, false, List, [], ◌∷◌, ◌==◌}
-use Rattle.std.proofs.Common.{inl, inr, refl, ap, sym, arith, subst, cond}
-use Rattle.std.specs.Prelude.{nat_le}
+use Rattle.std.proofs.Common.{◌≡◌, ℕ, ◌-◌, ◌≤◌, Bool, true, false, List, [], ◌∷◌, ◌==◌}
+use Rattle.std.proofs.Common.{inl, inr, refl, sym, arith, subst}
 use Rattle.std.proofs.lemmas.Bool.Decides.{nat_tests, eqb_tells}
 use Rattle.tangle_faults.specs.declared.faults.FaultKind.TheVariants as fault
 use Rattle.tangle_text.specs.declared.regions.Region.TheVariants as region
-use Rattle.tangle_text.specs.declared.regions.Unit.TheVariants as unit
 use Rattle.tangle_text.specs.declared.spans.Span.{Span}
-use Rattle.tangle_text.specs.Bytes.{backslash, holds, is_line_end}
-use Rattle.tangle_text.specs.Regions.{unit_at, units, count_before}
+use Rattle.tangle_text.specs.Bytes.{backslash, is_line_end}
+use Rattle.tangle_text.specs.Regions.{units, count_before}
 use Rattle.tangle_text.specs.Text.{Cell, span_at}
 use Rattle.tangle_lexer.specs.declared.modes.AtLineEnd.{AtLineEnd}
 use Rattle.tangle_lexer.specs.declared.modes.AtLineEnd.TheVariants.{Ends}
@@ -21,7 +19,7 @@ use Rattle.tangle_lexer.specs.Quoted.{range_token, verbatim_end, empty_end, verb
 use Rattle.tangle_lexer.specs.Quoted.{verbatim_ends_in_backslash}
 use Rattle.tangle_lexer.specs.SpanBytes.{last_byte}
 use Rattle.tangle_lexer.proofs.laws.CutTexts.{verbatim-cut}
-use Rattle.tangle_lexer.proofs.laws.Points.{Point, source_byte, IsTextAt}
+use Rattle.tangle_lexer.proofs.laws.Points.{Point, IsTextAt}
 use Rattle.tangle_lexer.proofs.laws.RegionUnits.{units-by}
 use Rattle.tangle_lexer.proofs.lines.LineSteps.{Judgement, Steps, steps-append, faults-step, item-step}
 use Rattle.tangle_lexer.proofs.lines.TextSteps.{end_by, last_cell, IsCutFrom, stop-step, cut-from}
@@ -57,10 +55,7 @@ module _ (texts : List (List ℕ)) (R : Judgement texts) (l : LineOfC) where
       (item (span_at 0 text) l e)
     where
       none : (text : List Cell) → (last_byte texts (span_at 0 text) == backslash) ≡ false
-      none [] = refl
-      none (c ∷ cs) =
-          let empty : nat_le (c.column + 0) c.column ≡ true = grind (arith, nat_tests) in
-          ap (λ b. cond b 0 (source_byte texts c.line (c.column + 0 - 1)) == backslash) empty
+      none x = grind (arith, nat_tests)
 
   empty-end : (e : AtLineEnd) (text : List Cell)
       → Steps texts R l e (token.Span span_kind.Verbatim (span_at 0 text) ∷ empty_end text) m Ends

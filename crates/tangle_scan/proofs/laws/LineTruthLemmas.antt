@@ -21,14 +21,14 @@ use Rattle.tangle_scan.specs.LineTruth.{has_line_end, left_or_join, locations, i
 use Rattle.tangle_scan.specs.LineTruth.{origin_after_mark, part_locations, Location, IsOwn, AreAtTheirLines, IsAtItsLine}
 use Rattle.tangle_scan.specs.Passes.{items_by_origin, items_after, line_item, turn_after_line_end, is_whole}
 use Rattle.tangle_lexer.proofs.laws.TokenOrder.{line_past, IsInPart, AreByLine}
-use Rattle.tangle_scan.proofs.lemmas.ItemsByOrigin.{part_items-by_origin, turn_of, turn-snoc, turn-is}
+use Rattle.tangle_scan.proofs.lemmas.ItemsByOrigin.{part_items-by_origin, same-is, turn_of, turn-snoc, turn-is}
 use Rattle.std.proofs.Common.{◌≤◌, nat_le, None, is_some, ◌&&◌, ◌||◌, not, ap, sym, ◌∙◌}
 use Rattle.tangle_text.specs.Bytes.{backslash}
 use Rattle.tangle_lexer.specs.declared.tokens.SpanKind.TheVariants as span_kind
 use Rattle.tangle_scan.specs.declared.items.Item.TheVariants as item
 use Rattle.tangle_scan.specs.declared.turns.Turn.{Turn}
 use Rattle.tangle_scan.specs.declared.turns.Turn.TheVariants as turn
-use Rattle.tangle_scan.specs.Rules.{is_front_gap, same_origin}
+use Rattle.tangle_scan.specs.Rules.{is_front_gap}
 use Rattle.tangle_scan.specs.Directives.{ForEachChoice, border_after, goes_on, is_blank}
 use Rattle.tangle_scan.specs.Directives.{is_turn, item_ends_in}
 use Rattle.tangle_scan.proofs.lemmas.RuleLemmas.{blanks-item}
@@ -51,19 +51,12 @@ without_faults-by_line texts [] line h = h
 without_faults-by_line texts (token.Fault kind at ∷ es) line h = without_faults-by_line texts es line h.1
 without_faults-by_line texts (e ∷ es) line h = (h.0, without_faults-by_line texts es (line_past line e) h.1)
 
-white-by_line : (texts : List (List ℕ)) (b : Bool) (line : ℕ) (es : List Token) → AreClean texts line es
-    → AreClean texts line ((if b then token.White ∷ [] else []) ++ es)
-white-by_line texts x line es h = grind arith
-
 with_spaces-by_line : (texts : List (List ℕ)) (es : List Token) (line : ℕ)
     → AreClean texts line es → AreClean texts line (with_spaces texts es)
 with_spaces-by_line texts [] line h = h
 with_spaces-by_line texts (e ∷ []) line h = h
-with_spaces-by_line texts (e ∷ g ∷ es) line h = (
-  h.0,
-  white-by_line texts (would_merge texts e g) (line_past line e) (with_spaces texts (g ∷ es))
-      (with_spaces-by_line texts (g ∷ es) (line_past line e) h.1),
-)
+with_spaces-by_line texts (e ∷ g ∷ es) line h =
+    grind (arith, h.0, with_spaces-by_line texts (g ∷ es) (line_past line e) h.1)
 
 -- rule 1 puts the same white space where line ends of a directive are white space
 
@@ -147,17 +140,6 @@ module _ (lines : List SourceLine) where
       → AreAtTheirLines lines read origin line (items_after lines before at counted white fs)
       (locations lines before counted stretch gs)
 
-  -- a blank
-  blank-known : (before : Option Token) (at : Turn) (counted : Origin) (stretch : Bool) (number : ℕ) (read : Bool)
-      (origin : Option Origin) (line : List Item) → Inv before at counted stretch number read origin line
-      → Inv before at counted stretch number read origin (line ++ item.Blank ∷ [])
-  blank-known before at counted stretch number read origin line h = record {
-    counts = h.counts;
-    obeys = h.obeys;
-    turns = λ real. turn-snoc texts line item.Blank ∙ h.turns real;
-    goes = goes-snoc texts line item.Blank ∙ h.goes;
-  }
-
   -- the next source line, where there is one
 
   not-out : (b : Bool) → not b ≡ false → b ≡ true
@@ -165,9 +147,6 @@ module _ (lines : List SourceLine) where
 
   not-last : (n number : ℕ) → n ≡ number → number + 1 < length lines → nat_le (length lines) (n + 1) ≡ false
   not-last n number same real = grind (arith, nat_tests)
-
-  same-is : (p q : Origin) → same_origin p q ≡ true → p ≡ q
-  same-is p q h = grind (arith, nat_tests)
 
   expected-is : (counted : Origin) (n number : ℕ) → n ≡ number → number + 1 < length lines
       → is_expected lines counted n ≡ true → next_line counted ≡ origin_at lines (number + 1)
@@ -177,50 +156,124 @@ module _ (lines : List SourceLine) where
       → (if is_expected lines counted n then next_line counted else origin_at lines (n + 1)) ≡ origin_at lines (number + 1)
   after-is counted n number same real = grind (arith, nat_tests, expected-is)
 
-  -- a source item
-  own : (counted : Origin) (stretch : Bool) (number at : ℕ) (read : Bool) (origin : Option Origin) (x : Item)
-      → at ≡ number → number < length texts
-      → (stretch ≡ false → number < length lines → counted ≡ origin_at lines number)
-      → (read ≡ true → number < length lines → origin ≡ Some counted)
-      → IsOwn lines read origin x (record { item = x; line = at; in_stretch = stretch })
-  own counted stretch number at read origin x same inside counts obeys = record {
-    item = refl;
-    line = rw same real;
-    origin = λ is out. obeys is real ∙ ap Some (counts out real ∙ ap (origin_at lines) (sym same));
-  }
-    where
-      real : number < length lines
-      real = omega (arith, inside, length-map lines (λ l. l.bytes))
-
-  -- one token other than a join, white space and a line end, before others
-  item-true : (e : Token) (es fs gs : List Token) → is_gap e ≡ false → AreTrue es fs gs
-      → (before : Option Token) (at : Turn) (counted : Origin) (stretch : Bool) (number : ℕ) (read : Bool)
-      (origin : Option Origin) (line : List Item)
-      → Inv before at counted stretch number read origin line → AreClean texts number (e ∷ es)
-      → AreAtTheirLines lines read origin line (items_by_origin lines before at counted (e ∷ blanks texts (Some e) false fs))
-      (locations lines before counted stretch (e ∷ gs))
-  item-true (token.QuoteBreak n) es fs gs gap next before at counted stretch number read origin line h ordered =
-      search (rules, expected-is, not-out, turn-snoc, goes-snoc)
-  item-true (token.UseOf n occurrence) es fs gs gap next before at counted stretch number read origin line h ordered =
-      search rules
-  item-true (token.AllMacros n) es fs gs gap next before at counted stretch number read origin line h ordered =
-      search rules
-  item-true (token.Span span_kind.Word s) es fs gs gap next before at counted stretch number read origin line h ordered = (
-    own counted stretch number s.line read origin (item.Word s) ordered.0.0 (rw (← ordered.0.0) ordered.0.1.line) h.counts h.obeys,
-    search (rules, turn-snoc, goes-snoc),
-  )
-  item-true (token.Span kind s) es fs gs gap next before at counted stretch number read origin line h ordered = (
-    own counted stretch number s.line read origin _ ordered.0.0 (rw (← ordered.0.0) ordered.0.1.line) h.counts h.obeys,
-    search (rules, turn-snoc, goes-snoc),
-  )
-  item-true (token.AsciiConstant b n) es fs gs gap next before at counted stretch number read origin line h ordered = (
-    own counted stretch number n read origin (item.AsciiConstant b) ordered.0.0 ordered.0.1 h.counts h.obeys,
-    search (rules, turn-snoc, goes-snoc),
-  )
-  item-true e es fs gs gap next before at counted stretch number read origin line h ordered = grind (arith, ordered.0)
-
   solid-item : (e : Token) → is_gap e ≡ false → is_front_gap e ≡ false
   solid-item e gap = grind arith
+
+  -- what is true from here on
+  module _ (before : Option Token) (at : Turn) (counted : Origin) (stretch : Bool) (number : ℕ) (read : Bool)
+      (origin : Option Origin) (line : List Item) (h : Inv before at counted stretch number read origin line) where
+    -- a blank
+    blank-known : Inv before at counted stretch number read origin (line ++ item.Blank ∷ [])
+    blank-known = record {
+      counts = h.counts;
+      obeys = h.obeys;
+      turns = λ real. turn-snoc texts line item.Blank ∙ h.turns real;
+      goes = goes-snoc texts line item.Blank ∙ h.goes;
+    }
+
+    -- a source item
+    own : (n : ℕ) (x : Item) → n ≡ number → number < length texts
+        → IsOwn lines read origin x (record { item = x; line = n; in_stretch = stretch })
+    own n x same inside = record {
+      item = refl;
+      line = rw same real;
+      origin = λ is out. h.obeys is real ∙ ap Some (h.counts out real ∙ ap (origin_at lines) (sym same));
+    }
+      where
+        real : number < length lines
+        real = omega (arith, inside, length-map lines (λ l. l.bytes))
+
+    -- one token other than a join, white space and a line end, before others
+    item-true : (e : Token) (es fs gs : List Token) → is_gap e ≡ false → AreTrue es fs gs → AreClean texts number (e ∷ es)
+        → AreAtTheirLines lines read origin line
+        (items_by_origin lines before at counted (e ∷ blanks texts (Some e) false fs))
+        (locations lines before counted stretch (e ∷ gs))
+    item-true (token.QuoteBreak n) es fs gs gap next ordered = search (rules, expected-is, not-out, turn-snoc, goes-snoc)
+    item-true (token.UseOf n occurrence) es fs gs gap next ordered = search rules
+    item-true (token.AllMacros n) es fs gs gap next ordered = search rules
+    item-true (token.Span span_kind.Word s) es fs gs gap next ordered = (
+      own s.line (item.Word s) ordered.0.0 (rw (← ordered.0.0) ordered.0.1.line),
+      search (rules, turn-snoc, goes-snoc),
+    )
+    item-true (token.Span kind s) es fs gs gap next ordered = (
+      own s.line _ ordered.0.0 (rw (← ordered.0.0) ordered.0.1.line),
+      search (rules, turn-snoc, goes-snoc),
+    )
+    item-true (token.AsciiConstant b n) es fs gs gap next ordered = (
+      own n (item.AsciiConstant b) ordered.0.0 ordered.0.1,
+      search (rules, turn-snoc, goes-snoc),
+    )
+    item-true e es fs gs gap next ordered = grind (arith, ordered.0)
+
+    -- the end of a line, with what is true of the rest
+    end-true : (n : ℕ) (rest : List Item) (ss : List Location) →
+        let continued : Bool = is_continued texts before in
+        let after : Origin = counted_after_line_end lines continued counted n in
+        n ≡ number
+        → ((now : Bool) (from : Option Origin) (more : List Item)
+        → Inv (at_line_front texts before n) (turn_after_line_end lines continued n at) after
+        (continued && not (is_expected lines counted n)) (number + 1) now from more
+        → AreAtTheirLines lines now from more rest ss)
+        → AreAtTheirLines lines read origin line (line_item lines continued (is_whole at) counted n ∷ rest) ss
+    end-true n rest ss same next = by (is_continued texts before) refl next
+      where
+        last : Bool
+        last = nat_le (length lines) (n + 1)
+
+        expected : Bool
+        expected = is_expected lines counted n
+
+        mark : Origin
+        mark = origin_at lines (n + 1)
+
+        -- what is known of the rest, which is true
+        Rest : Bool → Type 0
+        Rest c =
+            (now : Bool) (from : Option Origin) (more : List Item)
+            → Inv (if c then Some (token.LineEnd n) else None) (if c || last then at else turn.NoItem)
+            (if c || expected then next_line counted else mark) (c && not expected) (number + 1) now from more
+            → AreAtTheirLines lines now from more rest ss
+
+        no-turn : number + 1 < length lines → (if is_whole at then last else expected) ≡ true
+            → (is_turn texts line ≡ false) × (expected ≡ true)
+        no-turn real is = by_kind (is_whole at) refl
+          where
+            by_kind : (t : Bool) → is_whole at ≡ t → (is_turn texts line ≡ false) × (expected ≡ true)
+            by_kind true e = grind (arith, nat_tests, not-last n number same real)
+            by_kind false e = (turn-is texts line ∙ ap is_whole (h.turns (omega arith)) ∙ e, rw e at is)
+
+        -- what is known after a line that is not continued
+        known : (now : Bool) (from : Option Origin)
+            → (now ≡ true → number + 1 < length lines → from ≡ Some (if expected then next_line counted else mark))
+            → Inv None (if last then at else turn.NoItem) (if expected then next_line counted else mark) false (number + 1)
+            now from []
+        known now from obeys = record {
+          counts = λ out real. after-is counted n number same real;
+          obeys = obeys;
+          turns = λ real. rw (not-last n number same real) refl;
+          goes = refl;
+        }
+
+        ended : goes_on texts line ≡ false → Rest false → (u : Bool) → (if is_whole at then last else expected) ≡ u
+            → AreAtTheirLines lines read origin line ((if u then item.LineEnd else item.LineMark mark) ∷ rest) ss
+        ended stops next true is =
+            rw stops (each texts line read _ (λ now allowed. next now _ [] (known now (with_line_end origin) (λ now_read real.
+            let plain = no-turn real is in rw (h.obeys (allowed plain.0 now_read) (omega arith), plain.1) refl))))
+        ended stops next false is =
+            each texts line read _ (λ now allowed. next now _ [] (known now (origin_after_mark now mark origin) (λ now_read real.
+            rw now_read (ap Some (ap (λ k. origin_at lines (k + 1)) same ∙ sym (after-is counted n number same real))))))
+
+        by : (c : Bool) → is_continued texts before ≡ c → Rest c
+            → AreAtTheirLines lines read origin line
+            ((if c || (if is_whole at then last else expected) then item.LineEnd else item.LineMark mark) ∷ rest) ss
+        by true e next =
+            rw (h.goes ∙ e) (next read (with_line_end origin) (line ++ item.LineEnd ∷ []) (record {
+              counts = λ out real. expected-is counted n number same real (not-out expected out);
+              obeys = λ is real. rw (h.obeys is (omega arith)) refl;
+              turns = λ real. turn-snoc texts line item.LineEnd ∙ h.turns (omega arith);
+              goes = goes-snoc texts line item.LineEnd;
+            }))
+        by false e next = ended (h.goes ∙ e) next (if is_whole at then last else expected) refl
 
   -- such a token, and the blank that may be before it
   first-true : (e : Token) (es fs gs : List Token) → is_gap e ≡ false → AreTrue es fs gs
@@ -233,83 +286,9 @@ module _ (lines : List SourceLine) where
           ((if b then token.White ∷ [] else []) ++ e ∷ blanks texts (Some e) false fs))
           (locations lines before counted stretch (e ∷ gs))
       by true =
-          item-true e es fs gs gap next before at counted stretch number read origin (line ++ item.Blank ∷ [])
-          (blank-known before at counted stretch number read origin line h) ordered
-      by false = item-true e es fs gs gap next before at counted stretch number read origin line h ordered
-
-  -- the end of a line, with what is true of the rest
-  end-true : (n : ℕ) (rest : List Item) (ss : List Location) (before : Option Token) (at : Turn) (counted : Origin)
-      (stretch : Bool) (number : ℕ) (read : Bool) (origin : Option Origin) (line : List Item) →
-      let continued : Bool = is_continued texts before in
-      let after : Origin = counted_after_line_end lines continued counted n in
-      Inv before at counted stretch number read origin line → n ≡ number
-      → ((now : Bool) (from : Option Origin) (more : List Item)
-      → Inv (at_line_front texts before n) (turn_after_line_end lines continued n at) after
-      (continued && not (is_expected lines counted n)) (number + 1) now from more
-      → AreAtTheirLines lines now from more rest ss)
-      → AreAtTheirLines lines read origin line (line_item lines continued (is_whole at) counted n ∷ rest) ss
-  end-true n rest ss before at counted stretch number read origin line h same next =
-      by (is_continued texts before) refl next
-    where
-      last : Bool
-      last = nat_le (length lines) (n + 1)
-
-      expected : Bool
-      expected = is_expected lines counted n
-
-      mark : Origin
-      mark = origin_at lines (n + 1)
-
-      -- what is known of the rest, which is true
-      Rest : Bool → Type 0
-      Rest c =
-          (now : Bool) (from : Option Origin) (more : List Item)
-          → Inv (if c then Some (token.LineEnd n) else None) (if c || last then at else turn.NoItem)
-          (if c || expected then next_line counted else mark) (c && not expected) (number + 1) now from more
-          → AreAtTheirLines lines now from more rest ss
-
-      no-turn : number + 1 < length lines → (if is_whole at then last else expected) ≡ true
-          → (is_turn texts line ≡ false) × (expected ≡ true)
-      no-turn real is = by_kind (is_whole at) refl
-        where
-          by_kind : (t : Bool) → is_whole at ≡ t → (is_turn texts line ≡ false) × (expected ≡ true)
-          by_kind true e = grind (arith, nat_tests, not-last n number same real)
-          by_kind false e = (turn-is texts line ∙ ap is_whole (h.turns (omega arith)) ∙ e, rw e at is)
-
-      begins : number + 1 < length lines → turn.NoItem ≡ (if last then at else turn.NoItem)
-      begins real = rw (not-last n number same real) refl
-
-      ended : goes_on texts line ≡ false → Rest false → (u : Bool) → (if is_whole at then last else expected) ≡ u
-          → AreAtTheirLines lines read origin line ((if u then item.LineEnd else item.LineMark mark) ∷ rest) ss
-      ended stops next true is =
-          rw stops (each texts line read _ (λ now allowed. next now (with_line_end origin) [] (record {
-            counts = λ out real. after-is counted n number same real;
-            obeys = λ now_read real.
-                let plain = no-turn real is in
-                rw (h.obeys (allowed plain.0 now_read) (omega arith), plain.1) refl;
-            turns = λ real. begins real;
-            goes = refl;
-          })))
-      ended stops next false is =
-          each texts line read _ (λ now allowed. next now (origin_after_mark now mark origin) [] (record {
-            counts = λ out real. after-is counted n number same real;
-            obeys = λ now_read real.
-                rw now_read (ap Some (ap (λ k. origin_at lines (k + 1)) same ∙ sym (after-is counted n number same real)));
-            turns = λ real. begins real;
-            goes = refl;
-          }))
-
-      by : (c : Bool) → is_continued texts before ≡ c → Rest c
-          → AreAtTheirLines lines read origin line
-          ((if c || (if is_whole at then last else expected) then item.LineEnd else item.LineMark mark) ∷ rest) ss
-      by true e next =
-          rw (h.goes ∙ e) (next read (with_line_end origin) (line ++ item.LineEnd ∷ []) (record {
-            counts = λ out real. expected-is counted n number same real (not-out expected out);
-            obeys = λ is real. rw (h.obeys is (omega arith)) refl;
-            turns = λ real. turn-snoc texts line item.LineEnd ∙ h.turns (omega arith);
-            goes = goes-snoc texts line item.LineEnd;
-          }))
-      by false e next = ended (h.goes ∙ e) next (if is_whole at then last else expected) refl
+          item-true before at counted stretch number read origin (line ++ item.Blank ∷ [])
+          (blank-known before at counted stretch number read origin line h) e es fs gs gap next ordered
+      by false = item-true before at counted stretch number read origin line h e es fs gs gap next ordered
 
   -- a run that rule 2 does not remove, before other tokens
   kept-true : (run es fs gs : List Token)
@@ -323,7 +302,7 @@ module _ (lines : List SourceLine) where
   kept-true (token.InnerLineEnd n ∷ run) es fs gs gaps none next before at white counted stretch number read origin line h ordered =
       kept-true run es fs gs gaps none next before at true counted true (number + 1) read origin line (search rules) ordered.1
   kept-true (token.LineEnd n ∷ run) es fs gs gaps none next before at white counted stretch number read origin line h ordered =
-      end-true n _ _ before at counted stretch number read origin line h ordered.0
+      end-true before at counted stretch number read origin line h n _ _ ordered.0
       (λ now from more known. kept-true run es fs gs gaps none next (at_line_front texts before n) _ false _ _ (number + 1)
       now from more known ordered.1)
   kept-true (_ ∷ run) es fs gs gaps none next before at white counted stretch number read origin line h ordered = absurd cc

@@ -2,7 +2,7 @@
 use Rattle.std.proofs.Common.{rules}
 use Rattle.std.proofs.lemmas.Bool.Decides.{nat_tests}
 use Rattle.std.proofs.Common.{arith}
-use Rattle.std.proofs.Common.{◌≡◌, ℕ, Bool, true, false, if◌then◌else◌, List, [], ◌∷◌, ◌++◌, refl}
+use Rattle.std.proofs.Common.{◌≡◌, ℕ, Bool, true, false, List, [], ◌∷◌, ◌++◌, refl}
 use Rattle.std.proofs.Common.{Option, Some, None}
 use Rattle.std.specs.List.{last_or}
 use Rattle.std.specs.Option.{IfSome}
@@ -10,7 +10,7 @@ use Rattle.tangle_lexer.specs.declared.tokens.Token.{Token}
 use Rattle.tangle_scan.specs.declared.items.Item.{Item}
 use Rattle.tangle_scan.specs.Rules.{next_item, macro_blanks, unmarked_items}
 use Rattle.tangle_scan.specs.MacroBytes.{without_end}
-use Rattle.tangle_scan.specs.ReadAsMeant.{is_empty, is_dropped_token, with_written, written_tokens}
+use Rattle.tangle_scan.specs.ReadAsMeant.{is_empty, is_dropped_token, written_tokens}
 
 module _ (texts : List (List ℕ)) where
   -- The items that rule 3 makes of the tokens of a macro. The arguments before the tokens are those of the rule.
@@ -81,9 +81,6 @@ module _ (texts : List (List ℕ)) where
   ends-before e [] before dropped h = absurd cc
   ends-before e (f ∷ es) before dropped h = h
 
-  with_written-ends : (e : Token) (es : List Token) → EndsInItem es None → EndsInItem (with_written texts e es) None
-  with_written-ends e x h = grind arith
-
   pub written-ends : (es : List Token) → EndsInItem (written_tokens texts es) None
   written-ends [] = tt
-  written-ends (e ∷ es) = with_written-ends e (written_tokens texts es) (written-ends es)
+  written-ends (e ∷ es) = grind (arith, written-ends es)

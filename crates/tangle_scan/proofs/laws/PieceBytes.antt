@@ -1,5 +1,6 @@
 -- The bytes in the spans of the pieces are the bytes that the segments of C parts keep.
 use Rattle.std.proofs.lemmas.Bool.Decides.{nat_tests}
+use Rattle.std.proofs.Common.{rules}
 use Rattle.std.proofs.Common.{◌≡◌, ◌≤◌, ℕ, ◌+◌, ◌-◌, zero, suc, Option, subst, true, false, List, [], ◌∷◌, ◌++◌, length}
 use Rattle.std.proofs.Common.{flat_map, refl, ap, sym, ◌∙◌, arith, append_assoc, append-nil, Some, None}
 use Rattle.std.specs.List.{All, AllPairs}
@@ -12,7 +13,7 @@ use Rattle.tangle_text.specs.Text.{text_from, texts_of}
 use Rattle.tangle_lexer.specs.Steps.{first_state, tokens_from, all_tokens}
 use Rattle.tangle_lexer.specs.Segments.{columns_from, span_points, kept_points}
 use Rattle.tangle_lexer.specs.Segments.{all_segments}
-use Rattle.tangle_scan.specs.Web.{web_of, Block, blocks, piece_of}
+use Rattle.tangle_scan.specs.Web.{web_of, Block, blocks, section_after, piece_of}
 use Rattle.tangle_lexer.specs.LinesOfParts.{body}
 use Rattle.tangle_scan.specs.Web.BlockKind.{OfPiece}
 use Rattle.tangle_scan.specs.ItemSpans.{item_spans}
@@ -34,40 +35,25 @@ module _ (lines : List SourceLine) where
   abbrev blocks_points : ℕ → List Token → List (ℕ × ℕ)
   blocks_points n es = flat_map block_points (blocks n es)
 
-  piece-points : (n : ℕ) (occurrence : Option ℕ) (line : ℕ) (es : List Token)
-      → block_points (record { section = n; kind = OfPiece occurrence line; tokens = body es })
-      ≡ points_of (token_spans (body es))
-  piece-points n occurrence line es = grind (arith, nat_tests, append-nil, part-spans)
-
   -- A C part has the spans of the tokens up to the next head. So if the tokens begin inside a C part, these spans come
   -- first, and those of the blocks after them.
   record Split (n : ℕ) (es : List Token) : Type 0 where
     outside : part_points false es ≡ blocks_points n es
     inside : part_points true es ≡ points_of (token_spans (body es)) ++ blocks_points n es
 
+  -- a C part that these tokens begin inside of
+  piece-first : (n : ℕ) (occurrence : Option ℕ) (line : ℕ) (es : List Token) → Split n es → part_points true es
+      ≡ block_points (record { section = n; kind = OfPiece occurrence line; tokens = body es }) ++ blocks_points n es
+  piece-first n occurrence line es rest = grind (arith, nat_tests, append-nil, part-spans, rest.inside)
+
   split-blocks : (n : ℕ) (es : List Token) → Split n es
   split-blocks n [] = record { outside = refl; inside = refl }
-  split-blocks n (token.Section ∷ es) =
-      let rest = split-blocks (n + 1) es in record { outside = rest.outside; inside = rest.outside }
-  split-blocks n (token.MacroStart line ∷ es) =
-      let rest = split-blocks n es in record { outside = rest.outside; inside = rest.outside }
   split-blocks n (token.UnnamedPart line ∷ es) =
-      let rest = split-blocks n es in
-      let all = rest.inside ∙ ap (λ ps. ps ++ blocks_points n es) (sym (piece-points n None line es)) in
-      record { outside = all; inside = all }
+      let all = piece-first n None line es (split-blocks n es) in record { outside = all; inside = all }
   split-blocks n (token.NamedPart line occurrence ∷ es) =
-      let rest = split-blocks n es in
-      let all = rest.inside ∙ ap (λ ps. ps ++ blocks_points n es) (sym (piece-points n (Some occurrence) line es)) in
-      record { outside = all; inside = all }
-  split-blocks n (token.Span kind s ∷ es) =
-      let rest = split-blocks n es in
-      record {
-        outside = rest.outside;
-        inside =
-            ap (λ ps. span_points s ++ ps) rest.inside
-            ∙ sym (append_assoc (span_points s) (points_of (token_spans (body es))) (blocks_points n es));
-      }
-  split-blocks n (_ ∷ es) = let rest = split-blocks n es in record { outside = rest.outside; inside = rest.inside }
+      let all = piece-first n (Some occurrence) line es (split-blocks n es) in record { outside = all; inside = all }
+  split-blocks n (e ∷ es) =
+      let rest = split-blocks (section_after n e) es in search (rules, append_assoc, rest.inside)
 
 -- the bytes of the spans in C parts are those in the spans of the pieces
 pieces-kept : (source : SourceRead)

@@ -3,7 +3,7 @@ use Rattle.std.proofs.Common.{rules}
 use Rattle.std.proofs.lemmas.Bool.Decides.{nat_tests}
 use Rattle.std.proofs.Common.{arith}
 use Rattle.std.proofs.Common.{◌≡◌, ℕ, ◌+◌, Bool, true, false, ◌&&◌, if◌then◌else◌, List, [], ◌∷◌, ◌++◌, flat_map}
-use Rattle.std.proofs.Common.{append_assoc, append-nil, Option, Some, None, is_some, refl, sym, ◌∙◌, subst}
+use Rattle.std.proofs.Common.{append_assoc, append-nil, Option, Some, None, is_some, refl, sym, subst}
 use Rattle.std.proofs.lemmas.Slice.Eq.{bytes_eq-Decides}
 use Rattle.std.proofs.lemmas.Bool.{and_parts}
 use Rattle.std.proofs.Math.Bool.{and-false}
@@ -49,20 +49,13 @@ module _ (lines : List SourceLine) (used : ℕ → List ℕ) (mark : Origin → 
   abbrev blank_bytes : Bool → List ℕ
   blank_bytes blank = gap_bytes mark (blank_before blank [])
 
-  item-text : (before : Option Token) (at : Turn) (counted : Origin) (e : Token) (es : List Token)
-      → is_front_gap e ≡ false →
-      flat_map item_bytes (items_by_origin lines before at counted (e ∷ es))
-      ≡ bytes_of e
-      ++ flat_map item_bytes (items_by_origin lines (Some e) (turn_after texts at e) (counted_after_token lines counted e) es)
-  item-text before at counted e es item = grind (arith, nat_tests, append_assoc)
-
   -- the bytes of an item, and of a blank before it
   text-item : (before : Option Token) (white : Bool) (at : Turn) (counted : Origin) (e : Token) (es : List Token)
       → is_front_gap e ≡ false
       → text_from before white at counted (e ∷ es)
       ≡ blank_bytes (is_some before && white)
       ++ (bytes_of e ++ text_from (Some e) false (turn_after texts at e) (counted_after_token lines counted e) es)
-  text-item before white at counted e es item = grind (arith, nat_tests, blanks-item, item-text)
+  text-item before white at counted e es item = grind (arith, nat_tests, blanks-item, append_assoc)
 
   -- the tokens that the compiler reads, from an item on
   read-item : (continued : Bool) (e : Token) (es : List Token) → is_front_gap e ≡ false →
@@ -192,11 +185,6 @@ module _ (lines : List SourceLine) (used : ℕ → List ℕ) (mark : Origin → 
       rest : List ℕ
       rest = text_from (Some e) false turns counted_after es
 
-      -- the bytes of the gap with the blank and more, before other bytes
-      gap-bytes : (more : List Gap) → gap_bytes mark (gap ++ blank_before blank more)
-          ≡ gap_bytes mark gap ++ (blank_bytes blank ++ gap_bytes mark more)
-      gap-bytes more = search (rules, bytes-append)
-
       -- the case in which the compiler reads the item
       kept : (fs : List Token) → AreRead [] (Some e) fs rest →
           AreRead meant last (e ∷ fs) (gap_bytes mark gap ++ (blank_bytes blank ++ (bytes_of e ++ rest)))
@@ -215,8 +203,7 @@ module _ (lines : List SourceLine) (used : ℕ → List ℕ) (mark : Origin → 
           (search (rules, append_assoc))
           (next.continued meant false last (Some e) turns counted_after (gap_bytes mark gap ++ (blank_bytes blank ++ backslash ∷ []))
           (gap ++ blank_before blank (TakenOut ∷ []))
-          (gap-bytes (TakenOut ∷ [])
-          ∙ sym (search (rules, append_assoc)))
+          (search (rules, bytes-append, append_assoc))
           joined is_last line_ends))
         where
           not_empty : (b : Bool) → is_empty (gap ++ blank_before b (TakenOut ∷ [])) ≡ false
@@ -234,11 +221,6 @@ module _ (lines : List SourceLine) (used : ℕ → List ℕ) (mark : Origin → 
                 closing = λ none closed. absurd cc;
               }
 
-      -- the gap after a verbatim text at the end of a continued line
-      verbatim-gap : ends_in_backslash texts e ≡ true → (line : ℕ)
-          → IsGap [] false (Some e) (Some (token.LineEnd line)) (LineFeed ∷ [])
-      verbatim-gap is_last line = search rules
-
       by : (continues : Bool) → (ends_in_backslash texts e && ends_line es) ≡ continues → (is_sign : Bool)
           → is_backslash texts e ≡ is_sign
           → AreRead meant last ((if continues && is_sign then [] else e ∷ []) ++ read_tokens texts continues es)
@@ -249,7 +231,7 @@ module _ (lines : List SourceLine) (used : ℕ → List ℕ) (mark : Origin → 
       by true both false other =
           let ends = and_parts _ _ both in
           kept (read_tokens texts true es)
-          (next.continued [] false (Some e) (Some e) turns counted_after [] (LineFeed ∷ []) refl (verbatim-gap ends.0)
+          (next.continued [] false (Some e) (Some e) turns counted_after [] (LineFeed ∷ []) refl (λ line. search rules)
           ends.0 ends.1)
       by false both is_sign sign =
           kept (read_tokens texts false es)

@@ -4,7 +4,7 @@ use Rattle.std.proofs.Common.{rules}
 use Rattle.std.proofs.lemmas.Bool.{cond_both}
 use Rattle.std.proofs.lemmas.Bool.Decides.{nat_tests}
 use Rattle.std.proofs.Common.{◌≡◌, ℕ, true, false, List, [], ◌∷◌, ◌++◌, flat_map, refl, sym, ◌∙◌}
-use Rattle.std.proofs.Common.{arith, subst, append-nil, None, if◌then◌else◌}
+use Rattle.std.proofs.Common.{arith, subst, append-nil, None}
 use Rattle.std.proofs.Common.{◌+◌}
 use Rattle.std.proofs.lemmas.Grind.{flat_map-append}
 use Rattle.std.specs.List.{All}
@@ -20,7 +20,7 @@ use Rattle.tangle_lexer.specs.Steps.{tokens_from, all_tokens}
 use Rattle.tangle_lexer.proofs.laws.Points.{Point, point_at, text-is}
 use Rattle.tangle_lexer.proofs.laws.TokenOrder.{line_after, AreFromLine}
 use Rattle.tangle_scan.specs.Rules.{is_line_backslash, without_backslashes, macro_tokens, macro_blanks, unmarked_items}
-use Rattle.tangle_scan.specs.Rules.{macro_items, is_macro}
+use Rattle.tangle_scan.specs.Rules.{macro_items}
 use Rattle.tangle_scan.specs.Web.{Block, BlockKind, blocks, piece_of, kind_piece, macro_of, kind_macro}
 use Rattle.tangle_scan.specs.Web.BlockKind.{OfMacro, OfPiece}
 use Rattle.tangle_scan.specs.ItemSpans.{item_spans}
@@ -108,10 +108,6 @@ module _ (texts : List (List ℕ)) where
     blocks-from n (token.Span kind s ∷ es) p h = (h.0, blocks-from n es (point_at s.line s.end) h.1)
     blocks-from n (e ∷ es) p h = search (rules, begun, blocks-from n es)
 
-    some-from : (es : List Token) → AreFrom (point_at 0 0) (token_spans es)
-        → AreFrom (point_at 0 0) (flat_map f (blocks 0 es))
-    some-from es h = some-none (token_spans (body es)) (point_at 0 0) _ (blocks-from 0 es (point_at 0 0) h)
-
 pub flat_map-twice : {A B C : Type 0} (f : B → List C) (g : A → List B) (xs : List A)
     → flat_map f (flat_map g xs) ≡ flat_map (λ x. flat_map f (g x)) xs
 flat_map-twice f g [] = refl
@@ -133,26 +129,24 @@ module _ (lines : List SourceLine) where
 
   kept_macro-some : (kind : BlockKind) (b : Block)
       → AreSome (texts_of lines) (flat_map item_spans (kind_macro lines kind b)) (token_spans b.tokens)
-  kept_macro-some (OfPiece occurrence line) b = some-none (texts_of lines) (token_spans b.tokens)
-  kept_macro-some (OfMacro line) b =
-      let items = macro_items (texts_of lines) b.tokens in
-      let P : List Span → Type 0 = λ ss. AreSome (texts_of lines) ss (token_spans b.tokens) in
-      cond_both (is_macro (texts_of lines) items) (items ∷ []) [] (λ ms. P (flat_map item_spans ms))
-      (λ _. subst P (sym (append-nil (item_spans items))) (macro-some (texts_of lines) b.tokens))
-      (λ _. some-none (texts_of lines) (token_spans b.tokens))
+  kept_macro-some kind b = λ p rest h.
+      let none = some-none (texts_of lines) (token_spans b.tokens) p rest h in
+      let some = macro-some (texts_of lines) b.tokens p rest h in
+      grind (arith, append-nil, none, some)
 
-  -- the spans of the pieces, and those of the macros
+  -- the spans of what is made of each block
+  made-from : {X : Type 0} (spans : X → List Span) (make : Block → List X)
+      → ((b : Block) → AreSome (texts_of lines) (flat_map spans (make b)) (token_spans b.tokens))
+      → AreFrom (texts_of lines) (point_at 0 0) (flat_map spans (flat_map make (blocks 0 (all_tokens lines))))
+  made-from spans make some =
+      rw (flat_map-twice spans make (blocks 0 (all_tokens lines)))
+      (some-none (texts_of lines) (token_spans (body (all_tokens lines))) (point_at 0 0) _
+      (blocks-from (texts_of lines) (λ b. flat_map spans (make b)) some 0 (all_tokens lines) (point_at 0 0) all-from))
 
   pub pieces-from : AreFrom (texts_of lines) (point_at 0 0)
       (flat_map (λ p. item_spans p.items) (flat_map (piece_of lines) (blocks 0 (all_tokens lines))))
-  pieces-from =
-      rw (flat_map-twice (λ p. item_spans p.items) (piece_of lines) (blocks 0 (all_tokens lines)))
-      (some-from (texts_of lines) (λ b. flat_map (λ p. item_spans p.items) (piece_of lines b))
-      (λ b. piece-some b.kind b) (all_tokens lines) all-from)
+  pieces-from = made-from (λ p. item_spans p.items) (piece_of lines) (λ b. piece-some b.kind b)
 
   pub macros-from : AreFrom (texts_of lines) (point_at 0 0)
       (flat_map item_spans (flat_map (macro_of lines) (blocks 0 (all_tokens lines))))
-  macros-from =
-      rw (flat_map-twice item_spans (macro_of lines) (blocks 0 (all_tokens lines)))
-      (some-from (texts_of lines) (λ b. flat_map item_spans (macro_of lines b))
-      (λ b. kept_macro-some b.kind b) (all_tokens lines) all-from)
+  macros-from = made-from item_spans (macro_of lines) (λ b. kept_macro-some b.kind b)

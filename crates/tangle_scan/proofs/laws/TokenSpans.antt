@@ -2,7 +2,7 @@
 use Rattle.std.proofs.Common.{rules}
 use Rattle.std.proofs.lemmas.Bool.Decides.{nat_tests}
 use Rattle.std.proofs.Common.{◌≡◌, ℕ, zero, suc, ◌+◌, ◌≤◌, ◌<◌, Bool, true, false, List, [], ◌∷◌, ◌++◌, drop}
-use Rattle.std.proofs.Common.{flat_map, map, inl, inr, refl, sym, ◌∙◌, arith, subst, if◌then◌else◌}
+use Rattle.std.proofs.Common.{flat_map, map, inl, inr, refl, sym, ◌∙◌, arith, subst}
 use Rattle.std.proofs.Common.{Option, Some, None}
 use Rattle.std.proofs.lemmas.Bool.Decides.{eqb_tells}
 use Rattle.std.proofs.lemmas.List.{drop-drop}
@@ -26,12 +26,11 @@ use Rattle.tangle_lexer.specs.LinesOfC.{inner_end_in}
 use Rattle.tangle_lexer.specs.Comments.{line_ends, has_end_code, two_if}
 use Rattle.tangle_lexer.specs.Quoted.{cut_range, cut_tokens, quote_end, one_if, quoted_text}
 use Rattle.tangle_lexer.specs.Quoted.{verbatim_end, verbatim_tokens, verbatim_text}
-use Rattle.tangle_lexer.specs.declared.constants.AsciiConstant.{AsciiConstant}
-use Rattle.tangle_lexer.specs.Constants.{constant_at, constant_lexeme, ascii_constant}
+use Rattle.tangle_lexer.specs.Constants.{ascii_constant}
 use Rattle.tangle_lexer.specs.Names.{definition_count, definition_or_mention, name_in_documentation}
 use Rattle.tangle_lexer.specs.Steps.{c_lexeme, lexeme, lexemes}
 use Rattle.tangle_lexer.specs.declared.tokens.SpanKind.TheVariants as span_kind
-use Rattle.tangle_lexer.proofs.lemmas.PlainTokens.{HasNone, none-append}
+use Rattle.tangle_lexer.proofs.lemmas.PlainTokens.{HasNone, none-append, none-flat}
 use Rattle.tangle_lexer.proofs.lemmas.LexemeCases.{OpensLexeme, IsPlainKind, lexeme-by}
 use Rattle.tangle_lexer.proofs.laws.Points.{Point, point_at, after_cell, IsByte, HoldsBytes, IsTextAt, text-next, text-after}
 use Rattle.tangle_lexer.proofs.laws.RegionOrder.{some-byte, code-bytes}
@@ -68,11 +67,6 @@ lead-none P p (_ ∷ ts) none h = lead-none P p ts none h
 fault-none : (b : Bool) (kind : FaultKind) (line : ℕ) → HasNone is_span (fault_if b kind line)
 fault-none b kind line = grind arith
 
-flat-none : (f : List Cell → List Token) → ((u : List Cell) → HasNone is_span (f u))
-    → (us : List (List Cell)) → HasNone is_span (flat_map f us)
-flat-none f h [] = refl
-flat-none f h (u ∷ us) = none-append is_span (f u) (flat_map f us) (h u) (flat-none f h us)
-
 inner-none : (b : Bool) (ts : List Token) → HasNone is_span ts → HasNone is_span (map (inner_end_in b) ts)
 inner-none b [] h = refl
 inner-none b (t ∷ ts) h = grind (arith, nat_tests, inner-none b ts)
@@ -80,11 +74,7 @@ inner-none b (t ∷ ts) h = grind (arith, nat_tests, inner-none b ts)
 -- a comment or a control text
 white-none : (r : Region) (text : List Cell) (inner b : Bool) (kind : FaultKind) (line : ℕ)
     → HasNone is_span (token.White ∷ map (inner_end_in inner) (line_ends r text) ++ fault_if b kind line)
-white-none r text inner b kind line = search (rules, none-append, inner-none, flat-none, fault-none)
-
-constant-none : (o : Option AsciiConstant) (s : LexerState) (text : List Cell)
-    → HasNone is_span (constant_lexeme o s text).tokens
-constant-none o s text = grind arith
+white-none r text inner b kind line = search (rules, none-append, inner-none, none-flat, fault-none)
 
 -- a name that is defined or mentioned
 mention-none : (o : Option ℕ) (s : LexerState) (text : List Cell) → HasNone is_span (definition_or_mention o s text).tokens
@@ -144,10 +134,6 @@ module _ (texts : List (List ℕ)) where
       → ((q : Point) → Precedes q (point_at line end) → P q) → LeadFrom line start P (cut_range r line start end)
   range-alone r line start end P le next p h = grind (arith, nat_tests, next p, next (point_at line end))
 
-  fault-alone : (b : Bool) (kind : FaultKind) (line : ℕ) (P : Point → Type 0) (p : Point)
-      → P p → Lead P p (fault_if b kind line)
-  fault-alone b kind line P p h = grind arith
-
   fault-leads : (b : Bool) (kind : FaultKind) (line : ℕ) (P : Point → Type 0) (p : Point) (ts : List Token)
       → Lead P p ts → Lead P p (fault_if b kind line ++ ts)
   fault-leads b kind line P p ts h = grind arith
@@ -202,7 +188,7 @@ module _ (texts : List (List ℕ)) where
   verbatim_end-leads at start (c ∷ cs) h is p k =
       range-leads region.Verbatim c.line start c.column (verbatim-final (c ∷ cs))
       (fault_if (is_line_end c.byte) fault.VerbatimEnd c.line) (omega (arith, is.0.column))
-      (λ q j. fault-alone (is_line_end c.byte) fault.VerbatimEnd c.line (verbatim-final (c ∷ cs)) q
+      (λ q j. lead-none (verbatim-final (c ∷ cs)) q (fault_if (is_line_end c.byte) fault.VerbatimEnd c.line) (fault-none _ _ _)
       (text-later (two_if (has_end_code (c ∷ cs))) at q (c ∷ cs) is j))
       p (rw is.0.line k)
 
@@ -214,8 +200,9 @@ module _ (texts : List (List ℕ)) where
         -- an empty verbatim text
         | inl none ↦ rw none.1 (λ p k. (
           (rw (is.0.line, is.0.column) k),
-          (fault-alone (is_line_end c.byte) fault.VerbatimEnd c.line (verbatim-final (c ∷ cs))
-              (point_at c.line (c.column + 0)) (text-later (two_if (has_end_code (c ∷ cs))) at _ (c ∷ cs) is (omega arith, λ e. omega arith))),
+          (lead-none (verbatim-final (c ∷ cs)) (point_at c.line (c.column + 0))
+              (fault_if (is_line_end c.byte) fault.VerbatimEnd c.line) (fault-none _ _ _)
+              (text-later (two_if (has_end_code (c ∷ cs))) at _ (c ∷ cs) is (omega arith, λ e. omega arith))),
         ))
         | inr some ↦ rw (some.0, ← is.0.column)
             (cut-leads region.Verbatim verbatim-cut verbatim_end verbatim-final verbatim_end-leads
@@ -244,13 +231,7 @@ module _ (texts : List (List ℕ)) where
   kind-leads (lexeme_kind.Control code.Verbatim) s at c cs plain o is =
       verbatim-leads s at c cs is (code-bytes code.Verbatim (c ∷ cs) (λ e. cc) o)
   kind-leads (lexeme_kind.Control code.AsciiConstant) s at c cs plain o is =
-      spanless at c cs (ascii_constant s (c ∷ cs)) is (constant-none (constant_at (drop 1 cs)) s (c ∷ cs))
-  kind-leads lexeme_kind.DoubleQuote s at c cs plain o is =
-      quoted-leads region.DoubleQuote double_quote-cut _ s at c cs is (some-byte c.byte o.0)
-  kind-leads lexeme_kind.Apostrophe s at c cs plain o is =
-      quoted-leads region.Apostrophe apostrophe-cut _ s at c cs is (some-byte c.byte o.0)
-  kind-leads lexeme_kind.HeaderName s at c cs plain o is =
-      quoted-leads region.HeaderName header_name-cut _ s at c cs is (some-byte c.byte o.0)
+      spanless at c cs (ascii_constant s (c ∷ cs)) is (grind arith)
   kind-leads lexeme_kind.Word s at c cs plain o is =
       let n : ℕ = word_more (c ∷ cs) in
       let e : 1 + n ≡ suc n = omega arith in
@@ -258,7 +239,10 @@ module _ (texts : List (List ℕ)) where
       (subst (λ i. HoldsBytes i (c ∷ cs)) e (word-bytes c cs (some-byte c.byte o.0)))
   kind-leads lexeme_kind.Other s at c cs plain o is =
       span-leads span_kind.Sign at 1 0 c cs is (omega arith) (some-byte c.byte o.0, tt)
-  kind-leads kind s at c cs plain o is = search (rules, spanless, white-none, fault-none)
+  kind-leads kind s at c cs plain o is = first_of (
+    search (rules, spanless, white-none, fault-none),
+    search (rules, quoted-leads, double_quote-cut, apostrophe-cut, header_name-cut, some-byte),
+  )
 
   lexeme-leads : (s : LexerState) (at : Point) (c : Cell) (cs : List Cell)
       → IsTextAt texts at (c ∷ cs) → Law c cs (lexeme s (c ∷ cs))

@@ -1,7 +1,7 @@
 -- A C compiler reads the items of a web as the author means them.
 use Rattle.std.proofs.Common.{arith}
 use Rattle.std.proofs.lemmas.Bool.Decides.{nat_tests}
-use Rattle.std.proofs.Common.{ℕ, List, [], ◌∷◌, ◌++◌, map, flat_map}
+use Rattle.std.proofs.Common.{ℕ, List, [], ◌∷◌, map, flat_map}
 use Rattle.std.specs.List.{AllZip}
 use Rattle.tangle_lines.specs.declared.origin.Origin.{Origin}
 use Rattle.tangle_lines.specs.Reading.{SourceLine, SourceRead}

@@ -2,7 +2,7 @@
 use Rattle.std.proofs.lemmas.Bool.Decides.{nat_tests}
 use Rattle.std.proofs.Common.{rules}
 use Rattle.std.proofs.Common.{length, map, arith, subst, ◌<◌, ℕ}
-use Rattle.std.proofs.Common.{false, Option, Some, None, List, [], ◌∷◌, ◌++◌, flat_map}
+use Rattle.std.proofs.Common.{false, Option, Some, None, List, [], ◌∷◌, flat_map}
 use Rattle.std.specs.List.{AllByRecursion, All}
 use Rattle.std.specs.Option.{IfSome}
 use Rattle.std.proofs.lemmas.List.Elements.{All-from_recursion}
@@ -14,7 +14,7 @@ use Rattle.tangle_lexer.specs.declared.tokens.Token.TheVariants as token
 use Rattle.tangle_lexer.specs.LinesOfParts.{body}
 use Rattle.tangle_lexer.specs.Occurrences.{occurrence_of}
 use Rattle.tangle_lexer.specs.Steps.{all_tokens, all_occurrences, first_state}
-use Rattle.tangle_lexer.proofs.lemmas.OccurrencesCounted.{AreBelow, tokens-below}
+use Rattle.tangle_lexer.proofs.lemmas.OccurrencesCounted.{AreBelow, all-append, tokens-below}
 use Rattle.tangle_text.specs.Text.{text_from}
 use Rattle.tangle_scan.specs.declared.turns.Turn.{Turn}
 use Rattle.tangle_scan.specs.Rules.{texts_of, part_tokens, is_continued, at_line_front, blanks, part_items}
@@ -25,11 +25,6 @@ use Rattle.tangle_scan.specs.Web.{PieceRead, blocks, section_after, piece_of, we
 use Rattle.tangle_scan.specs.WellFormed.{IsUseBelow, IsWellFormed}
 use Rattle.tangle_scan.proofs.lemmas.KeptTokens.{kept, part-kept}
 use Rattle.tangle_scan.proofs.lemmas.ItemsByOrigin.{by-line_item, part_items-by_origin}
-
-all-append : {X : Type 0} (P : X → Type 0) (xs ys : List X)
-    → AllByRecursion P xs → AllByRecursion P ys → AllByRecursion P (xs ++ ys)
-all-append P [] ys h k = k
-all-append P (x ∷ xs) ys h k = (h.0, all-append P xs ys h.1 k)
 
 module _ (lines : List SourceLine) (count : ℕ) where
   body-below : (es : List Token) → AreBelow count es → AreBelow count (body es)

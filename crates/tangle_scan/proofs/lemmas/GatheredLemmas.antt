@@ -1,11 +1,15 @@
 -- What is stored of a web is what was gathered of it, block by block.
 use Rattle.std.proofs.Common.{rules}
-use Rattle.std.proofs.Common.{◌≡◌, ◌∙◌, ◌<◌, ℕ, zero, suc, ◌+◌, ◌||◌, Bool, true, false, List, [], ◌∷◌, ◌++◌, if◌then◌else◌, map, length}
-use Rattle.std.proofs.Common.{None, Option, ap, append-nil, get_or, refl, subst, sym}
+use Rattle.std.proofs.Common.{◌≡◌, ◌∙◌, ◌<◌, ℕ, zero, suc, ◌+◌, ◌||◌, true, false, List, [], ◌∷◌, ◌++◌, if◌then◌else◌, map, length}
+use Rattle.std.proofs.Common.{None, Option, append-nil, append_assoc, get_or, refl, subst, sym}
 use Rattle.std.specs.List.{All, AllZip, list_any}
 use Rattle.std.specs.Prelude.{flat_map}
+use Rattle.std.proofs.Common.{arith}
+use Rattle.std.proofs.lemmas.Bool.Decides.{nat_tests}
+use Rattle.std.proofs.lemmas.List.Folds.{list_any-append}
 use Rattle.std.proofs.lemmas.List.{map-append}
 use Rattle.digraph.specs.Graph.{row_at}
+use Rattle.tangle_faults.specs.Faults.{FaultRead}
 use Rattle.tangle_faults.specs.declared.faults.FaultKind.TheVariants as fault
 use Rattle.tangle_lexer.specs.Heads.{is_head}
 use Rattle.tangle_lexer.specs.Runs.{IsRunIn, unfolded}
@@ -14,69 +18,22 @@ use Rattle.tangle_lexer.specs.declared.tokens.Token.TheVariants as token
 use Rattle.tangle_lines.specs.Reading.{SourceRead, origin_at}
 use Rattle.tangle_scan.specs.Rules.{is_macro, macro_items, part_items, texts_of}
 use Rattle.tangle_scan.specs.declared.items.Item.{Item}
-use Rattle.tangle_scan.specs.declared.items.Item.TheVariants as item
 use Rattle.tangle_scan.specs.WellFormed.{IsUseBelow, IsWellFormed}
 use Rattle.std.proofs.lemmas.List.Elements.{All-nil, All-cons, All-head, All-tail}
-use Rattle.tangle_scan.specs.ItemBytes.{bytes_in}
 use Rattle.tangle_scan.specs.MacroBytes.{macro_bytes}
 use Rattle.std.proofs.lemmas.List.Concat.{flat_map-append}
-use Rattle.tangle_scan.specs.Texts.{TextRead, TextsRead, IsTextOf, item_origins, item_uses, tag_of, text_at, with_text}
-use Rattle.tangle_scan.specs.UnfoldedTags.{StandFor}
-use Rattle.tangle_scan.specs.Web.{PieceRead, WebRead, fault_on, is_all_macros, no_piece, macro_token_faults, stored_piece, token_faults}
-use Rattle.tangle_scan.specs.WebBuilder.{AreTextsOf, IsGathered, StoredBuilder, WebBuilderRead, builder_with, nothing, nothing_stored}
+use Rattle.tangle_scan.specs.Texts.{TextRead, TextsRead, IsTextOf, item_uses, no_text, text_at, with_text}
+use Rattle.tangle_scan.specs.Web.{scan_faults, section_count}
+use Rattle.tangle_scan.specs.Web.{PieceRead, WebRead, blocks, fault_on, is_all_macros, no_piece, macro_token_faults, token_faults}
+use Rattle.tangle_scan.specs.WebBuilder.{AreTextsOf, IsGathered, StoredBuilder, nothing_stored, part_head}
 use Rattle.tangle_scan.proofs.lemmas.UnfoldedTokens.{all_macros-unfolded, faults-unfolded, unfolded-no_head}
-use Rattle.tangle_scan.proofs.lemmas.TextLemmas.{stand_none}
-use Rattle.tangle_scan.proofs.lemmas.WebBuilderLemmas.{front-whole, macro-gathered, section-gathered}
+use Rattle.tangle_scan.proofs.lemmas.TextLemmas.{no-items}
+use Rattle.tangle_scan.proofs.lemmas.WebBuilderLemmas.{body-whole, no-section, no-blocks, no-head_faults}
+use Rattle.tangle_scan.proofs.lemmas.WebBuilderLemmas.{sections-added, blocks-added, faults-added}
 
-pub nothing-gathered : (texts : List (List ℕ)) (stored : StoredBuilder) → stored ≡ nothing_stored
-    → IsGathered texts stored nothing
-nothing-gathered texts stored is = search rules
-
-module _ (source : SourceRead) (stored : StoredBuilder) (read : WebBuilderRead) (tokens : List Token) where
-  abbrev texts : List (List ℕ)
-  texts = texts_of source.lines
-
-  pub front-stored : list_any is_head tokens ≡ false → All (IsRunIn texts) tokens → IsGathered texts stored read
-      → IsGathered texts (record stored { faults = stored.faults ++ token_faults source.files source.lines None tokens })
-      (builder_with source read (unfolded texts tokens))
-  front-stored none runs h =
-      rw (← front-whole source read (unfolded texts tokens) (unfolded-no_head texts tokens none)) (search (rules, faults-unfolded))
-
-  pub section-stored : list_any is_head tokens ≡ false → All (IsRunIn texts) tokens → IsGathered texts stored read
-      → IsGathered texts (record stored {
-        sections = stored.sections + 1;
-        faults = stored.faults ++ token_faults source.files source.lines None tokens;
-      }) (builder_with source read (token.Section ∷ unfolded texts tokens))
-  section-stored none runs h =
-      rw (← section-gathered source read (unfolded texts tokens) (unfolded-no_head texts tokens none))
-      (search (rules, faults-unfolded))
-
-pub macro-stored : (source : SourceRead) (stored : StoredBuilder) (read : WebBuilderRead) (line : ℕ) (tokens : List Token)
-    → list_any is_head tokens ≡ false → IsGathered (texts_of source.lines) stored read →
-    let items = macro_items (texts_of source.lines) tokens in
-    let is_macro = is_macro (texts_of source.lines) items in
-    IsGathered (texts_of source.lines) (record stored {
-      macros = stored.macros ++ (if is_macro then macro_bytes (texts_of source.lines) items else []);
-      faults = (stored.faults ++ (if is_macro then []
-          else fault_on source.files source.lines fault.MacroName line ∷ []))
-          ++ macro_token_faults source.files source.lines tokens;
-    }) (builder_with source read (token.MacroStart line ∷ tokens))
-macro-stored source stored read line tokens none h =
-    subst (IsGathered (texts_of source.lines) _) (macro-gathered source read line tokens none)
-    (record {
-      sections = h.sections;
-      pieces = h.pieces;
-      piece_texts = h.piece_texts;
-      macros = rw h.macros (kept (macro_items (texts_of source.lines) tokens) (is_macro (texts_of source.lines) (macro_items (texts_of source.lines) tokens)));
-      has_all_macros = h.has_all_macros;
-      faults = rw h.faults refl;
-    })
-  where
-    kept : (items : List Item) (b : Bool) → flat_map (macro_bytes (texts_of source.lines)) read.macros
-        ++ (if b then macro_bytes (texts_of source.lines) items else [])
-        ≡ flat_map (macro_bytes (texts_of source.lines)) (read.macros ++ (if b then items ∷ [] else []))
-    kept items true = sym (flat_map-append (macro_bytes (texts_of source.lines)) read.macros (items ∷ []) ∙ rw (append-nil (macro_bytes (texts_of source.lines) items)) refl)
-    kept items false = rw (append-nil read.macros, append-nil (flat_map (macro_bytes (texts_of source.lines)) read.macros)) refl
+pub nothing-gathered : (source : SourceRead) (stored : StoredBuilder) → stored ≡ nothing_stored
+    → IsGathered source [] stored
+nothing-gathered source stored is = search rules
 
 -- a piece is put at the end
 
@@ -86,6 +43,117 @@ zip-push P [] [] x y h k = search tt
 zip-push P (x' ∷ xs) (y' ∷ ys) x y h k = (h.0, zip-push P xs ys x y h.1 k)
 zip-push P xs ys x y h k = absurd h
 
+text-pushed : (texts : List (List ℕ)) (pieces : List PieceRead) (stored : TextsRead) (piece : PieceRead) (text : TextRead)
+    → AreTextsOf texts pieces stored → IsTextOf texts piece.items text
+    → AreTextsOf texts (pieces ++ piece ∷ []) (with_text stored text)
+text-pushed texts pieces stored piece text h is = record {
+  all = h.all ++ text ∷ [];
+  are = zip-push (λ p t. IsTextOf texts p.items t) pieces h.all piece text h.are is;
+  tags = rw (h.tags, map-append (λ t. t.tags) h.all (text ∷ [])) refl;
+  bytes = rw (h.bytes, map-append (λ t. t.bytes) h.all (text ∷ [])) refl;
+  uses = rw (h.uses, map-append (λ t. t.uses) h.all (text ∷ [])) refl;
+  marks = rw (h.marks, map-append (λ t. t.marks) h.all (text ∷ [])) refl;
+}
+
+-- tokens with which no block comes
+no-block : (source : SourceRead) (stored : StoredBuilder) (before new : List Token) (sections : ℕ) (faults : List FaultRead)
+    → IsGathered source before stored → blocks 0 new ≡ blocks 0 before → section_count 0 new ≡ sections
+    → scan_faults source.files source.lines new ≡ faults
+    → IsGathered source new (record stored { sections = sections; faults = faults })
+no-block source stored before new sections faults h same count is = record {
+  sections = sym count;
+  pieces = rw same h.pieces;
+  piece_texts = rw same h.piece_texts;
+  macros = rw same h.macros;
+  has_all_macros = rw same h.has_all_macros;
+  faults = sym is;
+}
+
+module _ (source : SourceRead) (stored : StoredBuilder) (before tokens : List Token)
+    (none : list_any is_head tokens ≡ false) where
+  abbrev texts : List (List ℕ)
+  texts = texts_of source.lines
+
+  -- the tokens that the runs among these stand for
+  abbrev all : List Token
+  all = unfolded texts tokens
+
+  plain : list_any is_head all ≡ false
+  plain = unfolded-no_head texts tokens none
+
+  pub front-stored : All (IsRunIn texts) tokens → IsGathered source [] stored
+      → IsGathered source all
+      (record stored { faults = stored.faults ++ token_faults source.files source.lines None tokens })
+  front-stored runs h =
+      let faults = faults-unfolded source.files source.lines None tokens runs in
+      no-block source stored [] all _ _ h (no-blocks 0 all plain) (no-section 0 all plain ∙ sym h.sections)
+      (rw (body-whole all plain, no-head_faults source.files source.lines all plain, faults, h.faults, append-nil) refl)
+
+  pub section-stored : All (IsRunIn texts) tokens → IsGathered source before stored
+      → IsGathered source (before ++ token.Section ∷ all) (record stored {
+        sections = stored.sections + 1;
+        faults = stored.faults ++ token_faults source.files source.lines None tokens;
+      })
+  section-stored runs h =
+      let faults = faults-unfolded source.files source.lines None tokens runs in
+      no-block source stored before (before ++ token.Section ∷ all) _ _ h
+      (blocks-added token.Section all refl plain 0 before ∙ append-nil (blocks 0 before))
+      (rw (sections-added token.Section all refl plain 0 before, h.sections) refl)
+      (rw (faults-added token.Section all refl plain source.files source.lines before, faults, h.faults) refl)
+
+  pub macro-stored : (line : ℕ) → IsGathered source before stored →
+      let items = macro_items texts tokens in
+      let is_macro = is_macro texts items in
+      IsGathered source (before ++ token.MacroStart line ∷ tokens) (record stored {
+        macros = stored.macros ++ (if is_macro then macro_bytes texts items else []);
+        faults = (stored.faults ++ (if is_macro then []
+            else fault_on source.files source.lines fault.MacroName line ∷ []))
+            ++ macro_token_faults source.files source.lines tokens;
+      })
+  macro-stored line h =
+      let head = token.MacroStart line in
+      grind (
+        arith,
+        nat_tests,
+        sections-added head tokens refl none 0 before,
+        blocks-added head tokens refl none 0 before,
+        faults-added head tokens refl none source.files source.lines before,
+        body-whole tokens none,
+        flat_map-append,
+        list_any-append,
+        append-nil,
+        append_assoc,
+      )
+
+  pub piece-stored : (occurrence : Option ℕ) (line : ℕ) (text : TextRead) → All (IsRunIn texts) tokens
+      → IsTextOf texts (part_items source.lines line all) text → IsGathered source before stored
+      → IsGathered source (before ++ part_head line occurrence ∷ all) (record stored {
+        pieces = stored.pieces
+            ++ record { section = stored.sections; origin = origin_at source.lines line; occurrence = occurrence } ∷ [];
+        texts = with_text stored.texts text;
+        has_all_macros = stored.has_all_macros || list_any is_all_macros tokens;
+        faults = stored.faults ++ token_faults source.files source.lines None tokens;
+      })
+  piece-stored x line text runs is h =
+      let head : is_head (part_head line x) ≡ true = grind arith in
+      grind (
+        arith,
+        nat_tests,
+        sections-added (part_head line x) all head plain 0 before,
+        blocks-added (part_head line x) all head plain 0 before,
+        faults-added (part_head line x) all head plain source.files source.lines before,
+        faults-unfolded source.files source.lines None tokens runs,
+        all_macros-unfolded texts tokens,
+        body-whole all plain,
+        text-pushed,
+        flat_map-append,
+        map-append,
+        list_any-append,
+        append-nil,
+      )
+
+-- the text of a piece with this number
+
 zip-at : {X Y : Type 0} (P : X → Y → Type 0) (xs : List X) (ys : List Y) (x : X) (y : Y) (n : ℕ)
     → P x y → AllZip P xs ys → P (get_or xs n x) (get_or ys n y)
 zip-at P [] [] x y n none h = none
@@ -93,87 +161,33 @@ zip-at P (x' ∷ xs) (y' ∷ ys) x y zero none h = h.0
 zip-at P (x' ∷ xs) (y' ∷ ys) x y (suc n) none h = zip-at P xs ys x y n none h.1
 zip-at P xs ys x y n none h = absurd h
 
-row-of : {X : Type 0} (f : PieceRead → List X) (pieces : List PieceRead) (n : ℕ) → f no_piece ≡ []
-    → row_at (map f pieces) n ≡ f (get_or pieces n no_piece)
+row-of : {X : Type 0} (f : TextRead → List X) (ts : List TextRead) (n : ℕ) → f no_text ≡ []
+    → row_at (map f ts) n ≡ f (get_or ts n no_text)
 row-of f [] n none = sym none
-row-of f (p ∷ pieces) zero none = refl
-row-of f (p ∷ pieces) (suc n) none = row-of f pieces n none
+row-of f (t ∷ ts) zero none = refl
+row-of f (t ∷ ts) (suc n) none = row-of f ts n none
 
 items-at : (P : PieceRead → Type 0) (pieces : List PieceRead) (n : ℕ) → P no_piece → All P pieces
     → P (get_or pieces n no_piece)
-items-at P [] n none all = none
-items-at P (p ∷ pieces) zero none all = All-head P p pieces all
-items-at P (p ∷ pieces) (suc n) none all = items-at P pieces n none (All-tail P p pieces all)
-
-pub piece-stored : (source : SourceRead) (stored : StoredBuilder) (read : WebBuilderRead) (occurrence : Option ℕ) (line : ℕ)
-    (tokens : List Token) (text : TextRead) → All (IsRunIn (texts_of source.lines)) tokens →
-    let texts : List (List ℕ) = texts_of source.lines in
-    let items : List Item = part_items source.lines line (unfolded texts tokens) in
-    IsTextOf texts items text → IsGathered texts stored read
-    → IsGathered texts
-    (record stored {
-      pieces = stored.pieces
-          ++ record { section = stored.sections; origin = origin_at source.lines line; occurrence = occurrence } ∷ [];
-      texts = with_text stored.texts text;
-      has_all_macros = stored.has_all_macros || list_any is_all_macros tokens;
-      faults = stored.faults ++ token_faults source.files source.lines None tokens;
-    })
-    (record read {
-      pieces = read.pieces ++ record {
-        section = read.sections;
-        origin = origin_at source.lines line;
-        occurrence = occurrence;
-        items = items;
-      } ∷ [];
-      has_all_macros = read.has_all_macros || list_any is_all_macros (unfolded texts tokens);
-      faults = read.faults ++ token_faults source.files source.lines None (unfolded texts tokens);
-    })
-piece-stored source stored read occurrence line tokens text runs is h =
-    let texts : List (List ℕ) = texts_of source.lines in
-    let piece : PieceRead = record {
-      section = read.sections;
-      origin = origin_at source.lines line;
-      occurrence = occurrence;
-      items = part_items source.lines line (unfolded texts tokens);
-    } in
-    record {
-      sections = h.sections;
-      macros = h.macros;
-      has_all_macros = rw (h.has_all_macros, all_macros-unfolded texts tokens) refl;
-      faults = rw (h.faults, faults-unfolded source.files source.lines None tokens runs) refl;
-      pieces = rw (h.pieces, h.sections, map-append stored_piece read.pieces (piece ∷ [])) refl;
-      piece_texts = search (rules, zip-push, map-append);
-    }
-
--- the text of the piece with this number
-text-stored : (texts : List (List ℕ)) (pieces : List PieceRead) (stored : TextsRead) (n : ℕ)
-    → AreTextsOf texts pieces stored → IsTextOf texts (get_or pieces n no_piece).items (text_at stored n)
-text-stored texts pieces stored n h =
-    let piece = get_or pieces n no_piece in
-    let bytes : row_at stored.bytes n ≡ flat_map (bytes_in texts) piece.items =
-    ap (λ rows. row_at rows n) h.bytes ∙ row-of (λ (p : PieceRead). flat_map (bytes_in texts) p.items) pieces n refl in
-    record {
-      tags = subst (λ bs. StandFor (row_at stored.tags n) bs (map (tag_of texts) piece.items)) (sym bytes)
-          (zip-at _ stored.tags pieces [] no_piece n stand_none h.tags);
-      bytes = bytes;
-      uses = ap (λ rows. row_at rows n) h.uses ∙ row-of (λ (p : PieceRead). flat_map item_uses p.items) pieces n refl;
-      marks = ap (λ rows. row_at rows n) h.marks ∙ row-of (λ (p : PieceRead). flat_map item_origins p.items) pieces n refl;
-    }
+items-at P [] n none h = none
+items-at P (p ∷ pieces) zero none h = All-head P p pieces h
+items-at P (p ∷ pieces) (suc n) none h = items-at P pieces n none (All-tail P p pieces h)
 
 -- the numbers of occurrences in the uses of items
 
 uses-below : (count : ℕ) (items : List Item) → All (IsUseBelow count) items → All (λ n. n < count) (flat_map item_uses items)
 uses-below count [] h = All-nil (λ n. n < count)
-uses-below count (item.UseOf occurrence ∷ items) h =
-    All-cons (λ n. n < count) occurrence (flat_map item_uses items) (All-head (IsUseBelow count) (item.UseOf occurrence) items h)
-    (uses-below count items (All-tail (IsUseBelow count) (item.UseOf occurrence) items h))
-uses-below count (x ∷ items) h = assumption (uses-below count items (All-tail (IsUseBelow count) x items h))
+uses-below count (x ∷ items) h =
+    let rest = uses-below count items (All-tail (IsUseBelow count) x items h) in
+    let first = All-head (IsUseBelow count) x items h in grind (arith, All-cons, rest, first)
 
 -- the text that is read of a piece of a web
 
 pub web-text : (web : WebRead) (stored : TextsRead) (n : ℕ) (text : TextRead) → AreTextsOf web.texts web.pieces stored
     → text ≡ text_at stored n → IsTextOf web.texts (get_or web.pieces n no_piece).items text
-web-text web stored n text h is = rw is (text-stored web.texts web.pieces stored n h)
+web-text web stored n text h is =
+    subst (IsTextOf web.texts (get_or web.pieces n no_piece).items) (sym (is ∙ grind (arith, row-of)))
+    (zip-at (λ p t. IsTextOf web.texts p.items t) web.pieces h.all no_piece no_text n (no-items web.texts) h.are)
 
 pub web-uses : (web : WebRead) (stored : TextsRead) (n : ℕ) (text : TextRead) → AreTextsOf web.texts web.pieces stored
     → IsWellFormed web → text ≡ text_at stored n → All (λ u. u < length web.occurrences) text.uses

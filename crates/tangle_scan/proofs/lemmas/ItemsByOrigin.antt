@@ -21,6 +21,9 @@ use Rattle.tangle_scan.specs.Passes.{line_item, items_by_origin}
 use Rattle.tangle_scan.specs.Passes.{turn_after_line_end, turn_after_item, is_number_sign, is_turn_item, is_whole}
 use Rattle.tangle_scan.specs.Rules.{is_front_gap}
 
+pub same-is : (p q : Origin) → same_origin p q ≡ true → p ≡ q
+same-is p q h = grind (arith, nat_tests)
+
 -- what is true of a line end and of each mark is true of the item for the end of a line
 pub by-line_item : (P : Item → Type 0) (lines : List SourceLine) (continued turn : Bool) (counted : Origin) (line : ℕ)
     → P item.LineEnd → ((p : Origin) → P (item.LineMark p)) → P (line_item lines continued turn counted line)
@@ -101,9 +104,6 @@ module _ (lines : List SourceLine) where
       rest : List Item
       rest = with_all_marks lines (Some (token.LineEnd number)) es
 
-      same-is : (p q : Origin) → same_origin p q ≡ true → p ≡ q
-      same-is p q h = grind (arith, nat_tests)
-
       by : (continued last turns same : Bool) → is_turn texts line ≡ turns → same_origin next (next_line counted) ≡ same →
           with_needed_marks texts line counted
           (item.LineEnd ∷ ((if continued || last then [] else item.LineMark next ∷ []) ++ rest))
@@ -111,14 +111,8 @@ module _ (lines : List SourceLine) where
           ∷ with_needed_marks texts (line_after (continued || last) line)
           (if continued || (last || same) then next_line counted else next) rest
       by true last turns same e is = search (rules, line_end-alone)
-      by false true true same e is = search (rules, line_end-alone)
-      by false true false same e is = search (rules, line_end-alone)
-      by false false true true e is =
-          rw (e, is) (ap (λ p. item.LineMark next ∷ with_needed_marks texts [] p rest) (same-is next (next_line counted) is))
-      by false false true false e is = rw (e, is) refl
-      by false false false true e is =
-          rw (e, is) (ap (λ p. item.LineEnd ∷ with_needed_marks texts [] p rest) (same-is next (next_line counted) is))
-      by false false false false e is = rw (e, is) refl
+      by false true turns same e is = search (rules, line_end-alone)
+      by false false turns same e is = grind (arith, nat_tests, same-is)
 
   -- how much of a turn is on the line of C after a line end
   ended : (stays : Bool) (line : List Item) (at : Turn) → turn_of texts line ≡ at

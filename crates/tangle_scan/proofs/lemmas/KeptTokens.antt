@@ -7,7 +7,6 @@ use Rattle.std.proofs.Common.{List, [], ◌∷◌, ◌++◌, map, flat_map, refl
 use Rattle.std.proofs.lemmas.Grind.{flat_map-append}
 use Rattle.tangle_lexer.specs.declared.tokens.Token.{Token}
 use Rattle.tangle_lexer.specs.declared.tokens.Token.TheVariants as token
-use Rattle.tangle_scan.specs.Rules.{is_open}
 use Rattle.tangle_scan.specs.Rules.{white_inner_end, clean_tokens}
 use Rattle.tangle_scan.specs.Rules.{without_faults, would_merge, with_spaces}
 use Rattle.tangle_scan.specs.Rules.{with_name_space, is_gap, left_of_run, without_joins, part_tokens}
@@ -58,12 +57,9 @@ without_joins-kept run [] none = left-kept run none
 without_joins-kept run (e ∷ es) none =
     grind (arith, nat_tests, flat_map-append, left-kept, without_joins-kept (run ++ e ∷ []) es, without_joins-kept [] es refl)
 
-last-kept : (b : Bool) → kept (if b then token.White ∷ [] else []) ≡ []
-last-kept x = grind arith
-
 blanks-kept : (texts : List (List ℕ)) (before : Option Token) (white : Bool) (es : List Token)
     → kept (blanks texts before white es) ≡ kept es
-blanks-kept texts before white [] = last-kept (is_open texts before)
+blanks-kept texts before white [] = grind arith
 blanks-kept texts before white (token.White ∷ es) = blanks-kept texts before true es
 blanks-kept texts before white (token.LineEnd line ∷ es) = blanks-kept texts (at_line_front texts before line) false es
 blanks-kept texts before white (e ∷ es) =

@@ -1,11 +1,11 @@
 -- The unfolded tags that remain of a text.
 use Rattle.std.proofs.Common.{rules}
-use Rattle.std.proofs.Common.{◌≡◌, ◌∙◌, ℕ, ◌-◌, ◌≤◌, List, [], ◌∷◌, ◌++◌, length, take, drop, slice_get, refl, ap}
+use Rattle.std.proofs.Common.{◌≡◌, ◌∙◌, ℕ, ◌-◌, ◌≤◌, List, [], ◌∷◌, length, take, drop, slice_get, refl, ap}
 use Rattle.std.proofs.Common.{sym, arith, Some, None, min, drop-drop}
 use Rattle.std.proofs.lemmas.List.{length-take, take_min, drop_min, drop-take}
 use Rattle.tangle_text.specs.Runs.{chunks, parts_of}
 use Rattle.tangle_text.specs.declared.runs.RunPart.{RunPart}
-use Rattle.tangle_scan.specs.UnfoldedTags.{part_tag, run_tags, kind_tags, unfolded_tags, tags_left}
+use Rattle.tangle_scan.specs.UnfoldedTags.{part_tag, run_tags, tags_left}
 use Rattle.tangle_scan.specs.declared.texts.ItemTag.{ItemTag}
 use Rattle.tangle_scan.specs.declared.texts.ItemKind.TheVariants as tag
 use Rattle.tangle_scan.proofs.lemmas.RunTags.{first_part, no_part, no_run_tags}
@@ -31,11 +31,6 @@ none_left tags bytes run zero none = rw (zero, none, no_run_tags) refl
 
 -- a tag that begins, where no run was begun
 
-first_left : (tags ts : List ItemTag) (t : ItemTag) (bytes : List ℕ) (run : ℕ) → run ≡ 0 → tags ≡ t ∷ ts
-    → tags_left tags bytes run
-    ≡ kind_tags t.kind t (take t.size bytes) ++ unfolded_tags ts (drop t.size bytes)
-first_left tags ts t bytes run zero is = rw (zero, is, no_run_tags) refl
-
 pub other_left : (tags ts : List ItemTag) (t : ItemTag) (bytes : List ℕ) (run : ℕ)
     → run ≡ 0 → tags ≡ t ∷ ts → (t.kind ≡ tag.Run → ⊥)
     → tags_left tags bytes run ≡ t ∷ tags_left ts (drop t.size bytes) run
@@ -44,7 +39,7 @@ other_left tags ts t bytes run zero is other = search (rules, no_run_tags)
 pub run_begun : (tags ts : List ItemTag) (t : ItemTag) (bytes : List ℕ) (run size : ℕ)
     → run ≡ 0 → tags ≡ t ∷ ts → t.kind ≡ tag.Run → size ≡ min t.size (length bytes)
     → tags_left ts bytes size ≡ tags_left tags bytes run
-run_begun tags ts t bytes run size zero is kind fits = search (rules, take_min, drop_min, first_left)
+run_begun tags ts t bytes run size zero is kind fits = search (rules, take_min, drop_min, no_run_tags)
 
 -- the next part of a run that was begun
 pub part_left : (tags : List ItemTag) (t : ItemTag) (bytes : List ℕ) (run : ℕ) → t.size ≤ run

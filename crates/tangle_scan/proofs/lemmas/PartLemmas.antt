@@ -23,7 +23,7 @@ use Rattle.tangle_scan.specs.declared.parts.Last.TheVariants as last
 use Rattle.tangle_scan.specs.declared.parts.PartState.{PartState}
 use Rattle.tangle_scan.specs.Texts.{TextRead, part_item}
 use Rattle.tangle_scan.specs.Rules.{white_inner_end, would_merge, is_constant}
-use Rattle.tangle_scan.specs.Rules.{may_merge, without_joins, is_gap, left_of_run, is_open}
+use Rattle.tangle_scan.specs.Rules.{may_merge, without_joins, is_gap, left_of_run}
 use Rattle.tangle_lexer.specs.SpanBytes.{ends_in, ends_in_backslash}
 use Rattle.tangle_scan.specs.Rules.{has_join, texts_of, is_continued, at_line_front}
 use Rattle.tangle_text.specs.Bytes.{backslash, slash}
@@ -31,7 +31,7 @@ use Rattle.std.proofs.Common.{◌==◌}
 use Rattle.tangle_scan.specs.Rules.{blanks, part_items, is_front_gap}
 use Rattle.tangle_scan.specs.LineTruth.{counted_after_line_end}
 use Rattle.tangle_scan.specs.Passes.{IsPassed, from_gap, start_of_gap, items_after, spaced_after, blank_before, origin_of}
-use Rattle.tangle_scan.specs.Passes.{turn_at_gap, counted_at_gap, continues, ends_open, is_open_after, run_ends_in, would_merge_in_run}
+use Rattle.tangle_scan.specs.Passes.{turn_at_gap, counted_at_gap, continues, ends_open, run_ends_in, would_merge_in_run}
 use Rattle.tangle_scan.specs.Passes.{is_joined, is_item, is_touching, items_by_origin, keeps_white, last_after_line_end}
 use Rattle.tangle_scan.specs.Passes.{line_item, items_at, counted_after_token, blank_if}
 use Rattle.tangle_scan.specs.declared.turns.Turn.{Turn}
@@ -125,15 +125,6 @@ passed-joined-end lines whole items kept at line es is h =
       left = search rules;
     }
 
-front-continues : (texts : List (List ℕ)) (line : ℕ) (continued : Bool)
-    → is_continued texts (if continued then Some (token.LineEnd line) else None) ≡ false
-front-continues texts line x = grind arith
-
-end-open : (texts : List (List ℕ)) (line : ℕ) (continued : Bool) (e : Token)
-    → is_open texts (if continued then Some (token.LineEnd line) else None)
-    ≡ is_open_after texts (last_after_line_end continued) e
-end-open texts line x e = grind arith
-
 -- the state after a line end
 abbrev pub after_end : List SourceLine → Bool → ℕ → TextRead → CountedOrigin → PartState → PartState
 after_end lines continued line text counted at = record at {
@@ -170,9 +161,9 @@ passed-end lines whole items kept at line text counted es other is h = record {
         ∙ (ap (from_gap lines kept at h.read.front) (opened xs)
         ∙ (h.read.made (token.LineEnd line ∷ xs) ∙ ended xs));
     keeps = λ _. rw is_continued_by (grind arith);
-    continued = λ _. front-continues texts line (is_continued texts before) ∙ sym (grind arith);
+    continued = λ _. grind arith;
     front_open = h.read.front_open;
-    before_open = rw is_continued_by (end-open texts line continued at.item);
+    before_open = rw is_continued_by (grind arith);
     merges = search rules;
   };
   left = h.left ∙ (ap (from_gap lines kept at h.read.front) (spaced-gap texts gap h.read.prev (token.LineEnd line) es refl refl)
@@ -322,15 +313,6 @@ item-passed lines whole new next e es item white solid continued ends merges lef
       left = rw item left;
     }
 
--- two tokens that are no runs
-no-runs : (texts : List (List ℕ)) (e f : Token) → is_run e ≡ false → is_run f ≡ false
-    → would_merge texts e f ≡ would_merge_in_run texts e f
-no-runs texts x y run other = grind arith
-
-ends-no_run : (b : ℕ) (texts : List (List ℕ)) (e : Token) → is_run e ≡ false
-    → ends_in b texts e ≡ run_ends_in b texts e
-ends-no_run b texts x run = grind arith
-
 pub passed-item : (lines : List SourceLine) (whole items kept : List Item) (at next : PartState)
     (e : Token) (es : List Token)
     → is_solid e ≡ true → is_run e ≡ false
@@ -342,7 +324,7 @@ pub passed-item : (lines : List SourceLine) (whole items kept : List Item) (at n
     IsPassed lines whole new new next es
 passed-item lines whole items kept at next e es solid run item white last turns is h =
     item-passed lines whole _ next e es item white (grind arith) (rw last refl)
-    (rw last (ends-no_run slash (texts_of lines) e run)) (λ f other. rw last (no-runs (texts_of lines) e f run other))
+    (rw last (grind arith)) (λ f other. rw last (grind arith))
     (item-ahead lines whole items kept at e es solid run h ∙ rw (is, turns, append_assoc, append_assoc) refl)
 
 -- a run
@@ -423,19 +405,6 @@ part-ahead lines whole items kept at s p ps es is number spaces h =
       run-settled (texts_of lines) at.turn s,
     )
 
--- the first part of a run is read as one with what the run is read as one with
-front-merges : (texts : List (List ℕ)) (before : Token) (s : Span) (p : RunPart) (ps : List RunPart)
-    → run_parts texts s ≡ p ∷ ps
-    → would_merge_in_run texts before (part_token p) ≡ would_merge_in_run texts before (token.Run s)
-front-merges texts before s p ps is = grind (arith, nat_tests, run-front texts s p ps is)
-
--- and so is the last part
-last-merges : (texts : List (List ℕ)) (s : Span) (p : RunPart) (ps : List RunPart) (f : Token)
-    → run_parts texts s ≡ p ∷ ps → IsRunOf texts s → is_run f ≡ false
-    → would_merge texts (last_token (part_token p) ps) f ≡ would_merge_in_run texts (token.Run s) f
-last-merges texts s p ps f is run other =
-    grind (arith, nat_tests, run-merges texts s p ps is run, last-plain (part_token p) ps (plain-part p))
-
 run-passed : (lines : List SourceLine) (whole items kept : List Item) (at : PartState) (s : Span)
     (parts : List RunPart) (es : List Token) → run_parts (texts_of lines) s ≡ parts → IsRunOf (texts_of lines) s
     → has_single_spaces true parts ≡ true → IsPassed lines whole items kept at (map part_token parts ++ es) →
@@ -446,12 +415,13 @@ run-passed lines whole items kept at s [] es is run spaces h = cc
 run-passed lines whole items kept at s (p ∷ ps) es is run spaces h =
     let texts = texts_of lines in
     let first : blank_before lines at (part_token p) ≡ blank_before lines at (token.Run s) =
-    rw (front-merges texts at.item s p ps is) refl in
+    -- the first part is read as one with what the run is read as one with, and so is the last part
+    grind (arith, nat_tests, run-front texts s p ps is) in
     item-passed lines whole _ _ (last_token (part_token p) ps) es refl refl
     (last-solid (part_token p) ps (part-solid p))
     (run-ends backslash texts refl refl s p ps is run ∙ run.ends)
     (run-ends slash texts refl refl s p ps is run)
-    (λ f other. last-merges texts s p ps f is run other)
+    (λ f other. grind (arith, nat_tests, run-merges texts s p ps is run, last-plain (part_token p) ps (plain-part p)))
     (part-ahead lines whole items kept at s p ps es is (run-number texts s p ps is run.begins) spaces h
     ∙ rw (first, append_assoc, append_assoc) refl)
 

@@ -22,10 +22,6 @@ chunk_size c h = search rules
 pub part_moved : (line column : ℕ) (c : List ℕ) → part_tag (part_of line column c) ≡ chunk_tag c
 part_moved line column c = search rules
 
-pub parts_tags : (line column : ℕ) (cs : List (List ℕ)) → map part_tag (parts_of line column cs) ≡ map chunk_tag cs
-parts_tags line column [] = refl
-parts_tags line column (c ∷ cs) = λ i. part_moved line column c i ∷ parts_tags line (column + length c) cs i
-
 pub no_run_tags : run_tags [] ≡ []
 unfolding run_tags
 no_run_tags = refl

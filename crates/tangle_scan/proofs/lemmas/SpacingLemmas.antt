@@ -20,14 +20,9 @@ inside-spaced : (texts : List (List ℕ)) (e : Token) (es : List Token)
 inside-spaced texts e [] = refl
 inside-spaced texts e (f ∷ es) = grind (arith, nat_tests, inside-spaced texts f es)
 
--- no white space is put after a join, white space or a line end
-after-gap : (texts : List (List ℕ)) (e : Token) (es : List Token) → is_gap e ≡ true
-    → with_white_space texts false e es ≡ with_spaces texts es
-after-gap texts e es h = grind (arith, nat_tests, inside-spaced texts)
-
 pub spaced-inside : (texts : List (List ℕ)) (es : List Token)
     → with_white_space texts false token.White es ≡ with_spaces texts es
-spaced-inside texts es = after-gap texts token.White es refl
+spaced-inside texts es = grind (arith, nat_tests, inside-spaced texts)
 
 -- the white space of rule 1 after the first item of a macro
 

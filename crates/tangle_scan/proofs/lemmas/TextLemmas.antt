@@ -61,18 +61,12 @@ stand_one t bytes e = record {
   sizes = omega (arith, e);
 }
 
--- a run uses no occurrence, and has no mark
+-- what no part of a run has, a run does not have
 
 of-no-part : {X : Type 0} (f : Item → List X) → ((p : RunPart) → f (part_item p) ≡ []) → (ps : List RunPart)
     → flat_map f (map part_item ps) ≡ []
 of-no-part f none [] = refl
 of-no-part f none (p ∷ ps) = cc (none p, of-no-part f none ps)
-
-no-uses : (ps : List RunPart) → flat_map item_uses (map part_item ps) ≡ []
-no-uses ps = of-no-part item_uses (λ x. grind arith) ps
-
-no-origins : (ps : List RunPart) → flat_map item_origins (map part_item ps) ≡ []
-no-origins ps = of-no-part item_origins (λ x. grind arith) ps
 
 module _ (texts : List (List ℕ)) where
   pub no-items : IsTextOf texts [] no_text
@@ -129,12 +123,15 @@ module _ (texts : List (List ℕ)) where
       → IsTextOf texts (items ++ map part_item (run_parts texts s)) (with_run texts text s)
   text-run items s text h =
       let parts = run_parts texts s in
+      -- a run uses no occurrence, and has no mark
+      let no_use = of-no-part item_uses (λ x. grind arith) parts in
+      let no_mark = of-no-part item_origins (λ x. grind arith) parts in
       record {
         tags = rw (map-append (tag_of texts) items (map part_item parts), ← run-tagged s)
             (stand_append text.tags _ text.bytes _ _ _ h.tags (stand_one (record { kind = tag.Run; size = length (span_text texts s) }) (span_text texts s) refl));
         bytes = rw (flat_map-append (bytes_in texts) items (map part_item parts), h.bytes, run_bytes texts s) refl;
-        uses = rw (flat_map-append item_uses items (map part_item parts), no-uses parts, append-nil (flat_map item_uses items)) h.uses;
-        marks = rw (flat_map-append item_origins items (map part_item parts), no-origins parts, append-nil (flat_map item_origins items)) h.marks;
+        uses = rw (flat_map-append item_uses items (map part_item parts), no_use, append-nil (flat_map item_uses items)) h.uses;
+        marks = rw (flat_map-append item_origins items (map part_item parts), no_mark, append-nil (flat_map item_origins items)) h.marks;
       }
 
   -- a text to which an item was added that is no use, cut back

@@ -27,30 +27,26 @@ use Rattle.tangle_scan.specs.Web.{own_fault, raw_fault, token_faults, quoted_ahe
 
 -- a test that neither a run nor a part of one passes: the parts are white space, words and signs
 
-any-parts : (test : Token → Bool) → test token.White ≡ false
-    → ((kind : SpanKind) (s : Span) → test (token.Span kind s) ≡ false) → (xs : List RunPart)
-    → list_any test (map part_token xs) ≡ false
-any-parts test white span [] = refl
-any-parts test white span (part.Word s ∷ xs) = rw (span span_kind.Word s) (any-parts test white span xs)
-any-parts test white span (part.Sign s ∷ xs) = rw (span span_kind.Sign s) (any-parts test white span xs)
-any-parts test white span (part.Space ∷ xs) = rw white (any-parts test white span xs)
+module _ (test : Token → Bool) (white : test token.White ≡ false)
+    (span : (kind : SpanKind) (s : Span) → test (token.Span kind s) ≡ false)
+    (run : (s : Span) → test (token.Run s) ≡ false) (texts : List (List ℕ)) where
+  any-parts : (xs : List RunPart) → list_any test (map part_token xs) ≡ false
+  any-parts [] = refl
+  any-parts (part.Word s ∷ xs) = rw (span span_kind.Word s) (any-parts xs)
+  any-parts (part.Sign s ∷ xs) = rw (span span_kind.Sign s) (any-parts xs)
+  any-parts (part.Space ∷ xs) = rw white (any-parts xs)
 
-any-token : (test : Token → Bool) (texts : List (List ℕ)) → test token.White ≡ false
-    → ((kind : SpanKind) (s : Span) → test (token.Span kind s) ≡ false) → ((s : Span) → test (token.Run s) ≡ false)
-    → (t : Token) → list_any test (unfolded_token texts t) ≡ test t
-any-token test texts white span run (token.Run s) = any-parts test white span (run_parts texts s) ∙ sym (run s)
-any-token test texts white span run t = or-false (test t)
+  any-token : (t : Token) → list_any test (unfolded_token texts t) ≡ test t
+  any-token (token.Run s) = any-parts (run_parts texts s) ∙ sym (run s)
+  any-token t = or-false (test t)
 
-any-unfolded : (test : Token → Bool) (texts : List (List ℕ)) → test token.White ≡ false
-    → ((kind : SpanKind) (s : Span) → test (token.Span kind s) ≡ false) → ((s : Span) → test (token.Run s) ≡ false)
-    → (ts : List Token) → list_any test (unfolded texts ts) ≡ list_any test ts
-any-unfolded test texts white span run [] = refl
-any-unfolded test texts white span run (t ∷ ts) =
-    rw (list_any-append, any-token test texts white span run t, any-unfolded test texts white span run ts) refl
+  any-unfolded : (ts : List Token) → list_any test (unfolded texts ts) ≡ list_any test ts
+  any-unfolded [] = refl
+  any-unfolded (t ∷ ts) = rw (list_any-append, any-token t, any-unfolded ts) refl
 
 pub all_macros-unfolded : (texts : List (List ℕ)) (ts : List Token)
     → list_any is_all_macros (unfolded texts ts) ≡ list_any is_all_macros ts
-all_macros-unfolded texts ts = any-unfolded is_all_macros texts refl (λ kind s. refl) (λ s. refl) ts
+all_macros-unfolded texts ts = any-unfolded is_all_macros refl (λ kind s. refl) (λ s. refl) texts ts
 
 -- no part of a run is a fault or a quoted text
 
@@ -67,12 +63,6 @@ first-word : (word : Option Span) (xs : List RunPart) → has_single_spaces true
 first-word word [] h = cc
 first-word word (part.Space ∷ xs) h = refl
 first-word word (x ∷ xs) h = refl
-
-run-faults : (files : FileTable) (lines : List SourceLine) (word : Option Span) (s : Span) (ts : List Token)
-    → token_faults files lines word (token.Run s ∷ ts)
-    ≡ token_faults files lines (last_word None (run_parts (texts_of lines) s)) ts
-run-faults files lines None s ts = refl
-run-faults files lines (Some w) s ts = refl
 
 -- a run begins with no quoted text, nor do its parts
 ahead-parts : (xs : List RunPart) (ts : List Token) → has_single_spaces true xs ≡ true
@@ -99,7 +89,7 @@ faults-unfolded files lines word (token.Run s ∷ ts) runs =
     parts-faults files lines word (run_parts (texts_of lines) s) (unfolded (texts_of lines) ts)
     ∙ (ap (λ w. token_faults files lines w (unfolded (texts_of lines) ts)) (first-word word (run_parts (texts_of lines) s) run.spaces)
     ∙ (faults-unfolded files lines (last_word None (run_parts (texts_of lines) s)) ts (λ k d low. runs (suc k) d (omega arith))
-    ∙ sym (run-faults files lines word s ts)))
+    ∙ (grind arith)))
 faults-unfolded files lines word (t ∷ ts) runs =
     ap (λ q. (raw_fault files lines word q ++ own_fault files lines t)
     ++ token_faults files lines (word_at_end (texts_of lines) t) (unfolded (texts_of lines) ts)) (ahead-unfolded lines (t ∷ ts) runs)
@@ -110,7 +100,7 @@ faults-unfolded files lines word (t ∷ ts) runs =
 
 pub unfolded-no_head : (texts : List (List ℕ)) (ts : List Token) → list_any is_head ts ≡ false
     → list_any is_head (unfolded texts ts) ≡ false
-unfolded-no_head texts ts none = any-unfolded is_head texts refl (λ kind s. refl) (λ s. refl) ts ∙ none
+unfolded-no_head texts ts none = any-unfolded is_head refl (λ kind s. refl) (λ s. refl) texts ts ∙ none
 
 -- tokens without a run
 pub unfolded-same : (texts : List (List ℕ)) (ts : List Token) → HasNoRun ts → unfolded texts ts ≡ ts

@@ -1,5 +1,6 @@
 -- What a C compiler reads, and bytes of macros and pieces that it reads as their author means them, or otherwise.
 use Rattle.std.proofs.Common.{rules}
+use Rattle.std.proofs.Common.{arith}
 use Rattle.std.proofs.Common.{◌≡◌, ℕ, Bool, true, false, List, [], ◌∷◌, Some, None, refl, codes}
 use Rattle.tangle_files.specs.Bytes.{space, line_feed}
 use Rattle.tangle_lines.specs.declared.origin.Origin.{Origin}
@@ -13,6 +14,7 @@ use Rattle.tangle_scan.specs.ReadAsMeant.{Gap, Space, LineFeed, TakenOut, Mark, 
 use Rattle.tangle_scan.specs.ReadAsMeant.{IsReadAs, needs_white}
 use Rattle.tangle_scan.specs.ReadAsMeant.{read_tokens, written_tokens, EndsMacro, IsMacroReadAsMeant}
 use Rattle.tangle_scan.specs.ReadAsMeant.{EndsPiece}
+use Rattle.tangle_scan.proofs.laws.MacrosAsMeant.{macro-as-meant}
 
 -- The items of the examples: a word, another one, a parenthesis, a backslash, verbatim text that ends in a backslash, and
 -- the signs of an arrow and a slash.
@@ -50,17 +52,50 @@ slash = token.Span span_kind.Sign (from_to 14 15)
 abbrev origin : Origin
 origin = record { file = 0; line = 3 }
 
--- A compiler reads spaces, line feeds and marks, and takes out a line feed with the backslash before it. Of two
--- backslashes only the second is taken out, and the bytes that are left are not searched again.
+record Examples : Type 0 where
+  -- A compiler reads spaces, line feeds and marks, and takes out a line feed with the backslash before it. Of two
+  -- backslashes only the second is taken out, and the bytes that are left are not searched again.
+  pub read_gap : as_read false (Space ∷ TakenOut ∷ LineFeed ∷ Mark origin ∷ []) ≡ codes " \n\n"
+  pub read_after_item : as_read true (LineFeed ∷ LineFeed ∷ []) ≡ codes "\n"
+  pub read_after_backslashes : as_read true (TakenOut ∷ LineFeed ∷ []) ≡ codes "\n"
+  -- white space, line ends and backslashes at the end are not written, nor are tokens there that are no items
+  pub written :
+      written_tokens texts
+      (name ∷ backslash_sign ∷ token.White ∷ word ∷ token.LineEnd 0 ∷ token.Join ∷ backslash_sign ∷ token.White ∷ [])
+      ≡ name ∷ backslash_sign ∷ token.White ∷ word ∷ []
+  -- continued lines of a C part: the backslash and the line end are taken out, and so is white space between them
+  pub continued : read_tokens texts false (name ∷ backslash_sign ∷ token.White ∷ token.LineEnd 0 ∷ word ∷ [])
+      ≡ name ∷ word ∷ []
+  -- white space before the backslash or after the line end keeps the two items apart
+  pub continued_apart :
+      read_tokens texts false (name ∷ token.White ∷ backslash_sign ∷ token.LineEnd 0 ∷ token.White ∷ word ∷ [])
+      ≡ name ∷ token.White ∷ token.White ∷ word ∷ []
+  -- verbatim text is read, and the line end after it is taken out
+  pub continued_verbatim : read_tokens texts false (verbatim ∷ token.LineEnd 0 ∷ token.LineEnd 1 ∷ word ∷ [])
+      ≡ verbatim ∷ token.LineEnd 1 ∷ word ∷ []
+  -- a backslash that is not before a line end is an item
+  pub other_backslash : read_tokens texts false (backslash_sign ∷ token.White ∷ word ∷ [])
+      ≡ backslash_sign ∷ token.White ∷ word ∷ []
+  -- A macro whose text is on the line after its name: a blank keeps the two apart.
+  pub written_macro :
+      macro_bytes texts (unmarked_items (macro_blanks texts true None false (name ∷ token.LineEnd 0 ∷ word ∷ [])))
+      ≡ codes "#define hex \\\nif\n"
+  -- A backslash of the author's before a line end is dropped, also with white space between the two, and the line end keeps
+  -- apart what is before and after them. Of two backslashes only the one before the line end is dropped, and a backslash
+  -- that is not before a line end is kept.
+  pub dropped_backslash :
+      without_backslashes texts (name ∷ backslash_sign ∷ token.White ∷ token.LineEnd 0 ∷ word ∷ [])
+      ≡ name ∷ token.White ∷ token.LineEnd 0 ∷ word ∷ []
+  pub kept_backslashes :
+      without_backslashes texts
+      (backslash_sign ∷ backslash_sign ∷ token.LineEnd 0 ∷ backslash_sign ∷ token.White ∷ word ∷ [])
+      ≡ backslash_sign ∷ token.LineEnd 0 ∷ backslash_sign ∷ token.White ∷ word ∷ []
+  pub written_backslash :
+      macro_bytes texts (macro_items texts (name ∷ backslash_sign ∷ token.White ∷ token.LineEnd 0 ∷ word ∷ []))
+      ≡ codes "#define hex \\\nif\n"
 
-read_gap : as_read false (Space ∷ TakenOut ∷ LineFeed ∷ Mark origin ∷ []) ≡ codes " \n\n"
-read_gap = refl
-
-read_after_item : as_read true (LineFeed ∷ LineFeed ∷ []) ≡ codes "\n"
-read_after_item = refl
-
-read_after_backslashes : as_read true (TakenOut ∷ LineFeed ∷ []) ≡ codes "\n"
-read_after_backslashes = refl
+examples : Examples
+examples = search rules
 
 -- Whether this gap may be between two items, by whether the first ends the name of a macro and by what the author means
 -- between the two.
@@ -131,13 +166,6 @@ ends_in_sign h = let is = h.stays in absurd cc
 ends_in_verbatim : EndsMacro texts (Some verbatim) [] (line_feed ∷ [])
 ends_in_verbatim = record { line_feed = refl; stays = refl }
 
--- white space, line ends and backslashes at the end are not written, nor are tokens there that are no items
-written :
-    written_tokens texts
-    (name ∷ backslash_sign ∷ token.White ∷ word ∷ token.LineEnd 0 ∷ token.Join ∷ backslash_sign ∷ token.White ∷ [])
-    ≡ name ∷ backslash_sign ∷ token.White ∷ word ∷ []
-written = refl
-
 -- The end of a piece: `//*:2*/` is refused after a slash, with and without a line end that is taken out, and so is the
 -- closing mark on a continued line.
 
@@ -150,10 +178,7 @@ ends_in_slash h = by h.gap h.is h.closing
     by : (gap : List Gap) → [] ≡ gap_bytes (λ origin. codes "#") gap
         → (is_empty (as_read false gap) ≡ true → (gap ≡ []) × (is_open texts (Some slash) ≡ false)) → ⊥
     by [] is closing = search rules
-    by (Space ∷ gap) is closing = search rules
-    by (LineFeed ∷ gap) is closing = search rules
-    by (TakenOut ∷ gap) is closing = search rules
-    by (Mark at ∷ gap) is closing = search rules
+    by (x ∷ gap) is closing = grind arith
 
 ends_after_slash : Ends slash [] (codes " ")
 ends_after_slash = record { gap = Space ∷ []; is = refl; lines = refl; closing = λ none. absurd cc }
@@ -161,79 +186,6 @@ ends_after_slash = record { gap = Space ∷ []; is = refl; lines = refl; closing
 ends_in_word : Ends word [] []
 ends_in_word = record { gap = []; is = refl; lines = refl; closing = λ none. (refl, refl) }
 
--- Continued lines of a C part.
-
--- the backslash and the line end are taken out, and so is white space between them
-continued : read_tokens texts false (name ∷ backslash_sign ∷ token.White ∷ token.LineEnd 0 ∷ word ∷ [])
-    ≡ name ∷ word ∷ []
-continued = refl
-
--- white space before the backslash or after the line end keeps the two items apart
-continued_apart :
-    read_tokens texts false (name ∷ token.White ∷ backslash_sign ∷ token.LineEnd 0 ∷ token.White ∷ word ∷ [])
-    ≡ name ∷ token.White ∷ token.White ∷ word ∷ []
-continued_apart = refl
-
--- verbatim text is read, and the line end after it is taken out
-continued_verbatim : read_tokens texts false (verbatim ∷ token.LineEnd 0 ∷ token.LineEnd 1 ∷ word ∷ [])
-    ≡ verbatim ∷ token.LineEnd 1 ∷ word ∷ []
-continued_verbatim = refl
-
--- a backslash that is not before a line end is an item
-other_backslash : read_tokens texts false (backslash_sign ∷ token.White ∷ word ∷ [])
-    ≡ backslash_sign ∷ token.White ∷ word ∷ []
-other_backslash = refl
-
--- A macro whose text is on the line after its name: a blank keeps the two apart.
-written_macro :
-    macro_bytes texts (unmarked_items (macro_blanks texts true None false (name ∷ token.LineEnd 0 ∷ word ∷ [])))
-    ≡ codes "#define hex \\\nif\n"
-written_macro = refl
-
--- A backslash of the author's before a line end is dropped, also with white space between the two, and the line end keeps
--- apart what is before and after them. Of two backslashes only the one before the line end is dropped, and a backslash
--- that is not before a line end is kept.
-dropped_backslash :
-    without_backslashes texts (name ∷ backslash_sign ∷ token.White ∷ token.LineEnd 0 ∷ word ∷ [])
-    ≡ name ∷ token.White ∷ token.LineEnd 0 ∷ word ∷ []
-dropped_backslash = refl
-
-kept_backslashes :
-    without_backslashes texts
-    (backslash_sign ∷ backslash_sign ∷ token.LineEnd 0 ∷ backslash_sign ∷ token.White ∷ word ∷ [])
-    ≡ backslash_sign ∷ token.LineEnd 0 ∷ backslash_sign ∷ token.White ∷ word ∷ []
-kept_backslashes = refl
-
-written_backslash :
-    macro_bytes texts (macro_items texts (name ∷ backslash_sign ∷ token.White ∷ token.LineEnd 0 ∷ word ∷ []))
-    ≡ codes "#define hex \\\nif\n"
-written_backslash = refl
-
 -- A whole macro.
 accepted : IsMacroReadAsMeant texts (name ∷ parenthesis ∷ token.LineEnd 0 ∷ word ∷ []) (codes "#define hex(\\\nif\n")
-accepted = (
-  codes "hex(\\\nif\n",
-  refl,
-  (
-    [],
-    codes "(\\\nif\n",
-    refl,
-    together,
-    (
-      [],
-      codes "\\\nif\n",
-      refl,
-      together,
-      (
-        TakenOut ∷ [],
-        codes "\n",
-        refl,
-        record { lines = refl; together = λ none. absurd cc; apart = λ needed. absurd cc },
-        record { line_feed = refl; stays = refl },
-      ),
-    ),
-  ),
-)
-  where
-    together : IsReadAs [] [] false
-    together = search rules
+accepted = macro-as-meant texts (name ∷ parenthesis ∷ token.LineEnd 0 ∷ word ∷ [])

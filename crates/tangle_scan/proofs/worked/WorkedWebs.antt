@@ -13,7 +13,7 @@ use Rattle.tangle_lexer.specs.Steps.{lexeme, tokens_from, occurrences_from}
 use Rattle.tangle_lexer.specs.Segments.{SegmentKind, all_segments}
 use Rattle.tangle_lexer.specs.Segments.SegmentKind.{Kept, SecondAtSign, LineEnd, WhiteSpace, Comment, ControlText}
 use Rattle.tangle_lexer.specs.Segments.SegmentKind.{ControlBytes, SectionName, AsciiConstant, Outside}
-use Rattle.tangle_scan.specs.Rules.{span_text}
+use Rattle.tangle_scan.specs.ItemBytes.{bytes_in}
 use Rattle.tangle_scan.specs.Web.{WebRead, web_of}
 
 abbrev line : List ℕ → ℕ → SourceLine
@@ -40,17 +40,11 @@ digits n = (if n / 10 == 0 then [] else (48 + n / 10) ∷ []) ++ (48 + n % 10) �
 
 -- an item as bytes: a mark as # and its line, a use as the number of its occurrence, the macros as H
 abbrev item_shown : List (List ℕ) → Item → List ℕ
-item_shown texts (item.Word s) = span_text texts s
-item_shown texts (item.Sign s) = span_text texts s
-item_shown texts (item.Quoted s) = span_text texts s
-item_shown texts (item.Verbatim s) = span_text texts s
-item_shown texts item.QuoteBreak = 10 ∷ []
-item_shown texts item.LineEnd = 10 ∷ []
-item_shown texts item.Blank = 32 ∷ []
 item_shown texts (item.AsciiConstant b) = digits b
 item_shown texts (item.LineMark p) = 10 ∷ 35 ∷ digits p.line ++ 10 ∷ []
 item_shown texts (item.UseOf n) = 60 ∷ digits n ++ 62 ∷ []
 item_shown texts item.AllMacros = 72 ∷ []
+item_shown texts x = bytes_in texts x
 
 -- the pieces, each with its section and the line of its opening mark
 abbrev shown_pieces : WebRead → List ℕ

@@ -1,10 +1,15 @@
-use Rattle.std.proofs.Common.{rules}
-use Rattle.digraph.proofs.OrderLemmas.{left_out_paths}
+use Rattle.digraph.specs.Graph.{HasUse}
+use Rattle.digraph.specs.Reach.{HasPath}
+use Rattle.digraph.proofs.OrderLemmas.{left_out_deep}
 use Rattle.digraph.proofs.PathLemmas.{held, left_out_cycles}
 use Rattle.digraph.proofs.laws.order_holds_what_reaches_no_cycle.Goals as goal
 
-pub returns-clause-held : goal.returns-clause-held
-returns-clause-held c = λ graph order n is range. held graph range order n is
-
-pub returns-clause-left_out : goal.returns-clause-left_out
-returns-clause-left_out c = search (rules, left_out_cycles, left_out_paths)
+pub returns : goal.returns
+returns c = record {
+  held = λ graph order n is range. held graph range order is n;
+  left_out = λ graph order n is range h out. (
+    left_out_cycles graph range order is n h out,
+    λ steps. left_out_deep graph order is range (λ k m. HasPath (HasUse graph) k m) (λ m. tt)
+        (λ k a b u path. (b, u, path)) steps n h out,
+  );
+}

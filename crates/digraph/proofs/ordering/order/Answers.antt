@@ -1,6 +1,11 @@
-use Rattle.digraph.proofs.OrderSoFarLemmas.{is_order}
+use Rattle.std.proofs.Common.{inl, inr}
 use Rattle.digraph.proofs.ordering.order.Goals as goal
 
 pub returns : goal.returns
-returns c = is_order _ c.add_each.new.flags.items _ c.in_ok-add_each.ensures.order
-    (c.in_ok-add_each.ensures.none c.if-branch.false)
+returns c = record {
+  after_uses = c.in_ok-add_each.ensures.order.after_uses;
+  rest = λ n h out. elim (c.in_ok-add_each.ensures.none c.if-branch.false n h) [
+    | inl listed ↦ absurd (out listed)
+    | inr found ↦ found
+  ];
+}

@@ -1,9 +1,8 @@
-use Rattle.std.proofs.Common.{ℕ, sym, subst}
+use Rattle.std.proofs.Common.{◌∙◌, ℕ, sym, subst, inl, inr}
 use Rattle.digraph.specs.Graph.{HasUse}
-use Rattle.digraph.specs.Reach.{Reaches, here}
+use Rattle.digraph.specs.Reach.{Reaches, here, on}
 use Rattle.digraph.specs.Roots.{FromRoots}
-use Rattle.digraph.proofs.ReachLemmas.{only_set}
-use Rattle.digraph.proofs.RootLemmas.{from_roots_row}
+use Rattle.digraph.proofs.ReachLemmas.{only_set, reaches_trans}
 use Rattle.digraph.proofs.roots.flag_from_root.Goals as goal
 use Rattle.digraph.proofs.roots.flag_from_root.Goals.{then-root-n, else-root-n}
 
@@ -15,6 +14,12 @@ returns-then-flags-n c =
           (subst (λ (r : ℕ). Reaches (HasUse c.args.uses.now) r c.args.n) (sym w.if-root-n.true) here))
       | else-root-n w ↦ rw w.flags-is c.requires.flags
     ] in
-    from_roots_row c.args.uses.now c.args.roots.now c.if-root-n.flags c.flag_row.new.flags c.args.n
-    so_far c.if-flags-n.true c.flag_row.auto.flags
-    (rw c.row.ensures at c.flag_row.ensures)
+    record {
+      size = c.flag_row.auto.flags ∙ so_far.size;
+      sound = λ m f. elim (rw c.row.ensures at (c.flag_row.ensures m f)) [
+        | inl old ↦ so_far.sound m old
+        | inr new ↦ subst (λ (r : ℕ). Reaches (HasUse c.args.uses.now) r m) (sym new.1)
+            (reaches_trans (HasUse c.args.uses.now) _ c.args.n m
+            (so_far.sound c.args.n c.if-flags-n.true) (on new.0 here))
+      ];
+    }

@@ -1,6 +1,5 @@
 use Rattle.std.proofs.Common.{rules}
-use Rattle.std.proofs.Common.{◌∙◌, ap, refl, arith}
-use Rattle.tangle_expansion.specs.Writing.{bytes_between}
+use Rattle.std.proofs.Common.{refl, arith}
 use Rattle.tangle_expansion.proofs.CursorLemmas.{passes_symbols, passes_use, stops_at_end}
 use Rattle.tangle_expansion.proofs.WriteLemmas.{wrote_at_first, wrote_more, wrote_same}
 use Rattle.tangle_expansion.proofs.writing.write_to_use.Goals as goal
@@ -14,37 +13,26 @@ loop-end-init g c = record {
 
 pub returns-in-Use : goal.returns-in-Use
 returns-in-Use g c = λ used.
-    let text = c.args.text.now in
-    let start = c.loop-end.at.start in
-    let next = c.cursor_after-next.result in
-    let written = c.bytes_between.ensures ∙ ap (λ l. bytes_between l start next.start) c.deref.ensures.value in
     wrote_more _ _ _ _ _ _ _ _ _ _ (c.loop-end.invariant.wrote used)
     (search (rules, passes_use))
-    (rw written at c.write_after-so_far.ensures)
+    (rw (c.bytes_between.ensures, c.deref.ensures.value) at c.write_after-so_far.ensures)
 
 pub loop-end-preserved : goal.loop-end-preserved
 loop-end-preserved g c =
     let text = c.args.text.now in
-    let start = c.loop-end.at.start in
-    let next = c.cursor_after-next.result in
-    let written = c.bytes_between.ensures ∙ ap (λ l. bytes_between l start next.start) c.deref.ensures.value in
     record {
       low = c.after_bytes-end-in-loop-end.ensures.start;
       wrote = λ used. wrote_same _ _ _ _ _ _ _
           (wrote_more _ _ _ _ _ _ _ _ _ _
           (wrote_more _ _ _ _ _ _ _ _ _ _ (c.loop-end.invariant.wrote used)
-          (passes_symbols text.numbers.now text.body.now c.loop-end.end next c.index-tag.result.now (omega arith)
-          c.index-tag.ensures c.cursor_after-next.ensures start c.loop-end.invariant.low c.in_default.not-Use used)
-          (rw written at c.write_after-so_far.ensures)) refl c.write_symbols-so_far.ensures)
+          (passes_symbols text.numbers.now text.body.now c.loop-end.end c.cursor_after-next.result c.index-tag.result.now (omega arith)
+          c.index-tag.ensures c.cursor_after-next.ensures c.loop-end.at.start c.loop-end.invariant.low c.in_default.not-Use used)
+          (rw (c.bytes_between.ensures, c.deref.ensures.value) at c.write_after-so_far.ensures)) refl c.write_symbols-so_far.ensures)
           (c.after_bytes-end-in-loop-end.ensures.text text.numbers.now used);
     }
 
 pub returns : goal.returns
 returns g c = λ used.
-    let text = c.args.text.now in
-    let end = c.loop-end.end in
-    let start = c.loop-end.at.start in
-    let written = c.bytes_between-2.ensures ∙ ap (λ l. bytes_between l start end.start) c.deref-2.ensures.value in
     wrote_more _ _ _ _ _ _ _ _ _ _ (c.loop-end.invariant.wrote used)
     (search (rules, stops_at_end))
-    (rw written at c.write_after-all.ensures)
+    (rw (c.bytes_between-2.ensures, c.deref-2.ensures.value) at c.write_after-all.ensures)

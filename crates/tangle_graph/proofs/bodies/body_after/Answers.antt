@@ -58,7 +58,7 @@ returns-in_default-clause-body c =
 pub returns-in_default-clause-new_shape : goal.returns-in_default-clause-new_shape
 returns-in_default-clause-new_shape c =
     IfSome_then c.args.old c.in_default.ensures.shape (λ store none before shape is holds.
-    rw c.has_piece-has_new_shape.ensures
+    rw c.is_empty-has_new_shape.ensures
     (new_if_pieces c.args.grouped c.requires.grouped c.args.node c.requires.node c.row-row.result.now
     (c.row-row.ensures ∙ ap (row_at c.args.grouped.pieces.now) c.number.ensures) c.in_ok-body.body.value shape
     (before (title_at c.args.grouped.names.now c.args.node)) (returns-in_default-clause-body c) holds (none before is)))

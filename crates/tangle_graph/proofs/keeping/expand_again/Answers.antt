@@ -9,7 +9,7 @@ use Rattle.tangle_graph.proofs.ExpandLemmas.{expandable_at}
 use Rattle.tangle_graph.specs.Affected.{EditedShapes}
 use Rattle.tangle_graph.specs.AffectedFlags.{AreFlagged, is_expandable_and_flagged}
 use Rattle.tangle_graph.specs.Keeping.{IsUnaffected}
-use Rattle.tangle_graph.proofs.KeepLemmas.{kept_all, kept_more, kept_same, listed_more, used_kept}
+use Rattle.tangle_graph.proofs.KeepLemmas.{kept_all, kept_more, kept_same, listed_more}
 use Rattle.tangle_graph.proofs.AffectedLemmas.{lists_affected}
 use Rattle.tangle_graph.proofs.keeping.expand_again.Goals as goal
 use Rattle.tangle_graph.proofs.keeping.expand_again.Goals.{
@@ -64,10 +64,8 @@ loop-node-preserved c =
           let on = sym c.expandable.ensures ∙ w.if-expandable.true in
           let flag = rw w.deref.ensures.value at (sym w.is_flagged.ensures ∙ w.if-is_flagged.true) in
           record {
-            kept = λ shapes is. rw w.kept-is
-                (kept_more shapes.new new order is.after ordered i h node at _ _ on (kept shapes is)
-                (w.in_ok-expand_next.ensures.kept shapes.new is.after
-                (used_kept shapes.new new order is.after ordered i h node at _ on (kept shapes is))));
+            kept = λ shapes is. rw w.kept-is (kept_more is.after ordered i h node at _ _ on (kept shapes is)
+                (w.in_ok-expand_next.ensures.kept shapes.new is.after));
             work = listed_more listed order i node true _ _ _ h at
                 (and_from (is_expandable_at new node) (flag_at flags node) on flag)
                 c.loop-node.invariant.work (w.work-is ∙ w.in_ok-expand_next.ensures.listed);
@@ -77,8 +75,8 @@ loop-node-preserved c =
           let off = rw w.deref.ensures.value at (sym w.is_flagged.ensures ∙ w.if-is_flagged.false) in
           record {
             kept = λ shapes is. rw w.kept-is
-                (kept_more shapes.new new order is.after ordered i h node at _ _ on (kept shapes is)
-                (subst (PutsKept c.loop-node.kept w.put.new.self node) (w.in_ok-share.ensures shapes is
+                (kept_more is.after ordered i h node at _ _ on (kept shapes is)
+                (λ _. subst (PutsKept c.loop-node.kept w.put.new.self node) (w.in_ok-share.ensures shapes is
                 (unaffected new order flags shapes node is.after ordered (i, h, sym at)
                 (c.in_ok-flags.ensures c.args.old.now shapes.old shapes.new c.requires.new_shapes is.before is.after)
                 on off)) w.in_ok-put.ensures.ok));
@@ -87,16 +85,15 @@ loop-node-preserved c =
           })
       | else-expandable w ↦ (let off = sym c.expandable.ensures ∙ w.if-expandable.false in
           record {
-            kept = λ shapes is. rw w.kept-is
-                (kept_same shapes.new new order is.after ordered i h node at _ off (kept shapes is));
+            kept = λ shapes is. rw w.kept-is (kept_same is.after ordered i h node at _ off (kept shapes is));
             work = listed_more listed order i node false _ _ _ h at (λ j. off j && flag_at flags node)
                 c.loop-node.invariant.work (w.work-is ∙ sym (append-nil c.loop-node.work));
           })
     ]
 
 pub returns-clause-kept : goal.returns-clause-kept
-returns-clause-kept c = λ shapes is. kept_all shapes.new c.args.new.now c.order-order.result.now is.after
-    c.order-order.ensures c.loop-node.node-index c.loop-node.kept (omega arith) (c.loop-node.invariant.kept shapes is)
+returns-clause-kept c = λ shapes is. kept_all is.after c.order-order.ensures
+    c.loop-node.node-index c.loop-node.kept (omega arith) (c.loop-node.invariant.kept shapes is)
 
 pub returns-clause-work : goal.returns-clause-work
 returns-clause-work c = λ shapes is. (

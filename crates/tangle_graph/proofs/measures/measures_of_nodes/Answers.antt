@@ -1,8 +1,9 @@
 use Rattle.std.proofs.Common.{rules}
-use Rattle.std.proofs.Common.{◌≡◌, ◌∙◌, ◌<◌, ◌≤◌, Contains, inl, inr, ap, arith, get_or, length, length-set, subst, suc}
+use Rattle.std.proofs.Common.{◌≡◌, ◌∙◌, ◌<◌, ◌≤◌, inl, inr, ap, arith, get_or, length, length-set, subst, suc}
 use Rattle.std.proofs.lemmas.List.{get_or-replicate, get_or_read, length-replicate, take_all}
 use Rattle.std.proofs.lemmas.List.Elements.{All-contains}
 use Rattle.digraph.specs.Graph.{HasUse}
+use Rattle.digraph.proofs.UserLemmas.{among}
 use Rattle.digraph.proofs.GraphLemmas.{use_in}
 use Rattle.digraph.proofs.OrderLemmas.{left_out_deep}
 use Rattle.tangle_expansion.specs.Limits.{levels, weight_cap}
@@ -28,10 +29,7 @@ loop-node-init c =
     let count = ap length all in
     record {
       size = omega (arith, count, length-replicate {A = Measure}, c.len.ensures);
-      measured = λ shapes names bodies n low. inr (
-        no_item n,
-        search (rules, get_or-replicate),
-      );
+      measured = λ shapes names bodies n low. (λ c. absurd (no_item n c), λ _. search (rules, get_or-replicate));
     }
 
 pub loop-node-preserved : goal.loop-node-preserved
@@ -43,7 +41,7 @@ loop-node-preserved c =
     let n = c.number-n.result in
     let after_uses = c.requires.order.after_uses in
     let number : n ≡ get_or order i 0 = c.number-n.ensures ∙ get_or_read _ _ _ h c.node-item.is 0 in
-    let low : n < length uses = omega (arith, number, after_uses.nodes i h) in
+    let low : n < length uses = omega (arith, number, after_uses.nodes i 0 h) in
     record {
       size = length-set c.loop-node.measures.items n c.measure_of_node.result ∙ c.loop-node.invariant.size;
       measured = λ shapes names bodies m room. (
@@ -59,10 +57,9 @@ loop-node-preserved c =
           let c_used = rw c.deref-in-loop-node.ensures at used in
           let within = All-contains (λ k. k < length names) (body_uses body.value) id is.inside c_used in
           let u = use_up shapes names all uses bodies c.requires.uses n id body.value at c_used in
-          rw c.deref.ensures.value (elim (measured (suc id) (use_in uses c.requires.range n (suc id) u)) [
-            | inl known ↦ known.1 ∙ ap (measure_of shapes) (title_inside names id within)
-            | inr none ↦ absurd (none.0 (after_uses.after i (suc id) h (subst (λ k. HasUse uses k (suc id)) number u)))
-          ])))) m (measured m room));
+          rw c.deref.ensures.value ((measured (suc id) (use_in uses c.requires.range n (suc id) u)).0
+          (after_uses.after i (suc id) h (subst (λ k. HasUse uses k (suc id)) number u))
+          ∙ ap (measure_of shapes) (title_inside names id within))))) m (measured m room));
     }
 
 pub returns-clause-measures : goal.returns-clause-measures
@@ -71,15 +68,15 @@ returns-clause-measures c = λ shapes names bodies n low.
     let all = node_bodies c.args.bodies.now in
     let h : n < length uses = omega (arith, low, uses_count shapes names all uses bodies c.requires.uses) in
     let out = sound shapes names all uses bodies c.requires.uses in
-    elim (c.loop-node.invariant.measured shapes names bodies n h) [
-      | inl known ↦ known.1
-      | inr left ↦ (let none = subst (λ l. Contains l n → ⊥)
-          (take_all c.loop-node.node-index c.args.order.now c.loop-node-test.false) left.0 in
-          left.1 ∙ measure_beyond shapes (title_at names n)
+    let was = rw (take_all c.loop-node.node-index c.args.order.now c.loop-node-test.false)
+    at (c.loop-node.invariant.measured shapes names bodies n h) in
+    elim (among c.args.order.now n) [
+      | inl listed ↦ was.0 listed
+      | inr none ↦ was.1 none ∙ measure_beyond shapes (title_at names n)
           (left_out_deep uses c.args.order.now c.requires.order c.requires.range
           (λ k m. k ≤ depth k shapes (title_at names m)) (λ m. omega arith)
           (λ k a b u. deeper k shapes (title_at names a) (title_at names b) (out a b u)) levels n h none)
           (left_out_deep uses c.args.order.now c.requires.order c.requires.range
           (λ k m. k ≤ weight k shapes (title_at names m)) (λ m. omega arith)
-          (λ k a b u. heavier k shapes (title_at names a) (title_at names b) (out a b u)) weight_cap n h none))
+          (λ k a b u. heavier k shapes (title_at names a) (title_at names b) (out a b u)) weight_cap n h none)
     ]

@@ -15,7 +15,7 @@ use Rattle.tangle_graph.proofs.outputs.outputs.Goals as goal
 pub loop-id-init : goal.loop-id-init
 loop-id-init c =
     let all = shapes c.args.web.now c.args.table.now in
-    let measured : c.entry-program.result ≡ measure_of all Program =
+    let measured : c.entry-main.result ≡ measure_of all Program =
     search rules in
     let has = piece_by_measure all Program _ measured in
     search rules
@@ -40,7 +40,7 @@ loop-id-preserved c =
     let other : c.has_other_name-is_other.result
     ≡ (is_main_file (shapes web table) table out id || is_earlier_file (shapes web table) table out id) =
     c.has_other_name-is_other.ensures ∙ (λ i. flagged.main id low i || flagged.earlier id low i) in
-    c.in_ok-add_named_file.ensures
+    c.in_ok-push_file-2.ensures
     ∙ (search rules)
     ∙ ap (λ l. l ++ (if is_written web table out id then named_file table id ∷ [] else [])) c.loop-id.invariant
     ∙ append_assoc (main_file web table out) (map (named_file table) (filter (is_written web table out) (take i xs)))

@@ -4,7 +4,7 @@ use Rattle.std.proofs.lemmas.List.{length-map}
 use Rattle.tangle_scan.specs.Web.{stored_piece}
 use Rattle.tangle_scan.specs.declared.pieces.Piece.{Piece}
 use Rattle.tangle_graph.proofs.GraphLemmas.{resolves_inside}
-use Rattle.tangle_graph.proofs.StoredPieces.{defined_inside, next_position}
+use Rattle.tangle_graph.proofs.StoredPieces.{defined_inside, is_of_node}
 use Rattle.tangle_graph.proofs.pieces.node_at.Goals as goal
 
 pub node_of_piece-requires-clause-inside : goal.node_of_piece-requires-clause-inside
@@ -21,6 +21,6 @@ node_of_piece-requires-clause-occurrence c =
     c.requires.table c.pieces-pieces.ensures.well_formed _
     (ap (λ (q : Piece). q.occurrence) (sym c.index-pieces-i.is))
 
-pub returns-clause-next : goal.returns-clause-next
-returns-clause-next c =
-    search (rules, length-map, next_position)
+pub returns-clause-node : goal.returns-clause-node
+returns-clause-node c =
+    search (rules, length-map, is_of_node)

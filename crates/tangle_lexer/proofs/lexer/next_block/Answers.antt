@@ -25,19 +25,19 @@ returns-in-Some-pop_head c =
     let adds = c.in_ok-state.ensures.occurrences in
     let head = c.in-Some-pop_head.head in
     let popped = c.in-Some-pop_head.ensures in
-    let found = taken _ _ _ s _ text _ head before.no_head read popped in
+    let found = taken s read _ head before.no_head popped in
     record {
-      tokens = sym (taken-tokens texts _ _ _ s _ text _ head inside read popped found ∙ before.tokens);
-      ours = read-ours lines _ _ s _ text _ read before.ours;
+      tokens = sym (taken-tokens s read texts _ head inside popped found ∙ before.tokens);
+      ours = read-ours s read lines before.ours;
       runs = subst (All (IsRunIn texts)) (sym found.same) before.runs;
       no_run = λ other. ap (list_any is_run) found.same ∙ before.no_run other;
       no_head = ap (list_any is_head) found.same ∙ before.no_head;
       head = popped.1;
       in_macro = grind (arith, nat_tests);
       end = tt;
-      shorter = omega (arith, step-shorter _ _ s _ text _ inside read, before.shorter);
-      occurrences = step-occurrences lines _ _ _ _ s _ text _ inside read adds ∙ before.occurrences;
-      count = step-count lines _ _ _ _ s _ text _ read adds before.count;
+      shorter = omega (arith, step-shorter s read inside, before.shorter);
+      occurrences = step-occurrences s read lines _ _ inside adds ∙ before.occurrences;
+      count = step-count s read lines _ _ adds before.count;
     }
 
 pub loop-front-preserved : goal.loop-front-preserved
@@ -52,24 +52,24 @@ loop-front-preserved c =
     let adds = c.in_ok-state.ensures.occurrences in
     let kept = c.in_default-pop_head.ensures in
     let simple = c.in_ok-state-2.ensures in
-    let plain : IsPlain s (lexeme s text) = not-taken _ _ s _ text _ read kept.1 in
+    let plain : IsPlain s (lexeme s text) = not-taken s read kept.1 in
     let no_run : HasNone is_run (lexeme s text).tokens = no-run (lexeme s text).tokens plain.0 in
-    let ours = read-ours lines _ _ s _ text _ read before.ours in
+    let ours = read-ours s read lines before.ours in
     let more = simple.read lines ours in
     record {
       tokens = more.tokens
           ∙ (ap (λ ts. unfolded texts ts ++ tokens_from c.in_ok-state.state c.step.new.reader) kept.0
-          ∙ (plain-tokens texts _ _ s _ text _ inside read no_run ∙ before.tokens));
+          ∙ (plain-tokens s read texts inside no_run ∙ before.tokens));
       ours = more.ours;
-      runs = more.runs (subst (All (IsRunIn texts)) (sym kept.0) (plain-runs texts _ _ s _ text _ read no_run before.runs));
+      runs = more.runs (subst (All (IsRunIn texts)) (sym kept.0) (plain-runs s read texts no_run before.runs));
       no_run = λ other. simple.adds.no_run
           (λ part. other (before.mode (plain.1 (sym (ap (λ s. s.mode) read.state) ∙ part))))
-          (ap (list_any is_run) kept.0 ∙ plain-none is_run _ _ s _ text _ read no_run (before.no_run other));
+          (ap (list_any is_run) kept.0 ∙ plain-none s read is_run no_run (before.no_run other));
       mode = λ part. before.mode (plain.1 (sym (ap (λ s. s.mode) read.state) ∙ (sym simple.mode ∙ part)));
       no_head = simple.adds.no_head (ap (list_any is_head) kept.0
-          ∙ plain-none is_head _ _ s _ text _ read (no-head (lexeme s text).tokens plain.0) before.no_head);
+          ∙ plain-none s read is_head (no-head (lexeme s text).tokens plain.0) before.no_head);
       occurrences = ap (λ ns. c.step.new.buffers.occurrences.items ++ map (occurrence_of lines) ns) more.occurrences
-          ∙ (step-occurrences lines _ _ _ _ s _ text _ inside read adds ∙ before.occurrences);
-      count = simple.count ∙ step-count lines _ _ _ _ s _ text _ read adds before.count;
-      shorter = omega (arith, step-shorter _ _ s _ text _ inside read);
+          ∙ (step-occurrences s read lines _ _ inside adds ∙ before.occurrences);
+      count = simple.count ∙ step-count s read lines _ _ adds before.count;
+      shorter = omega (arith, step-shorter s read inside);
     }

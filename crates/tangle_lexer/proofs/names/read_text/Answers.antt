@@ -1,12 +1,12 @@
 use Rattle.std.proofs.Common.{rules}
 use Rattle.std.proofs.lemmas.Bool.Decides.{nat_tests}
-use Rattle.std.proofs.Common.{Result, OnOk, [], drop, ap, refl}
+use Rattle.std.proofs.Common.{Result, OnOk, drop, ap}
 use Rattle.std.proofs.Common.{append_assoc, length, length-drop, arith}
 use Rattle.tangle_text.specs.declared.regions.Region.TheVariants as region
 use Rattle.tangle_text.specs.Regions.{more_by}
-use Rattle.tangle_text.specs.NameBytes.{name_bytes}
 use Rattle.tangle_text.proofs.RegionLemmas.{unit_at-front, region_end-nothing, region_end-stop, region_end-go}
 use Rattle.tangle_lexer.proofs.lemmas.LexemeLemmas.{name_bytes-go}
+use Rattle.tangle_lexer.proofs.lemmas.NameWords.{form-none, form-end}
 use Rattle.tangle_lexer.proofs.names.read_text.Goals as goal
 
 if_ok : {T E P : Type 0} (r : Result T E) → P → OnOk r P
@@ -22,23 +22,24 @@ returns-then-has_single_spaces-clause-ahead c = grind (arith, nat_tests, region_
 pub returns-in-Stop-clause-ahead : goal.returns-in-Stop-clause-ahead
 returns-in-Stop-clause-ahead c = grind (arith, nat_tests, unit_at-front, if_ok, region_end-stop)
 
+pub returns-in-Stop-clause-text : goal.returns-in-Stop-clause-text
+returns-in-Stop-clause-text c = grind (arith, nat_tests, unit_at-front, form-end)
+
 pub loop-front-init : goal.loop-front-init
-loop-front-init c =
-    let begins = c.in_ok-slice.ensures in
-    let name = c.in_ok-white.ensures [] (record { form = c.in_ok-name.ensures.items; ends = refl }) in
-    grind (arith, nat_tests)
+loop-front-init c = grind (arith, nat_tests, form-none)
 
 pub loop-front-preserved : goal.loop-front-preserved
 loop-front-preserved c =
     let front = c.in-Some.ensures.front in
     let here = unit_at-front region.Name c.loop-front.reader c.in-Some.front _ front c.unit_of-unit.ensures in
     let given = name_bytes-go 0 c.loop-front.reader c.unit_of-unit.result front.inside here c.in_default-unit.not-Stop in
-    let begins = c.in_ok-slice-2.ensures in
-    let units = name_bytes in
     record {
       end = grind (arith, nat_tests, region_end-go);
       name = grind (arith, nat_tests, append_assoc);
     }
+
+pub returns-clause-text : goal.returns-clause-text
+returns-clause-text c = grind (arith, nat_tests, form-end)
 
 pub returns-clause-ahead : goal.returns-clause-ahead
 returns-clause-ahead c = grind (arith, nat_tests, if_ok, region_end-nothing)

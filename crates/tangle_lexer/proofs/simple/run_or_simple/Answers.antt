@@ -44,7 +44,7 @@ returns-clause-read c = λ lines ours.
     c.in_ok-after.after (c_lexeme (simple_kind c.args.simple) c.with_line-state.result t)) (same-place c)
     c.in_ok-after.ensures in
     let again = simple-again _ _ c.args.line.now c.args.from _ _ text _ c.args.simple c.with_line-state.ensures here in
-    let read = simple-read _ _ state _ text _ c.args.simple c.requires.simple c.requires.mode again in
+    let read = simple-read state text c.args.simple c.requires.simple c.requires.mode _ _ _ _ again in
     rw c.set-2.ensures (search (rules, plain-reads-on, no-run, simple-special, simple-occurrences_from))
 
 pub returns-clause-shorter : goal.returns-clause-shorter

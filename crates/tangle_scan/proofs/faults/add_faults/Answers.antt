@@ -3,8 +3,7 @@ use Rattle.std.proofs.Common.{arith, append_assoc}
 use Rattle.tangle_lexer.specs.Runs.{IsRunIn}
 use Rattle.tangle_lexer.specs.declared.tokens.Token.TheVariants as token
 use Rattle.tangle_scan.specs.Rules.{texts_of}
-use Rattle.tangle_scan.specs.Web.{word_at_end}
-use Rattle.tangle_scan.proofs.lemmas.RestLemmas.{faults-step, all-rest}
+use Rattle.tangle_scan.proofs.lemmas.RestLemmas.{split, all-rest}
 use Rattle.tangle_scan.proofs.faults.add_faults.Goals as goal
 
 pub loop-left-preserved : goal.loop-left-preserved
@@ -17,7 +16,7 @@ loop-left-preserved c =
       arith,
       nat_tests,
       append_assoc,
-      faults-step source.files source.lines (word_at_end texts c.loop-left.before) left (omega arith),
+      split left (omega arith),
       all-rest (IsRunIn texts) left (omega arith) runs,
       runs 0 token.Section (omega arith),
     )

@@ -2,7 +2,7 @@ use Rattle.std.proofs.lemmas.Bool.Decides.{nat_tests}
 use Rattle.std.proofs.Common.{arith, append_assoc}
 use Rattle.tangle_lexer.specs.Runs.{IsRunIn}
 use Rattle.tangle_scan.specs.Rules.{texts_of}
-use Rattle.tangle_scan.proofs.lemmas.RestLemmas.{macro-step, all-rest}
+use Rattle.tangle_scan.proofs.lemmas.RestLemmas.{split, all-rest}
 use Rattle.tangle_scan.proofs.faults.add_macro_faults.Goals as goal
 
 pub loop-left-preserved : goal.loop-left-preserved
@@ -13,6 +13,6 @@ loop-left-preserved c =
       arith,
       nat_tests,
       append_assoc,
-      macro-step source.files source.lines left (omega arith),
+      split left (omega arith),
       all-rest (IsRunIn (texts_of source.lines)) left (omega arith) c.loop-left.invariant.runs,
     )

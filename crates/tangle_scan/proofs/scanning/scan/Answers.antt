@@ -1,14 +1,9 @@
-use Rattle.std.proofs.Common.{rules}
 use Rattle.std.proofs.Common.{arith}
 use Rattle.std.proofs.lemmas.Bool.Decides.{nat_tests}
-use Rattle.tangle_scan.proofs.lemmas.ScanLemmas.{gathered-whole}
 use Rattle.tangle_scan.proofs.laws.WebLaws.{web-line-truth}
 use Rattle.tangle_scan.proofs.laws.WebsAsMeant.{web-as-meant}
 use Rattle.tangle_scan.proofs.laws.WellFormedWebs.{web-well-formed}
 use Rattle.tangle_scan.proofs.scanning.scan.Goals as goal
-
-pub new-requires-clause-gathered : goal.new-requires-clause-gathered
-new-requires-clause-gathered c = search (rules, gathered-whole)
 
 pub new-requires-clause-well_formed : goal.new-requires-clause-well_formed
 new-requires-clause-well_formed c = web-well-formed c.args.source.now

@@ -1,9 +1,10 @@
-use Rattle.std.proofs.Common.{◌≤◌, ◌+◌, true, drop, refl, sym, ◌∙◌, arith}
+use Rattle.std.proofs.Common.{◌≤◌, ◌+◌, ◌==◌, ap, true, drop, refl, sym, ◌∙◌, arith}
 use Rattle.std.proofs.lemmas.Bool.{ne_eqb}
 use Rattle.tangle_files.specs.Bytes.{space}
+use Rattle.tangle_text.specs.Bytes.{is_word_byte}
 use Rattle.tangle_text.specs.Runs.{longest_run}
 use Rattle.tangle_text.proofs.SeparatorLemmas.{separator-ends, separates-at}
-use Rattle.tangle_text.proofs.SeparatorLemmas.{column-at_front, column-before_space, column-before_word}
+use Rattle.tangle_text.proofs.SeparatorLemmas.{column-at_front, column-before}
 use Rattle.tangle_text.proofs.runs.before_word.Goals as goal
 use Rattle.tangle_text.proofs.runs.before_word.Goals.{then-loop-start-test+else-is_word_byte, else-loop-start-test}
 use Rattle.tangle_text.proofs.runs.before_word.Goals.{else-start-from-via-then-start-from+else-bytes-start-eq32, else-start-from-via-else-start-from}
@@ -24,8 +25,8 @@ returns-then-bytes-start-eq32-clause-start c =
     let start = c.loop-start.start in
     let high : start ≤ from + longest_run (drop from bytes)
     = omega (arith, c.requires.longest, c.loop-start.invariant.high) in
-    column-before_space bytes from start c.if-start-from.true high c.loop-start.invariant.before
-    c.if-bytes-start-eq32.true
+    (column-before bytes from start c.if-start-from.true high c.loop-start.invariant.before
+    (ap is_word_byte c.if-bytes-start-eq32.true)).0 (ap (λ b. b == space) c.if-bytes-start-eq32.true)
 
 pub returns-else-start-from-clause-start : goal.returns-else-start-from-clause-start
 returns-else-start-from-clause-start c =
@@ -39,8 +40,8 @@ returns-else-start-from-clause-start c =
       | else-start-from-via-then-start-from+else-bytes-start-eq32 w ↦
           elim c.loop-start-test.branch [
             | then-loop-start-test+else-is_word_byte v ↦
-                column-before_word bytes from start w.if-start-from.true high before
-                (sym v.is_word_byte.ensures ∙ v.if-is_word_byte.false) (ne_eqb _ space w.if-bytes-start-eq32.false)
+                (column-before bytes from start w.if-start-from.true high before
+                (sym v.is_word_byte.ensures ∙ v.if-is_word_byte.false)).1 (ne_eqb _ space w.if-bytes-start-eq32.false)
             | else-loop-start-test v ↦ absurd (omega (arith, v.loop-start-test.false, w.if-start-from.true))
           ]
       | else-start-from-via-else-start-from w ↦

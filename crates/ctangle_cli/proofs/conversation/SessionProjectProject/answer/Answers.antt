@@ -1,7 +1,8 @@
-use Rattle.std.proofs.Common.{◌++◌, ℕ, ap, codes, inl, refl}
+use Rattle.std.proofs.Common.{[], ◌++◌, ℕ, ap, codes, inl, refl}
 use Rattle.std.specs.Prelude.{decimal}
 use Rattle.tangle_session.specs.Headline.{output_at}
 use Rattle.ctangle_cli.specs.Conversation.{listed_faults, shown}
+use Rattle.ctangle_cli.specs.Conversation.IsReply.{IsReported}
 use Rattle.ctangle_cli.proofs.conversation.SessionProjectProject.answer.Goals as goal
 
 pub returns-in-Begin : goal.returns-in-Begin
@@ -17,24 +18,24 @@ pub returns-in-Show : goal.returns-in-Show
 returns-in-Show g c =
     let s = c.args.session.now in
     let output = shown c.in-Show.file.now (output_at s.files s.roles c.in-Show.file.now) in
-    rw c.in-Show.is (output, inl (refl, refl), c.show.ensures)
+    rw c.in-Show.is (output, inl ([], IsReported _ refl refl refl, refl), c.show.ensures)
 
 pub returns-in-Faults : goal.returns-in-Faults
 returns-in-Faults g c =
     rw c.in-Faults.is (
       listed_faults c.faults.result.now,
-      inl ((c.faults.result.now, c.faults.ensures, refl), refl),
+      inl ([], IsReported _ refl refl (c.faults.result.now, c.faults.ensures, refl), refl),
       c.list_faults.ensures,
     )
 
 pub returns-in-Work : goal.returns-in-Work
 returns-in-Work g c =
     let said = λ (n : ℕ). codes "work " ++ decimal n ++ codes "\n" in
-    rw c.in-Work.is (said c.last_work.result, inl (ap said c.last_work.ensures, refl), c.write_work.ensures)
+    rw c.in-Work.is (said c.last_work.result, inl ([], IsReported _ refl refl (ap said c.last_work.ensures), refl), c.write_work.ensures)
 
 pub returns-in-Quit : goal.returns-in-Quit
-returns-in-Quit g c = rw c.in-Quit.is (codes "ok\n", inl (refl, refl), c.say.ensures)
+returns-in-Quit g c = rw c.in-Quit.is (codes "ok\n", inl ([], IsReported _ refl refl refl, refl), c.say.ensures)
 
 pub returns-in-BadCommand : goal.returns-in-BadCommand
 returns-in-BadCommand g c =
-    rw c.in-BadCommand.is (codes "no BadCommand\n", inl (refl, refl), c.say-in-BadCommand.ensures)
+    rw c.in-BadCommand.is (codes "no BadCommand\n", inl ([], IsReported _ refl refl refl, refl), c.say-in-BadCommand.ensures)

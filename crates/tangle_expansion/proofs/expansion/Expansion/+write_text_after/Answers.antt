@@ -4,7 +4,7 @@ use Rattle.std.specs.Prelude.{Option, unwrap_or}
 use Rattle.std.proofs.lemmas.List.{drop_all}
 use Rattle.tangle_bodies.specs.Flat.{Symbol}
 use Rattle.tangle_bodies.proofs.DropLemmas.{drop_at}
-use Rattle.tangle_expansion.specs.Expanded.{shared_symbols}
+use Rattle.tangle_bodies.specs.Meaning.{shared_symbols}
 use Rattle.tangle_expansion.specs.Numbers.{expansion_bytes}
 use Rattle.tangle_expansion.specs.Writing.{bytes_from}
 use Rattle.tangle_expansion.proofs.WriteLemmas.{wrote_at_first, wrote_then, wrote_more, wrote_same, wrote_all}

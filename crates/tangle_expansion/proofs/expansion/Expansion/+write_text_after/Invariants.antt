@@ -1,5 +1,5 @@
 use Rattle.std.proofs.Common.{drop}
-use Rattle.tangle_expansion.specs.Expanded.{shared_symbols}
+use Rattle.tangle_bodies.specs.Meaning.{shared_symbols}
 use Rattle.tangle_expansion.specs.Numbers.{expansion_bytes}
 use Rattle.tangle_expansion.specs.Writing.{Wrote, bytes_from}
 use Rattle.tangle_expansion.proofs.expansion.Expansion.+write_text_after.Given as goal

@@ -1,10 +1,6 @@
 use Rattle.std.proofs.Common.{rules}
-use Rattle.std.proofs.Common.{◌∙◌, ℕ, List, ap, arith, length, map}
+use Rattle.std.proofs.Common.{◌∙◌, ap, arith, length, map}
 use Rattle.std.proofs.lemmas.List.{length-map}
-use Rattle.tangle_names.specs.NameTable.{table_of}
-use Rattle.tangle_bodies.specs.Nodes.{pieces_at}
-use Rattle.tangle_bodies.specs.Shapes.{Named}
-use Rattle.tangle_bodies.specs.WebShapes.{pieces_of}
 use Rattle.tangle_expansion.specs.Numbers.{numbers_of_piece}
 use Rattle.tangle_expansion.specs.PieceNumbers.{numbers_of_rows}
 use Rattle.tangle_expansion.proofs.LookupLemmas.{rows_numbers}
@@ -13,14 +9,11 @@ use Rattle.tangle_expansion.proofs.numbers.Numbers.build.Goals as goal
 
 pub invariant_of-result : goal.invariant_of-result
 invariant_of-result c =
-    let web = c.args.web.now in
     numbers_hold _
     (omega (
       arith,
       ap length c.in_ok-clone.ensures.cases,
-      ap length c.requires.pieces.right,
-      length-map c.args.pieces.now.value (pieces_at web.pieces),
-      length-map (table_of web).names (λ (name : List ℕ). pieces_of web (table_of web) (Named name)),
+      simp length-map at (ap length c.requires.pieces.right),
       ap length (c.in_ok-share.ensures ∙ c.requires.names),
     ))
 

@@ -5,8 +5,13 @@ use Rattle.tangle_expansion.specs.Kept.{used_symbols}
 use Rattle.tangle_bodies.specs.Meaning.{body_flat}
 use Rattle.tangle_bodies.specs.NodeBodies.{body_uses}
 use Rattle.tangle_bodies.specs.declared.nodes.NodeBody.{NodeBody}
-use Rattle.tangle_graph.proofs.ExpandLemmas.{expanded_right}
-use Rattle.tangle_graph.proofs.BodyLemmas.{part_read}
+use Rattle.std.specs.Prelude.{Some}
+use Rattle.std.proofs.Common.{◌≡◌}
+use Rattle.tangle_expansion.specs.Limits.{levels}
+use Rattle.tangle_expansion.proofs.FilledLemmas.{body_expands}
+use Rattle.tangle_graph.specs.Stores.{body_at}
+use Rattle.tangle_graph.proofs.ExpandLemmas.{expandable_at}
+use Rattle.tangle_graph.proofs.BodyLemmas.{part_read, used_name}
 use Rattle.tangle_graph.proofs.StoredBodies.{had, in_store}
 use Rattle.tangle_graph.proofs.store.Store.expand.Goals as goal
 
@@ -19,9 +24,14 @@ returns-clause-symbols c =
     IfOk-weaker c.expand.result _ _ (λ e h. h ∙ sym given) c.expand.ensures.right
 
 pub returns-clause-right : goal.returns-clause-right
-returns-clause-right c = λ shapes is_store keeps.
-    let at = in_store c.self.inside c.args.self.now c.args.node c.self.view_is c.self.invariant c.requires.expandable in
-    let right = expanded_right shapes c.args.self.now c.args.kept.now c.args.node c.index.result.now.value is_store
-    c.requires.expandable keeps
-    (search (rules, had)) in
-    IfOk-weaker c.expand.result _ _ (λ e h. h ∙ right) c.expand.ensures.right
+returns-clause-right c = λ shapes is keeps.
+    let node = c.args.node in
+    let store = c.args.self.now in
+    let body = c.index.result.now.value in
+    let at = in_store c.self.inside store node c.self.view_is c.self.invariant c.requires.expandable in
+    let has : body_at store node ≡ Some body = search (rules, had) in
+    let own = is.bodies.each node body has in
+    let shallow = ((expandable_at shapes store is node at).0 c.requires.expandable).shallow in
+    IfOk-weaker c.expand.result _ _ (λ e h. h ∙ (rw (← own.title) (body_expands store.names shapes levels body
+    (used_symbols c.args.kept.now) (rw own.title own.shape) (rw own.title shallow)
+    (λ id used. keeps id (search (rules, used_name)))))) c.expand.ensures.right

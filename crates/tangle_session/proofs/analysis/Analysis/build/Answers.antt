@@ -28,16 +28,13 @@ returns-clause-made c =
     let web_is : c.in_ok-web.web ≡ web_at files to =
     c.in_ok-web.ensures.web ∙ ap web_of source_is ∙ sym (scanned_at files to) in
     let table_is : c.in_ok-table.table ≡ table_at files to = c.in_ok-table.ensures ∙ ap table_of web_is in
-    let of = subst (λ (x : WebRead × TableRead × List ℕ). IsStoreOfWeb x.0 x.1 x.2 c.in_ok-made.made.store)
-    (λ i. (web_is i, table_is i, c.out.ensures i)) c.in_ok-made.ensures.store in
     let parts = c.into_occurrences_and_faults-occurrences in
     let of_graph = c.in_ok-of_graph.of_graph.items in
     record {
       occurrences = parts.ensures.occurrences ∙ ap (λ (w : WebRead). w.occurrences) web_is;
       table = table_is;
-      store = of.store;
-      store_names = of.names;
-      outputs_are = of.outputs;
+      store = subst (λ (x : WebRead × TableRead × List ℕ). IsStoreOfWeb x.0 x.1 x.2 c.in_ok-made.made.store)
+          (λ i. (web_is i, table_is i, c.out.ensures i)) c.in_ok-made.ensures.store;
       numbers = c.in_ok-numbers.ensures ∙ ap (λ w. numbers_of w (table_of w) c.args.marks) web_is;
       plain = record {
         writing = refl;

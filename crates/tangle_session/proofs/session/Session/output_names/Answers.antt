@@ -11,6 +11,6 @@ pub returns : goal.returns
 returns c =
     let roles = c.self.inside.roles in
     let web = web_at c.self.inside.state.files roles in
-    c.new.ensures ∙ ap (map (λ (o : OutputRead). o.name)) (c.outputs.ensures ∙ c.self.invariant.analysis.outputs_are)
+    c.new.ensures ∙ ap (map (λ (o : OutputRead). o.name)) (c.outputs.ensures ∙ c.self.invariant.analysis.store.outputs)
     ∙ names_written (output_bytes c.self.inside.state.files roles) (outputs web (table_of web) roles.out)
     ∙ ap (λ (s : SessionRead). map (λ f. f.0) (output_files s.files s.roles)) c.self.view_is

@@ -11,7 +11,7 @@ returns-in-Ok-expand_all-clause-started c =
     analysis_of c.args.files c.args.roles c.marks.result c.in-Ok.analysis c.marks.ensures c.in-Ok.ensures.made in
     let made = c.in-Ok-expand_all.ensures.work in
     let lists = lists_nodes (web_at c.args.files c.args.roles)
-    c.in-Ok.analysis.store made.0 analysis.store analysis.store_names made.2 in
+    c.in-Ok.analysis.store made.0 analysis.store.store analysis.store.names made.2 in
     record {
       unrefused = sym c.refusal_to_start.ensures ∙ c.in_default.is;
       files_are = refl;
@@ -27,5 +27,5 @@ invariant_of-result c =
       files_fit = fit_to_start c.args.files c.args.roles
           (let first = c.refusal_to_start.ensures in let second = c.in_default.is in cc);
       analysis = analysis;
-      kept = c.in-Ok-expand_all.ensures.kept (shapes_of (web_at c.args.files c.args.roles)) analysis.store;
+      kept = c.in-Ok-expand_all.ensures.kept (shapes_of (web_at c.args.files c.args.roles)) analysis.store.store;
     }

@@ -28,6 +28,6 @@ skipped lines bytes line column end false h is =
 pub returns : goal.returns
 returns c =
     let r = c.self.inside in
-    let found = skipped r.source.now.lines r.bytes.now r.line r.column c.ordinary_end-self-inside.result
-    r.is_done (omega (arith, c.self.invariant)) c.ordinary_end-self-inside.ensures.end in
+    let found = skipped r.source.now.lines r.bytes.now r.line r.column c.end_of-self-inside.result
+    r.is_done (omega (arith, c.self.invariant)) c.end_of-self-inside.ensures.end in
     (found.0, found.1 ∙ ap (drop found.0) c.self.view_is, rw c.self.view_is at found.2)

@@ -1,6 +1,6 @@
 use Rattle.std.proofs.Common.{◌≡◌, drop}
 use Rattle.tangle_files.specs.Edited.{roles_after}
-use Rattle.tangle_session.proofs.tangling.marks_after.Given as goal
+use Rattle.tangle_session.proofs.tangling.mode_after.Given as goal
 
 -- the remaining edits, made from the roles with the marks so far, give what all edits make of the roles
 abbrev pub invariant-loop-edit : goal.invariant-loop-edit

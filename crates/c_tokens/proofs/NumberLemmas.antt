@@ -1,4 +1,4 @@
--- A word of a web that begins with a digit is one number, with apostrophes between its digits and letters.
+-- A word that begins with a digit is one number, also with apostrophes between its digits and letters.
 use Rattle.std.proofs.Common.{rules}
 use Rattle.std.proofs.Common.{arith}
 use Rattle.std.proofs.Common.{◌≡◌, ℕ, Bool, true, false, List, [], ◌∷◌, refl, ap}
@@ -7,16 +7,15 @@ use Rattle.std.proofs.lemmas.Bool.{and_parts, and_from, or_left, or_right}
 use Rattle.std.specs.List.{list_all}
 use Rattle.c_tokens.specs.Bytes.{apostrophe, is_digit, is_word_byte, is_sign}
 use Rattle.c_tokens.specs.Grammar.{is_number_byte, signs_follow_exponents, apostrophes_separate, has_universal_names, is_number, begins_number}
-use Rattle.c_tokens.proofs.GrammarLemmas.{number-from}
+use Rattle.c_tokens.proofs.GrammarLemmas.{all-weaker, number-from}
 use Rattle.std.proofs.lemmas.Bool.Decides.{nat_tests}
 
 -- a byte of a word, or an apostrophe
 abbrev pub is_separated_byte : ℕ → Bool
 is_separated_byte b = is_word_byte b || b == apostrophe
 
-separated-bytes : (a : List ℕ) → list_all is_separated_byte a ≡ true → list_all is_number_byte a ≡ true
-separated-bytes [] h = refl
-separated-bytes (b ∷ a) h = grind (arith, nat_tests, separated-bytes a)
+separated-byte : (b : ℕ) → is_separated_byte b ≡ true → is_number_byte b ≡ true
+separated-byte b h = grind (arith, nat_tests)
 
 separated-unsigned : (b : ℕ) → is_separated_byte b ≡ true → not (is_sign b) ≡ true
 separated-unsigned b h = grind (arith, nat_tests)
@@ -26,7 +25,7 @@ separated-signs [] h = refl
 separated-signs (b ∷ []) h = refl
 separated-signs (b ∷ c ∷ a) h = search (rules, and_parts, and_from, or_right, separated-unsigned, separated-signs (c ∷ a))
 
-separated-names : (a : List ℕ) → list_all is_separated_byte a ≡ true → has_universal_names a ≡ true
+pub separated-names : (a : List ℕ) → list_all is_separated_byte a ≡ true → has_universal_names a ≡ true
 separated-names [] h = refl
 separated-names (b ∷ a) h = grind (arith, nat_tests, separated-names a)
 
@@ -37,13 +36,12 @@ digit-begins b (c ∷ a) h = grind (arith, nat_tests)
 pub separated-number : (b : ℕ) (a : List ℕ) → is_digit b ≡ true → list_all is_separated_byte (b ∷ a) ≡ true →
     apostrophes_separate (b ∷ a) ≡ true → is_number (b ∷ a) ≡ true
 separated-number b a digit all separate =
-    search (rules, number-from, digit-begins, separated-bytes, separated-signs, separated-names)
+    search (rules, number-from, digit-begins, all-weaker is_separated_byte is_number_byte separated-byte, separated-signs, separated-names)
 
 -- a word has no apostrophes
 
 pub word-separated : (a : List ℕ) → list_all is_word_byte a ≡ true → list_all is_separated_byte a ≡ true
-word-separated [] h = refl
-word-separated (b ∷ a) h = grind (arith, nat_tests, word-separated a)
+word-separated = all-weaker is_word_byte is_separated_byte (λ b. or_left (is_word_byte b) (b == apostrophe))
 
 word-unquoted : (b : ℕ) → is_word_byte b ≡ true → (b == apostrophe) ≡ false
 word-unquoted b h = grind (arith, nat_tests)
