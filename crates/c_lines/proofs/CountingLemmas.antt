@@ -11,7 +11,7 @@ use Rattle.std.proofs.lemmas.Slice.Eq.{bytes_eq-Decides}
 use Rattle.c_tokens.specs.Bytes.{line_feed}
 use Rattle.c_tokens.specs.Grammar.{is_token, is_punctuator}
 use Rattle.c_tokens.specs.Reading.{elements, tokens}
-use Rattle.c_lines.specs.Counting.{Place, PlacedElement, LineOfTokens, LineCount, TokenRead, start_of_text, places, with_places}
+use Rattle.c_lines.specs.Counting.{Place, PlacedElement, LineOfTokens, LineCount, TokenRead, start_of_text, places, with_places, elements_at, tokens_at}
 use Rattle.c_lines.specs.Counting.{lines, lines_from, begins_directive, directive, begins_group, turns_group, region_after}
 use Rattle.c_lines.specs.Counting.{counted, count_after, read_of, reads, c_reads}
 
@@ -24,16 +24,25 @@ tokens_in ls = flat_map (λ l. texts_of l.tokens) ls
 abbrev tokens_of : List TokenRead → List (List ℕ)
 tokens_of found = map (λ read. read.token) found
 
-with_places-texts : (ps : List Place) (es : List (List ℕ)) → map (λ e. e.text) (with_places ps es) ≡ es
-with_places-texts ps [] = refl
-with_places-texts ps (e ∷ es) = ap (λ more. e ∷ more) (with_places-texts (drop (length e) ps) es)
+abbrev tokens_among : List PlacedElement → List PlacedElement
+tokens_among es = filter (λ e. is_token e.text) es
+
+placed-texts : (ps : List Place) (es : List (List ℕ)) → texts_of (tokens_among (with_places ps es))
+    ≡ filter is_token es
+placed-texts ps [] = refl
+placed-texts ps (e ∷ es) = grind (arith, nat_tests, placed-texts (drop (length e) ps) es)
+
+-- the texts of the tokens of a text are its tokens
+pub token-texts : (p : Place) (text : List ℕ) → texts_of (tokens_at p text) ≡ tokens text
+token-texts p text = placed-texts (places p text) (elements text)
 
 -- a line feed is no token
 line-feed-no-token : (e : List ℕ) → bytes_eq e (line_feed ∷ []) ≡ true → is_token e ≡ false
 unfolding is_token is_punctuator
 line-feed-no-token e h = subst (λ t. is_token t ≡ false) (sym ((bytes_eq-Decides e (line_feed ∷ [])).0 h)) refl
 
-lines-tokens : (es front : List PlacedElement) → tokens_in (lines front es) ≡ texts_of front ++ filter is_token (texts_of es)
+lines-tokens : (es front : List PlacedElement) → tokens_in (lines front es) ≡ texts_of front
+    ++ texts_of (tokens_among es)
 lines-tokens [] front = refl
 lines-tokens (e ∷ es) front =
     grind (
@@ -44,7 +53,7 @@ lines-tokens (e ∷ es) front =
       lines-tokens es (front ++ e ∷ []),
       lines-tokens es front,
       map-append (λ e. e.text) front (e ∷ []),
-      append_assoc (texts_of front) (e.text ∷ []) (filter is_token (texts_of es)),
+      append_assoc (texts_of front) (e.text ∷ []) (texts_of (tokens_among es)),
     )
 
 read-texts : (count : LineCount) (b : Bool) (es : List PlacedElement) →
@@ -68,5 +77,4 @@ reads-tokens count (line ∷ ls) =
 pub all-counted : (file text : List ℕ) → tokens_of (c_reads [] file text) ≡ tokens text
 all-counted file text =
     reads-tokens (record { row = 0; origin = record { file = file; line = 1 } }) (lines_from start_of_text text)
-    ∙ lines-tokens (with_places (places start_of_text text) (elements text)) []
-    ∙ ap (filter is_token) (with_places-texts (places start_of_text text) (elements text))
+    ∙ lines-tokens (elements_at start_of_text text) [] ∙ token-texts start_of_text text

@@ -4,7 +4,7 @@ use Rattle.std.proofs.Common.{arith}
 use Rattle.std.proofs.Common.{◌≡◌, ℕ, Bool, true, false, List, [], ◌∷◌, ◌++◌, refl, ap, sym, ◌∙◌, subst}
 use Rattle.std.proofs.Common.{append-nil, append_assoc}
 use Rattle.std.specs.Prelude.{◌==◌, ◌&&◌, ◌||◌, not, if◌then◌else◌}
-use Rattle.std.specs.List.{AllByRecursion, list_any, list_all}
+use Rattle.std.specs.List.{AllByRecursion, list_any}
 use Rattle.std.proofs.lemmas.Bool.{not-true, false≢true}
 use Rattle.std.proofs.lemmas.List.Folds.{list_any-append}
 use Rattle.std.proofs.lemmas.List.Elements.{All-append, All-from_recursion, recursion_from_All}
@@ -66,19 +66,15 @@ back-more after [] back = absurd (false≢true back)
 back-more after (b ∷ bs) back = back
 
 -- a text without a line feed
-pub no-feed-taken : (after : Bool) (t : List ℕ) → list_any (λ b. b == line_feed) t ≡ false → feeds_taken after t ≡ true
-no-feed-taken after [] none = refl
-no-feed-taken after (b ∷ bs) none = grind (arith, nat_tests, no-feed-taken (b == backslash) bs)
-
 abbrev pub IsInLine : List ℕ → Type 0
-IsInLine t = list_all (λ b. not (b == line_feed)) t ≡ true
+IsInLine t = list_any (λ b. b == line_feed) t ≡ false
 
 pub in-line-taken : (after : Bool) (t : List ℕ) → IsInLine t → feeds_taken after t ≡ true
 in-line-taken after [] line = refl
 in-line-taken after (b ∷ t) line = grind (arith, nat_tests, in-line-taken (b == backslash) t)
 
 -- a text that has no line feed without those that are directly after a backslash
-pub spliced-taken : (t : List ℕ) → list_any (λ b. b == line_feed) (spliced t) ≡ false → IsOneLine t
+pub spliced-taken : (t : List ℕ) → IsInLine (spliced t) → IsOneLine t
 spliced-taken [] none = refl
 spliced-taken (b ∷ []) none = grind (arith, nat_tests)
 spliced-taken (b ∷ c ∷ t) none = grind (arith, nat_tests, spliced-taken t, spliced-taken (c ∷ t), taken-more (b == backslash) (c ∷ t), taken-more (c == backslash) t)

@@ -1,21 +1,22 @@
 -- The tokens of a `#line` with digits and a name in quotes.
 use Rattle.std.proofs.Common.{rules}
-use Rattle.std.proofs.Common.{◌≡◌, ℕ, true, false, List, [], ◌∷◌, ◌++◌, map, drop, length, codes, arith}
+use Rattle.std.proofs.Common.{◌≡◌, ℕ, true, false, List, [], ◌∷◌, ◌++◌, map, length, codes, arith}
 use Rattle.std.proofs.Common.{refl, ap, ◌∙◌}
-use Rattle.std.specs.Prelude.{◌&&◌, ◌==◌, not, filter}
+use Rattle.std.specs.Prelude.{◌&&◌, not}
 use Rattle.std.specs.List.{list_any, list_all}
 use Rattle.std.proofs.lemmas.Bool.{and_parts, and_from, or_right, false≢true}
 use Rattle.std.proofs.lemmas.Bool.Decides.{nat_tests}
-use Rattle.c_tokens.specs.Bytes.{line_feed, space, is_digit, is_word_byte}
+use Rattle.c_tokens.specs.Bytes.{space, is_digit, is_word_byte}
 use Rattle.c_tokens.specs.Grammar.{is_token, is_element, is_punctuator, is_string, is_number}
 use Rattle.c_tokens.specs.Grammar.{apostrophes_separate}
-use Rattle.c_tokens.specs.Reading.{spliced, elements_from, elements, tokens}
+use Rattle.c_tokens.specs.Reading.{spliced, elements_from, tokens}
 use Rattle.c_tokens.specs.Borders.{is_unfinished, is_whole, keep_lines, have_border, has_bytes}
-use Rattle.c_lines.specs.Counting.{Place, PlacedElement, places, with_places, tokens_at, begins_directive, directive}
+use Rattle.c_lines.specs.Counting.{Place, PlacedElement, tokens_at, begins_directive, directive}
 use Rattle.c_tokens.proofs.GrammarLemmas.{all-weaker}
 use Rattle.c_tokens.proofs.NumberLemmas.{separated-number, word-separated, separates-word}
 use Rattle.c_tokens.proofs.ElementLemmas.{one-element, plain-token, token-element}
 use Rattle.c_tokens.proofs.BorderLemmas.{number-token, apart-tokens}
+use Rattle.c_lines.proofs.CountingLemmas.{token-texts}
 use Rattle.c_lines.proofs.JoinedLemmas.{IsInLine, spliced-other, white-next, white-before}
 
 -- texts without line feeds
@@ -30,7 +31,8 @@ one-token : (b : ℕ) (t : List ℕ) → IsInLine (b ∷ t) → is_token (b ∷ 
 one-token b t line is = search (rules, spliced-line, one-element, token-element)
 
 pub digits-line : (t : List ℕ) → list_all is_digit t ≡ true → IsInLine t
-digits-line = all-weaker is_digit (λ b. not (b == line_feed)) (λ b digit. grind (arith, nat_tests))
+digits-line [] all = refl
+digits-line (b ∷ t) all = grind (arith, nat_tests, digits-line t)
 
 words-separate : (t : List ℕ) → list_all is_word_byte t ≡ true → apostrophes_separate t ≡ true
 words-separate [] all = refl
@@ -44,15 +46,14 @@ digits-number b t all =
 digits-token : (b : ℕ) (t : List ℕ) → list_all is_digit (b ∷ t) ≡ true → tokens (b ∷ t) ≡ (b ∷ t) ∷ []
 digits-token b t all = one-token b t (digits-line (b ∷ t) all) (number-token (b ∷ t) (digits-number b t all))
 
-number-finished : (b : ℕ) (t : List ℕ) → is_digit b ≡ true → is_unfinished (b ∷ t) ≡ false
-number-finished b t digit = grind (arith, nat_tests)
-
 pub digits-whole : (t : List ℕ) → list_all is_digit t ≡ true → is_whole t ≡ true
 digits-whole [] all = refl
 digits-whole (b ∷ t) all =
+    let unfinished : is_unfinished (b ∷ t) ≡ false =
+    grind (arith, nat_tests, and_parts (is_digit b) (list_all is_digit t) all) in
     ap (λ u. not (list_any is_unfinished (elements_from 0 u))) (spliced-line (b ∷ t) (digits-line (b ∷ t) all))
     ∙ ap (λ es. not (list_any is_unfinished es)) (one-element b t (token-element (b ∷ t) (number-token (b ∷ t) (digits-number b t all))))
-    ∙ rw (number-finished b t (and_parts (is_digit b) (list_all is_digit t) all).0) refl
+    ∙ rw unfinished refl
 
 string-token : (t : List ℕ) → is_string t ≡ true → IsInLine t → tokens t ≡ t ∷ []
 string-token [] is line = absurd (false≢true is)
@@ -87,15 +88,6 @@ line-tokens (d ∷ digits) literal all some is line =
     ∙ ap (λ ts. codes "#" ∷ codes "line" ∷ ts) (search (rules, space-after, digits-whole, digits-token, string-token))
 
 -- the same of tokens with places
-
-placed-texts : (ps : List Place) (es : List (List ℕ)) →
-    map (λ e. e.text) (filter (λ e. is_token e.text) (with_places ps es)) ≡ filter is_token es
-placed-texts ps [] = refl
-placed-texts ps (e ∷ es) = grind (arith, nat_tests, placed-texts (drop (length e) ps) es)
-
--- the texts of the tokens of a text are its tokens
-pub token-texts : (p : Place) (text : List ℕ) → map (λ e. e.text) (tokens_at p text) ≡ tokens text
-token-texts p text = placed-texts (places p text) (elements text)
 
 directive-texts : (es : List PlacedElement) (ts : List (List ℕ)) → map (λ e. e.text) es ≡ codes "#" ∷ ts →
     (begins_directive es ≡ true) × (directive es ≡ ts)

@@ -1,14 +1,14 @@
 -- A line feed after a whole text ends its line: the line and what is after it are read each by itself.
 use Rattle.std.proofs.Common.{rules}
 use Rattle.std.proofs.Common.{◌≡◌, ℕ, zero, suc, ◌≤◌, Bool, true, List, [], ◌∷◌, ◌++◌, take, drop, length, ◌-◌}
-use Rattle.std.proofs.Common.{refl, ap, sym, ◌∙◌, append_assoc, append-nil, arith, length-append, length-drop}
+use Rattle.std.proofs.Common.{refl, ap, sym, subst, ◌∙◌, append_assoc, append-nil, arith, length-append, length-drop}
 use Rattle.std.specs.Prelude.{◌&&◌, not, ◌==◌, filter, Some, None}
 use Rattle.std.specs.List.{list_all, concat, join_with_byte, AllByRecursion}
 use Rattle.std.specs.Str.{bytes_eq}
 use Rattle.std.proofs.lemmas.Bool.{and_from, not-true, false≢true}
 use Rattle.std.proofs.lemmas.List.{drop-append-le}
 use Rattle.std.proofs.lemmas.List.Elements.{All-drop, All-from_recursion, recursion_from_All}
-use Rattle.std.proofs.lemmas.List.Folds.{list_all-append}
+use Rattle.std.proofs.lemmas.List.Folds.{list_any-append}
 use Rattle.std.proofs.lemmas.Slice.Eq.{bytes_eq-Decides}
 use Rattle.std.proofs.lemmas.Bool.Decides.{nat_tests}
 use Rattle.c_tokens.specs.Bytes.{line_feed, backslash}
@@ -19,7 +19,7 @@ use Rattle.c_lines.specs.Counting.{Place, PlacedElement, next_place, place_after
 use Rattle.c_lines.specs.Counting.{with_places, elements_at, tokens_at, lines, lines_from}
 use Rattle.c_lines.specs.JoinedLines.{joined_lines, LinesAreWhole, lines_of_each}
 use Rattle.c_tokens.proofs.ElementLemmas.{spliced-both}
-use Rattle.c_lines.proofs.JoinedLemmas.{IsOneLine, taken-spliced, one-more, joined-is, spliced-other, white-next, white-before}
+use Rattle.c_lines.proofs.JoinedLemmas.{IsInLine, IsOneLine, taken-spliced, one-more, joined-is, spliced-other, white-next, white-before}
 use Rattle.c_tokens.proofs.BorderLemmas.{border-elements}
 use Rattle.c_tokens.proofs.LongestLemmas.{longest-one, elements-all}
 
@@ -98,15 +98,15 @@ lines-over front [] rest none = ap (λ t. lines t rest) (sym (append-nil front))
 lines-over front (e ∷ es) rest none =
     grind (arith, nat_tests, lines-over (front ++ e ∷ []) es rest, lines-over front es rest, append_assoc front (e ∷ []) (filter is_kept es))
 
-none-feed : (ps : List Place) (es : List (List ℕ)) → list_all (λ b. not (b == line_feed)) (concat es) ≡ true →
+none-feed : (ps : List Place) (es : List (List ℕ)) → IsInLine (concat es) →
     list_all (λ e. not (is_feed e)) (with_places ps es) ≡ true
 none-feed ps [] none = refl
 none-feed ps (e ∷ es) none =
-    grind (arith, nat_tests, list_all-append (λ b. not (b == line_feed)) e (concat es), none-feed (drop (length e) ps) es, bytes_eq-Decides e (line_feed ∷ []))
+    grind (arith, nat_tests, list_any-append (λ b. b == line_feed) e (concat es), none-feed (drop (length e) ps) es, bytes_eq-Decides e (line_feed ∷ []))
 
 none-feed-at : (p : Place) (l : List ℕ) → IsOneLine l → list_all (λ e. not (is_feed e)) (elements_at p l) ≡ true
 none-feed-at p l joined =
-    none-feed (places p l) (elements l) (ap (list_all (λ b. not (b == line_feed))) (elements-all 0 (spliced l)) ∙ taken-spliced l joined)
+    none-feed (places p l) (elements l) (subst IsInLine (sym (elements-all 0 (spliced l))) (taken-spliced l joined))
 
 -- the first line of a text, if a line feed after a whole line ends it
 pub line-first : (p : Place) (l rest : List ℕ) → is_whole l ≡ true → IsOneLine l → keep_lines l (line_feed ∷ []) ≡ true →
@@ -154,15 +154,11 @@ places-more Q p (x ∷ y ∷ l) b all next =
 
 -- all lines of a text
 
-lines_of_each-more : (p : Place) (line bs : List ℕ) → lines_of_each p (line ∷ joined_lines [] bs)
-    ≡ record { tokens = tokens_at p line; end = Some (place_after p line) } ∷ lines_of_each (next_place (place_after p line) line_feed) (joined_lines [] bs)
-lines_of_each-more p line bs = rw (joined-is [] bs) refl
-
 each-line-from : (line text : List ℕ) (p : Place) → IsOneLine line → AllByRecursion (λ l. is_whole l ≡ true) (joined_lines line text) →
     lines_from p (line ++ text) ≡ lines_of_each p (joined_lines line text)
 each-line-from line [] p one whole = ap (lines_from p) (append-nil line) ∙ line-last p line one
 each-line-from line (b ∷ bs) p one whole =
-    grind (arith, nat_tests, each-line-from [] bs (next_place (place_after p line) line_feed) refl, each-line-from (line ++ b ∷ []) bs p, one-more line b one, line-first p line bs, lines_of_each-more p line bs, append_assoc line (b ∷ []) bs)
+    grind (arith, nat_tests, each-line-from [] bs (next_place (place_after p line) line_feed) refl, each-line-from (line ++ b ∷ []) bs p, one-more line b one, line-first p line bs, joined-is [] bs, append_assoc line (b ∷ []) bs)
 
 -- the lines of a text that has whole lines are these, each read by itself
 pub each-line : (p : Place) (text : List ℕ) → LinesAreWhole text → lines_from p text ≡ lines_of_each p (joined_lines [] text)
@@ -170,13 +166,10 @@ each-line p text whole = each-line-from [] text p refl whole
 
 -- the lines are the whole text
 
-join-more : (line bs : List ℕ) → join_with_byte line_feed (line ∷ joined_lines [] bs) ≡ line ++ line_feed ∷ join_with_byte line_feed (joined_lines [] bs)
-join-more line bs = rw (joined-is [] bs) refl
-
 lines-joined-by : (line bs : List ℕ) → join_with_byte line_feed (joined_lines line bs) ≡ line ++ bs
 lines-joined-by line [] = sym (append-nil line)
 lines-joined-by line (b ∷ bs) =
-    grind (arith, nat_tests, lines-joined-by [] bs, lines-joined-by (line ++ b ∷ []) bs, append_assoc line (b ∷ []) bs, join-more line bs)
+    grind (arith, nat_tests, lines-joined-by [] bs, lines-joined-by (line ++ b ∷ []) bs, append_assoc line (b ∷ []) bs, joined-is [] bs)
 
 pub lines-joined : (text : List ℕ) → join_with_byte line_feed (joined_lines [] text) ≡ text
 lines-joined text = lines-joined-by [] text

@@ -12,16 +12,15 @@ use Rattle.c_tokens.specs.Bytes.{is_hexadecimal, is_word_byte, is_quote, is_sign
 use Rattle.c_tokens.specs.Grammar.{begins_hexadecimal, begins_universal_name, has_universal_names, is_identifier_byte}
 use Rattle.c_tokens.specs.Grammar.{begins_number, is_number_byte, signs_follow_exponents, begins_with_sign, apostrophes_separate, is_number, is_quoted, ends_quoted}
 use Rattle.c_tokens.specs.Grammar.{has_prefix, is_punctuator, is_token, is_comment, is_element}
-use Rattle.c_tokens.specs.Grammar.{is_white_character, is_other_character}
 use Rattle.c_tokens.specs.Reading.{spliced, longest, elements_from, tokens}
 use Rattle.c_tokens.specs.Touching.{is_separator, is_operator, is_one, is_plain}
 use Rattle.c_tokens.specs.Borders.{is_unfinished, last_element, last_byte, is_plain_byte, are_never_in_one}
 use Rattle.c_tokens.specs.Borders.{is_at_operator, number_goes_on, is_border, have_border, are_apart, has_bytes, are_all_apart}
 use Rattle.c_tokens.proofs.ReadingLemmas.{NoLonger, elements-front, elements-append}
-use Rattle.c_tokens.proofs.GrammarLemmas.{identifier-bytes, number-parts, number-from, number-bytes, number-first, punctuator-is}
+use Rattle.c_tokens.proofs.GrammarLemmas.{identifier-bytes, number-parts, number-from, number-first, punctuator-is}
 use Rattle.c_tokens.proofs.GrammarLemmas.{begins_prefix, IsLiteral, ends-once}
-use Rattle.c_tokens.proofs.LongerLemmas.{element-cases, all-last, all-front, all-last-byte, separators, operators, listed-not, punctuator-bytes}
-use Rattle.c_tokens.proofs.LongerLemmas.{comment-open, two-white, two-other, quote-not}
+use Rattle.c_tokens.proofs.LongerLemmas.{element-cases, all-last, all-front, all-last-byte, separators, operators, listed-not}
+use Rattle.c_tokens.proofs.LongerLemmas.{comment-open, AreSeveral, two-bytes, quote-not}
 use Rattle.c_tokens.proofs.ElementLemmas.{single-element, comment-element, token-element, one-element, plain-element}
 use Rattle.c_tokens.proofs.ElementLemmas.{spliced-both}
 use Rattle.std.proofs.lemmas.Bool.Decides.{nat_tests}
@@ -70,46 +69,40 @@ none-fails test x a c q all fails = both_ways (test (last_byte x a) && test c) f
 
 -- numbers
 
-weaker : (p w s t : Bool) → (s ≡ true → t ≡ true) → (p || w && s) ≡ true → (p || w && t) ≡ true
-weaker true w s t f h = refl
-weaker false true s t f h = f h
-weaker false false s t f h = h
+weaker : (p s t : Bool) → (s ≡ true → t ≡ true) → (p || s) ≡ true → (p || t) ≡ true
+weaker true s t f h = refl
+weaker false s t f h = f h
 
--- A universal character name that goes on over the end of a text has identifier bytes there.
+-- A universal character name that goes on over the end of a text has bytes there that pass this test.
 module _ (test : ℕ → Bool) (hexadecimal : (b : ℕ) → is_hexadecimal b ≡ true → test b ≡ true) (small : test 117 ≡ true)
-    (capital : test 85 ≡ true)
+    (capital : test 85 ≡ true) (back : test backslash ≡ true) (c : ℕ) (q : List ℕ)
   where
-    hexadecimal-front : (n : ℕ) (a : List ℕ) (c : ℕ) (q : List ℕ) → begins_hexadecimal n (a ++ c ∷ q) ≡ true →
-        (begins_hexadecimal n a || list_all test (a ++ c ∷ [])) ≡ true
-    hexadecimal-front zero a c q h = refl
-    hexadecimal-front (suc n) [] c q h = search (rules, and_parts, and_from)
-    hexadecimal-front (suc n) (b ∷ a) c q h = grind (arith, hexadecimal b, hexadecimal-front n a c q)
+    hexadecimal-front : (n x : ℕ) (a : List ℕ) → test x ≡ true → (test (last_byte x a) && test c) ≡ false →
+        begins_hexadecimal n (a ++ c ∷ q) ≡ true → begins_hexadecimal n a ≡ true
+    hexadecimal-front zero x a is stops h = refl
+    hexadecimal-front (suc n) x [] is stops h = grind (arith, hexadecimal c)
+    hexadecimal-front (suc n) x (b ∷ a) is stops h = grind (arith, hexadecimal b, hexadecimal-front n b a)
 
-    letter-front : (letter n b : ℕ) (a : List ℕ) (c : ℕ) (q : List ℕ) → test letter ≡ true →
-        (b == letter && begins_hexadecimal n (a ++ c ∷ q)) ≡ true →
-        (b == letter && begins_hexadecimal n a || list_all test (b ∷ a ++ c ∷ [])) ≡ true
-    letter-front letter n b a c q is h = grind (arith, nat_tests, hexadecimal-front n a c q)
+    letter-front : (letter n b : ℕ) (a : List ℕ) → test letter ≡ true → (test (last_byte b a) && test c) ≡ false →
+        (b == letter && begins_hexadecimal n (a ++ c ∷ q)) ≡ true → (b == letter && begins_hexadecimal n a) ≡ true
+    letter-front letter n b a is stops h = grind (arith, nat_tests, hexadecimal-front n b a)
 
-    universal-front : (a : List ℕ) (c : ℕ) (q : List ℕ) → begins_universal_name (a ++ c ∷ q) ≡ true →
-        (begins_universal_name a || list_all test (a ++ c ∷ [])) ≡ true
-    universal-front [] c q h = grind (arith, nat_tests)
-    universal-front (b ∷ a) c q h =
-        search (rules, or_cases, or_left, or_right, letter-front 117 4 b a c q small, letter-front 85 8 b a c q capital)
+    universal-front : (x : ℕ) (a : List ℕ) → (test (last_byte x a) && test c) ≡ false →
+        begins_universal_name (x ∷ a ++ c ∷ q) ≡ true → begins_universal_name (x ∷ a) ≡ true
+    universal-front x a stops h =
+        search (rules, or_cases, or_left, or_right, letter-front 117 4 x a small stops, letter-front 85 8 x a capital stops)
 
-    names-front : (x : ℕ) (a : List ℕ) (c : ℕ) (q : List ℕ) → test backslash ≡ true →
-        (test (last_byte x a) && test c) ≡ false → has_universal_names (x ∷ a ++ c ∷ q) ≡ true → has_universal_names (x ∷ a) ≡ true
-    names-front x [] c q back stops h = grind (arith, nat_tests)
-    names-front x (y ∷ a) c q back stops h =
-        let inside = not (x == backslash) || begins_universal_name (y ∷ a ++ c ∷ q) in
-        let parts = and_parts inside (has_universal_names (y ∷ a ++ c ∷ q)) h in
-        and_from (not (x == backslash) || begins_universal_name (y ∷ a)) (has_universal_names (y ∷ a))
-        (weaker (not (x == backslash)) true (begins_universal_name (y ∷ a ++ c ∷ q)) (begins_universal_name (y ∷ a))
-        (λ name. let cases = or_cases (begins_universal_name (y ∷ a)) (list_all test (y ∷ a ++ c ∷ [])) (universal-front (y ∷ a) c q name) in
-        search (rules, cases, none-fails test y a c [])) parts.0) (names-front y a c q back stops parts.1)
+    names-front : (x : ℕ) (a : List ℕ) → (test (last_byte x a) && test c) ≡ false →
+        has_universal_names (x ∷ a ++ c ∷ q) ≡ true → has_universal_names (x ∷ a) ≡ true
+    names-front x [] stops h = grind (arith, nat_tests)
+    names-front x (y ∷ a) stops h =
+        search (rules, and_parts, and_from, weaker, universal-front y a stops, names-front y a stops)
 
-signs-front : (a q : List ℕ) → signs_follow_exponents (a ++ q) ≡ true → signs_follow_exponents a ≡ true
-signs-front (b ∷ c ∷ a) q h = grind (arith, nat_tests, signs-front (c ∷ a) q)
-signs-front a q h = refl
+-- where a text ends, a sign still follows an exponent
+signs-front : (x : ℕ) (a : List ℕ) (c : ℕ) (q : List ℕ) → signs_follow_exponents (x ∷ a ++ c ∷ q) ≡ true →
+    (signs_follow_exponents (x ∷ a) ≡ true) × ((is_exponent (last_byte x a) || not (is_sign c)) ≡ true)
+signs-front x [] c q h = grind (arith, nat_tests)
+signs-front x (y ∷ a) c q h = grind (arith, nat_tests, signs-front y a c q)
 
 begins-front : (x : ℕ) (a : List ℕ) (c : ℕ) (q : List ℕ) → is_at_operator (last_byte x a) c ≡ true →
     begins_number (x ∷ a ++ c ∷ q) ≡ true → begins_number (x ∷ a) ≡ true
@@ -134,15 +127,11 @@ number-front : (x : ℕ) (a : List ℕ) (c : ℕ) (q : List ℕ) → is_at_opera
 number-front x a c q at h =
     let n = number-parts (x ∷ a ++ c ∷ q) h in
     number-from (x ∷ a) (begins-front x a c q at n.0) (all-front is_number_byte (x ∷ a) (c ∷ q) n.1)
-    (signs-front (x ∷ a) (c ∷ q) n.2) (apostrophes-front x a c q at n.3)
-    (names-front is_identifier_byte (λ b h. grind (arith, nat_tests)) refl refl x a c q refl (operator-fails is_identifier_byte refl (last_byte x a) c at) n.4)
+    (signs-front x a c q n.2).0 (apostrophes-front x a c q at n.3)
+    (names-front is_identifier_byte (λ b h. grind (arith, nat_tests)) refl refl refl c q x a
+    (operator-fails is_identifier_byte refl (last_byte x a) c at) n.4)
 
 -- how a number goes on over an operator
-
-signs-at : (x : ℕ) (a : List ℕ) (c : ℕ) (q : List ℕ) → signs_follow_exponents (x ∷ a ++ c ∷ q) ≡ true →
-    (is_exponent (last_byte x a) || not (is_sign c)) ≡ true
-signs-at x [] c q h = grind (arith, nat_tests)
-signs-at x (y ∷ a) c q h = grind (arith, nat_tests, signs-at y a c q)
 
 operator-sign : (o : ℕ) → is_operator o ≡ true → is_number_byte o ≡ true → is_sign o ≡ true
 operator-sign o operator number = grind (arith, nat_tests)
@@ -151,7 +140,7 @@ number-goes-on : (x : ℕ) (a : List ℕ) (c : ℕ) (q : List ℕ) → is_at_ope
     is_number (x ∷ a ++ c ∷ q) ≡ true → number_goes_on (last_byte x a) c ≡ true
 number-goes-on x a c q at h =
     let parts = number-parts (x ∷ a ++ c ∷ q) h in
-    let signs = signs-at x a c q parts.2 in
+    let signs = (signs-front x a c q parts.2).1 in
     let bytes = and_parts (is_number_byte (last_byte x a)) (is_number_byte c) (all-border is_number_byte x a c q parts.1) in
     elim (or_cases (is_operator (last_byte x a) && is_plain_byte c) (is_plain_byte (last_byte x a) && is_operator c) at) [
       | inl first ↦ search (rules, and_parts, or_right, operator-sign)
@@ -189,35 +178,30 @@ literal-parts a c q l = elim (go l.prefix a l.word l.has) [ inr inside ↦ inr i
     go (p ∷ ps) [] word has = search (rules, and_parts, and_from, or_left, eqb-true)
     go (p ∷ ps) (x ∷ a) word has = search (rules, and_parts, and_from, or_left, eqb-true, go ps a)
 
-quote-byte : (Q : ℕ) → is_quote Q ≡ true → is_word_byte Q ≡ false
-quote-byte Q h = quote-not is_word_byte refl refl Q h
-
-opened-first : (prefix : List ℕ) (Q : ℕ) (z : List ℕ) → list_all is_word_byte prefix ≡ true → is_quote Q ≡ true →
-    is_comment (prefix ++ Q ∷ z) ≡ true → ⊥
-opened-first [] Q z word quote comment = grind (arith, nat_tests)
-opened-first (p ∷ ps) Q z word quote comment = grind (arith, nat_tests)
-
-opened-number : (prefix : List ℕ) (Q : ℕ) (z : List ℕ) → begins_prefix prefix ≡ true → is_quote Q ≡ true →
-    is_number (prefix ++ Q ∷ z) ≡ true → ⊥
-opened-number [] Q z begins quote number = grind (arith, nat_tests, number-first Q z)
-opened-number (p ∷ ps) Q z begins quote number = grind (arith, nat_tests, number-first p (ps ++ Q ∷ z))
+opened-first : (prefix : List ℕ) (Q : ℕ) (z : List ℕ) → begins_prefix prefix ≡ true → is_quote Q ≡ true →
+    (is_comment (prefix ++ Q ∷ z) ≡ false) × (is_number (prefix ++ Q ∷ z) ≡ false)
+opened-first [] Q z begins quote = grind (arith, nat_tests, number-first Q z)
+opened-first (p ∷ ps) Q z begins quote = grind (arith, nat_tests, number-first p (ps ++ Q ∷ z))
 
 -- a prefix, a quote and bytes that do not end with the closing quote
 opened-longer : (prefix : List ℕ) (Q : ℕ) (z : List ℕ) → list_all is_word_byte prefix ≡ true →
-    begins_prefix prefix ≡ true → is_quote Q ≡ true → ends_quoted Q z ≡ false → is_white_character (prefix ++ Q ∷ z) ≡ false → is_other_character (prefix ++ Q ∷ z) ≡ false →
-    is_element (prefix ++ Q ∷ z) ≡ false
-opened-longer prefix Q z word begins quote ends white other =
-    false_from_ne_true (is_element (prefix ++ Q ∷ z)) λ is. element-cases (prefix ++ Q ∷ z) white other is
-    (opened-first prefix Q z word quote)
+    begins_prefix prefix ≡ true → is_quote Q ≡ true → ends_quoted Q z ≡ false → AreSeveral (prefix ++ Q ∷ z)
+    → is_element (prefix ++ Q ∷ z) ≡ false
+opened-longer prefix Q z word begins quote ends several =
+    false_from_ne_true (is_element (prefix ++ Q ∷ z)) λ is. element-cases (prefix ++ Q ∷ z) several is
+    (both_ways _ (opened-first prefix Q z begins quote).0)
     (λ identifier. both_ways (is_identifier_byte Q) (quote-not is_identifier_byte refl refl Q quote)
     (all-last is_identifier_byte prefix Q z (identifier-bytes (prefix ++ Q ∷ z) identifier)))
-    (opened-number prefix Q z begins quote)
+    (both_ways _ (opened-first prefix Q z begins quote).1)
     (λ literal. elim (literal-parts prefix Q z literal) [
-      | inl o ↦ both_ways (is_word_byte o.quote) (quote-byte o.quote o.quotes)
+      | inl o ↦ both_ways (is_word_byte o.quote) (quote-not is_word_byte refl refl o.quote o.quotes)
           (all-last is_word_byte o.prefix o.quote o.rest (subst (λ t. list_all is_word_byte t ≡ true) o.same word))
-      | inr inside ↦ both_ways (is_word_byte Q || ends_quoted Q z) (or_from (is_word_byte Q) (ends_quoted Q z) (quote-byte Q quote) ends) inside.1
+      | inr inside ↦ both_ways (is_word_byte Q || ends_quoted Q z)
+          (or_from (is_word_byte Q) (ends_quoted Q z) (quote-not is_word_byte refl refl Q quote) ends) inside.1
     ])
-    (λ punctuator. search (rules, all-last, punctuator-bytes, or_right))
+    (λ punctuator. let none = punctuator-is (list_all (λ b. not (is_plain_byte b))) refl
+    (prefix ++ Q ∷ z) punctuator in
+    search (rules, all-last, or_right, none))
 
 -- no front of the bytes after the quote ends with the closing one
 unended : (Q : ℕ) (rest : List ℕ) (c : ℕ) (q : List ℕ) → is_quote Q ≡ true → ends_quoted Q (rest ++ c ∷ q) ≡ true →
@@ -234,8 +218,8 @@ quote-unfinished : (Q : ℕ) (rest : List ℕ) (c : ℕ) (q : List ℕ) → is_q
     list_any is_unfinished (elements_from 0 (Q ∷ rest)) ≡ true
 quote-unfinished Q rest c q quote ends =
     ap (list_any is_unfinished) (elements-front Q [] rest (single-element Q)
-    (λ e z w same. opened-longer [] Q (e ∷ z) refl refl quote (unended Q rest c q quote ends (e ∷ z) w same) refl refl))
-    ∙ or_left (is_unfinished (Q ∷ [])) (list_any is_unfinished (elements_from 0 rest))
+    (λ e z w same. opened-longer [] Q (e ∷ z) refl refl quote (unended Q rest c q quote ends (e ∷ z) w same)
+    (refl, refl))) ∙ or_left (is_unfinished (Q ∷ [])) (list_any is_unfinished (elements_from 0 rest))
     (or_right (is_comment (Q ∷ space ∷ [])) (is_quote Q) quote)
 
 opened-unfinished : (prefix : List ℕ) (Q : ℕ) (rest : List ℕ) (c : ℕ) (q : List ℕ) → list_all is_word_byte prefix ≡ true →
@@ -250,7 +234,7 @@ opened-unfinished (p ∷ ps) Q rest c q word begins quote ends =
     none : NoLonger is_element (p ∷ ps) (Q ∷ rest)
     none e z w same = subst (λ k. is_element (p ∷ ps ++ k ∷ z) ≡ false) (ap (λ l. get_or l 0 0) same)
         (opened-longer (p ∷ ps) Q z word begins quote (unended Q rest c q quote ends z w (ap (drop 1) same))
-        (two-white p ps Q z) (two-other p ps Q z))
+        (two-bytes p ps Q z))
 
 -- no element goes on over a border
 
@@ -288,10 +272,7 @@ border-cases before x a c border =
 border-meets : (before : List ℕ) (x : ℕ) (a : List ℕ) (c : ℕ) →
     is_border (last_element before (elements_from 0 (x ∷ a))) (last_byte x a) c ≡ true → is_met (has_bytes a) (last_byte x a) c ≡ true
 border-meets before x a c border =
-    elim (border-cases before x a c border) [
-      | inl cut ↦ or_left (is_cut (has_bytes a) (last_byte x a) c) (is_at_operator (last_byte x a) c) cut
-      | inr at ↦ search (rules, and_parts, or_right)
-    ]
+    elim (border-cases before x a c border) [ inl cut ↦ search (rules, or_left) | inr at ↦ search (rules, and_parts, or_right) ]
 
 -- no comment goes on after a text that is none, or that is a whole one
 comment-border : (x : ℕ) (a : List ℕ) (c : ℕ) (q : List ℕ) → (is_element (x ∷ a) ≡ true → is_comment (x ∷ a ++ space ∷ []) ≡ false) →
@@ -314,7 +295,8 @@ number-border before x a c q border number =
     let element = last_element before (elements_from 0 (x ∷ a)) in
     let d = last_byte x a in
     elim (border-cases before x a c border) [
-      | inl cut ↦ none-fails is_number_byte x a c q (number-bytes (x ∷ a ++ c ∷ q) number) (cut-fails is_number_byte refl (has_bytes a) d c cut)
+      | inl cut ↦ none-fails is_number_byte x a c q (number-parts (x ∷ a ++ c ∷ q) number).1
+          (cut-fails is_number_byte refl (has_bytes a) d c cut)
       | inr at ↦
           let parts = and_parts (not (is_number element && number_goes_on d c)) (is_at_operator d c) at in
           let front : is_number (x ∷ a) ≡ true = number-front x a c q parts.1 number in
@@ -329,7 +311,7 @@ pub border-literal : (before : List ℕ) (x : ℕ) (a : List ℕ) (c : ℕ) (q :
 border-literal before x a c q closed border is =
     let t = x ∷ a ++ c ∷ q in
     let met = border-meets before x a c border in
-    element-cases t (two-white x a c q) (two-other x a c q) is (λ comment. absurd (comment-border x a c q closed met comment))
+    element-cases t (two-bytes x a c q) is (λ comment. absurd (comment-border x a c q closed met comment))
     (λ identifier. absurd (none-fails is_identifier_byte x a c q (identifier-bytes t identifier)
     (met-fails is_identifier_byte refl refl (has_bytes a) (last_byte x a) c met)))
     (λ number. absurd (number-border before x a c q border number)) (λ literal. literal)
@@ -358,9 +340,6 @@ record Borders (c n : ℕ) (a : List ℕ) : Type 0 where
   whole : list_any is_unfinished (elements_from n a) ≡ false
   border : IsAtBorder c before n a
 
-border-passed : (c n x : ℕ) (a : List ℕ) → Borders c (suc n) (x ∷ a) → Borders c n a
-border-passed c n x a b = search rules
-
 border-next : (c x : ℕ) (a : List ℕ) → Borders c 0 (x ∷ a) → Borders c (longest is_element (x ∷ a) - 1) a
 border-next c x a b = record {
   before = take (longest is_element (x ∷ a)) (x ∷ a);
@@ -373,7 +352,7 @@ pub border-elements : (a b : List ℕ) → list_any is_unfinished (elements_from
 border-elements [] b whole border = refl
 border-elements (x ∷ a) [] whole border = search rules
 border-elements (x ∷ a) (c ∷ r) whole border =
-    elements-append c r (Borders c) (border-passed c) (border-next c)
+    elements-append c r (Borders c) (λ n x a b. search rules) (border-next c)
     (λ x a b q rest same. border-longer b.before x a c q b.whole b.border)
     0 (x ∷ a) (omega arith) (record { before = []; whole = whole; border = border })
 

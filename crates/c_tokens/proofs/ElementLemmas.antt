@@ -1,10 +1,9 @@
 -- What is an element, and the elements of a text that is one.
 use Rattle.std.proofs.lemmas.Bool.{and_right}
-use Rattle.std.proofs.Common.{false}
+use Rattle.std.proofs.Common.{false, length}
 use Rattle.std.proofs.Common.{rules}
 use Rattle.std.proofs.Common.{◌≡◌, ℕ, true, List, [], ◌∷◌, ◌++◌, refl, ap, sym, ◌∙◌}
 use Rattle.std.proofs.Common.{append-nil, arith}
-use Rattle.std.specs.List.{list_all}
 use Rattle.std.specs.Prelude.{◌&&◌, ◌||◌, not, ◌==◌}
 use Rattle.std.proofs.lemmas.Bool.{and_parts, or_cases, or_left, or_right}
 use Rattle.std.proofs.lemmas.Bool.{not-true}
@@ -18,7 +17,7 @@ use Rattle.c_tokens.specs.Borders.{last_byte, keep_lines}
 use Rattle.c_tokens.proofs.GrammarLemmas.{all-weaker}
 use Rattle.c_tokens.proofs.NumberLemmas.{separated-names, word-separated}
 use Rattle.std.proofs.lemmas.Bool.{and_from}
-use Rattle.c_tokens.proofs.ReadingLemmas.{no-longer-nothing, elements-front}
+use Rattle.c_tokens.proofs.ReadingLemmas.{elements-front}
 use Rattle.std.proofs.lemmas.Bool.Decides.{nat_tests}
 
 -- what is an element
@@ -35,11 +34,10 @@ pub token-element : (t : List ℕ) → is_token t ≡ true → is_element t ≡ 
 unfolding is_element
 token-element t h = or_right (is_white_character t || is_comment t) (is_token t) h
 
-word-identifier-bytes : (t : List ℕ) → list_all is_word_byte t ≡ true → list_all is_identifier_byte t ≡ true
-word-identifier-bytes = all-weaker is_word_byte is_identifier_byte (λ b. or_left (is_word_byte b) (b == backslash))
-
 word-identifier : (t : List ℕ) → is_plain_word t ≡ true → is_identifier t ≡ true
-word-identifier t h = search (rules, and_parts, and_from, word-identifier-bytes, separated-names, word-separated)
+word-identifier t h =
+    let bytes = all-weaker is_word_byte is_identifier_byte (λ b. or_left (is_word_byte b) (b == backslash)) in
+    search (rules, and_parts, and_from, bytes, separated-names, word-separated)
 
 pub plain-token : (t : List ℕ) → is_plain t ≡ true → is_token t ≡ true
 unfolding is_token
@@ -50,7 +48,8 @@ plain-element t h = token-element t (plain-token t h)
 
 pub one-element : (b : ℕ) (a : List ℕ) → is_element (b ∷ a) ≡ true → elements_from 0 (b ∷ a) ≡ (b ∷ a) ∷ []
 one-element b a h =
-    ap (elements_from 0) (sym (append-nil (b ∷ a))) ∙ elements-front b a [] h (no-longer-nothing is_element (b ∷ a))
+    ap (elements_from 0) (sym (append-nil (b ∷ a))) ∙ elements-front b a [] h
+    (λ c q rest same. absurd (omega (arith, ap length same)))
 
 pub last-append : (x : ℕ) (a : List ℕ) (c : ℕ) (t : List ℕ) → last_byte x (a ++ c ∷ t) ≡ last_byte c t
 last-append x [] c t = refl

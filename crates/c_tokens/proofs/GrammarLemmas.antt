@@ -3,7 +3,7 @@ use Rattle.std.proofs.Common.{rules}
 use Rattle.std.proofs.Common.{arith}
 use Rattle.std.proofs.Common.{◌≡◌, ℕ, Bool, true, false, List, [], ◌∷◌, ◌++◌, codes}
 use Rattle.std.proofs.Common.{refl, ap, ◌∙◌}
-use Rattle.std.specs.Prelude.{◌&&◌, ◌||◌, not, ◌==◌}
+use Rattle.std.specs.Prelude.{◌&&◌, ◌||◌, ◌==◌}
 use Rattle.std.specs.List.{list_any, list_all}
 use Rattle.std.specs.Str.{bytes_eq}
 use Rattle.std.proofs.lemmas.Bool.{and_parts, or_cases, false≢true}
@@ -35,9 +35,6 @@ number-parts t h = search rules
 pub number-from : (t : List ℕ) → begins_number t ≡ true → list_all is_number_byte t ≡ true → signs_follow_exponents t ≡ true →
     apostrophes_separate t ≡ true → has_universal_names t ≡ true → is_number t ≡ true
 number-from t begins bytes signs separate names = search rules
-
-pub number-bytes : (t : List ℕ) → is_number t ≡ true → list_all is_number_byte t ≡ true
-number-bytes t h = (number-parts t h).1
 
 pub number-first : (b : ℕ) (bs : List ℕ) → is_number (b ∷ bs) ≡ true → (is_digit b || b == full_stop) ≡ true
 number-first b bs h = grind (arith, nat_tests)
@@ -79,9 +76,6 @@ has_prefix-weaker f g weaker [] t h = weaker t h
 has_prefix-weaker f g weaker (p ∷ ps) [] h = h
 has_prefix-weaker f g weaker (p ∷ ps) (b ∷ bs) h = grind (arith, nat_tests, has_prefix-weaker f g weaker ps bs)
 
-character-quoted : (t : List ℕ) → is_character t ≡ true → is_quoted apostrophe t ≡ true
-character-quoted t h = (and_parts (is_quoted apostrophe t) (not (bytes_eq t (codes "''"))) h).0
-
 literal : (quote : ℕ) (test : List ℕ → Bool) → is_quote quote ≡ true →
     ((t : List ℕ) → test t ≡ true → is_quoted quote t ≡ true) →
     (prefixes : List (List ℕ)) → list_all (λ p. list_all is_word_byte p && begins_prefix p) prefixes ≡ true → (t : List ℕ) →
@@ -90,7 +84,8 @@ literal quote test is quoted [] all t any = absurd (false≢true any)
 literal quote test is quoted (p ∷ ps) all t any = search (rules, or_cases, and_parts, has_prefix-weaker, literal quote test is quoted ps)
 
 pub literal-from_character : (t : List ℕ) → is_character_constant t ≡ true → IsLiteral t
-literal-from_character t h = literal apostrophe is_character refl character-quoted ([] ∷ codes "u8" ∷ codes "u" ∷ codes "U" ∷ codes "L" ∷ []) refl t h
+literal-from_character t h = literal apostrophe is_character refl (λ t h. (and_parts (is_quoted apostrophe t) _ h).0)
+    ([] ∷ codes "u8" ∷ codes "u" ∷ codes "U" ∷ codes "L" ∷ []) refl t h
 
 pub literal-from_string : (t : List ℕ) → is_string_literal t ≡ true → IsLiteral t
 literal-from_string t h =

@@ -11,26 +11,24 @@ use Rattle.c_tokens.specs.Bytes.{space, double_quote, apostrophe, line_feed, is_
 use Rattle.c_tokens.specs.Grammar.{is_identifier, is_number}
 use Rattle.c_tokens.specs.Grammar.{is_punctuator, is_other_character, is_token}
 use Rattle.c_tokens.specs.Grammar.{ends_once, is_comment, is_white_character, is_element}
-use Rattle.c_tokens.specs.Borders.{is_plain_byte, last_byte}
-use Rattle.c_tokens.proofs.GrammarLemmas.{punctuator-is}
+use Rattle.c_tokens.specs.Borders.{last_byte}
 use Rattle.c_tokens.proofs.GrammarLemmas.{IsLiteral, literal-from_character, literal-from_string}
 use Rattle.std.proofs.lemmas.Bool.Decides.{nat_tests}
 
+-- a text of two bytes or more
+abbrev pub AreSeveral : List ℕ → Type 0
+AreSeveral t = (is_white_character t ≡ false) × (is_other_character t ≡ false)
+
+pub two-bytes : (x : ℕ) (a : List ℕ) (b : ℕ) (q : List ℕ) → AreSeveral (x ∷ a ++ b ∷ q)
+two-bytes x [] b q = (refl, refl)
+two-bytes x (y ∷ a) b q = (refl, refl)
+
 -- what an element of two bytes or more is
-pub element-cases : {P : Type 0} (t : List ℕ) → is_white_character t ≡ false → is_other_character t ≡ false →
-    is_element t ≡ true → (is_comment t ≡ true → P) → (is_identifier t ≡ true → P) → (is_number t ≡ true → P) →
-    (IsLiteral t → P) → (is_punctuator t ≡ true → P) → P
+pub element-cases : {P : Type 0} (t : List ℕ) → AreSeveral t → is_element t ≡ true → (is_comment t ≡ true → P)
+    → (is_identifier t ≡ true → P) → (is_number t ≡ true → P) → (IsLiteral t → P) → (is_punctuator t ≡ true → P) → P
 unfolding is_element is_token
-element-cases t white other h comment identifier number literal punctuator =
+element-cases t several h comment identifier number literal punctuator =
     search (rules, or_cases, both_ways, literal-from_character, literal-from_string)
-
-pub two-white : (x : ℕ) (a : List ℕ) (b : ℕ) (q : List ℕ) → is_white_character (x ∷ a ++ b ∷ q) ≡ false
-two-white x [] b q = refl
-two-white x (y ∷ a) b q = refl
-
-pub two-other : (x : ℕ) (a : List ℕ) (b : ℕ) (q : List ℕ) → is_other_character (x ∷ a ++ b ∷ q) ≡ false
-two-other x [] b q = refl
-two-other x (y ∷ a) b q = refl
 
 pub all-last : (test : ℕ → Bool) (a : List ℕ) (b : ℕ) (q : List ℕ) → list_all test (a ++ b ∷ q) ≡ true → test b ≡ true
 all-last test a b q h = grind (arith, nat_tests, list_all-append test a (b ∷ q))
@@ -56,10 +54,6 @@ listed-not test (c ∷ bs) none b any = grind (arith, nat_tests, listed-not test
 
 pub quote-not : (test : ℕ → Bool) → test double_quote ≡ false → test apostrophe ≡ false → (b : ℕ) → is_quote b ≡ true → test b ≡ false
 quote-not test double single b h = grind (arith, nat_tests)
-
--- no punctuator has a word byte or a quote
-pub punctuator-bytes : (t : List ℕ) → is_punctuator t ≡ true → list_all (λ b. not (is_plain_byte b)) t ≡ true
-punctuator-bytes t h = punctuator-is (list_all (λ b. not (is_plain_byte b))) refl t h
 
 -- comments
 

@@ -14,9 +14,6 @@ use Rattle.std.proofs.lemmas.Bool.Decides.{nat_tests}
 abbrev pub is_separated_byte : ℕ → Bool
 is_separated_byte b = is_word_byte b || b == apostrophe
 
-separated-byte : (b : ℕ) → is_separated_byte b ≡ true → is_number_byte b ≡ true
-separated-byte b h = grind (arith, nat_tests)
-
 separated-unsigned : (b : ℕ) → is_separated_byte b ≡ true → not (is_sign b) ≡ true
 separated-unsigned b h = grind (arith, nat_tests)
 
@@ -36,7 +33,8 @@ digit-begins b (c ∷ a) h = grind (arith, nat_tests)
 pub separated-number : (b : ℕ) (a : List ℕ) → is_digit b ≡ true → list_all is_separated_byte (b ∷ a) ≡ true →
     apostrophes_separate (b ∷ a) ≡ true → is_number (b ∷ a) ≡ true
 separated-number b a digit all separate =
-    search (rules, number-from, digit-begins, all-weaker is_separated_byte is_number_byte separated-byte, separated-signs, separated-names)
+    let bytes = all-weaker is_separated_byte is_number_byte (λ b h. grind (arith, nat_tests)) (b ∷ a) all in
+    search (rules, number-from, digit-begins, bytes, separated-signs, separated-names)
 
 -- a word has no apostrophes
 

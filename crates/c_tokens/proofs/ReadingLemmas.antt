@@ -13,9 +13,6 @@ use Rattle.std.proofs.lemmas.Bool.Decides.{nat_tests}
 abbrev pub NoLonger : (List ℕ → Bool) → List ℕ → List ℕ → Type 0
 NoLonger test a b = (c : ℕ) (q rest : List ℕ) → b ≡ c ∷ q ++ rest → test (a ++ c ∷ q) ≡ false
 
-pub no-longer-nothing : (test : List ℕ → Bool) (a : List ℕ) → NoLonger test a []
-no-longer-nothing test a c q rest same = absurd (omega (arith, ap length same))
-
 abbrev pub counted : (List ℕ → Bool) → ℕ → ℕ → ℕ
 counted test b more = if nat_lt 0 more then more + 1 else if test (b ∷ []) then 1 else 0
 

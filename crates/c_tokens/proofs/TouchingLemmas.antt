@@ -1,7 +1,7 @@
 -- The tokens of two texts that may touch.
 use Rattle.std.proofs.Common.{rules}
 use Rattle.std.proofs.Common.{◌≡◌, ℕ, Bool, true, false, List, [], ◌∷◌, ◌++◌, refl, ap, sym, ◌∙◌}
-use Rattle.std.proofs.Common.{◌⊎◌, inl, inr, arith, length}
+use Rattle.std.proofs.Common.{inl, inr, arith, length}
 use Rattle.std.specs.Prelude.{◌&&◌, ◌||◌, not, ◌==◌}
 use Rattle.std.specs.List.{list_any, list_all}
 use Rattle.std.proofs.lemmas.Bool.{and_parts, or_cases, or_left, or_right}
@@ -120,12 +120,7 @@ plain-apart : (a : List ℕ) (s : ℕ) → is_plain (spliced a) ≡ true → (is
 plain-apart a s plain h border =
     border-apart a (s ∷ []) (plain-whole (spliced a) plain) (keep-other a s [] (sign-not (λ b. b == line_feed) refl refl s h)) border
 
-touching-apart : (k g : TextKind) (a b : List ℕ) → IsOfKind k a → IsOfKind g b → kinds_may_touch k g ≡ true →
-    (are_apart a b ≡ true) ⊎ (tokens (a ++ b) ≡ tokens a ++ tokens b)
-touching-apart k g a b of_a of_b may =
-    search (rules, or_left, or_right, other-separator, sign-apart, separator-before, separator-next, operator-before, plain-border, plain-apart)
-
 pub touching-tokens : (k g : TextKind) (a b : List ℕ) → IsOfKind k a → IsOfKind g b → kinds_may_touch k g ≡ true →
     tokens (a ++ b) ≡ tokens a ++ tokens b
 touching-tokens k g a b of_a of_b may =
-    elim (touching-apart k g a b of_a of_b may) [ inl apart ↦ apart-tokens a b apart | inr same ↦ same ]
+    search (rules, or_left, or_right, other-separator, apart-tokens, sign-apart, separator-before, separator-next, operator-before, plain-border, plain-apart)

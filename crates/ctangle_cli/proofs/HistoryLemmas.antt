@@ -7,11 +7,12 @@ use Rattle.tangle_script.specs.Requests.{Command, Request, request_of}
 use Rattle.tangle_script.specs.Endings.{ConversationEnds}
 use Rattle.tangle_script.specs.Endings.ConversationEnds.{IsAtQuit, IsAtInputEnd, IsUnread, IsTooLong, IsUnwritten}
 use Rattle.tangle_script.specs.Endings.ConversationEnds.{IsOutOfMemory as IsShortOfMemory}
-use Rattle.tangle_script.specs.Script.{AreAnswered, Conversation, Dialogue, Exchange, IsCut, Replies}
+use Rattle.tangle_script.specs.Script.{AreAnswered, Conversation, Dialogue, Exchange, IsCut, IsAnswer}
 use Rattle.tangle_session.specs.Headline.{Call, History, Started, Answered, IsStarted}
 use Rattle.tangle_session.specs.Sessions.{SessionRead}
 use Rattle.ctangle_cli.specs.Conversation.{HasError, HistoryFrom, SessionAndDraft, answers}
-use Rattle.ctangle_cli.specs.Conversation.{calls_of, calls_of_answer}
+use Rattle.ctangle_cli.specs.Conversation.{calls_of, calls_of_answer, calls_of_answers}
+use Rattle.ctangle_cli.specs.Conversation.{calls_of_conversation, calls_until_cut}
 
 module _ (files : FileTable) (roles : RolesRead) where
   -- calls that are answered go on with a history
@@ -24,7 +25,7 @@ module _ (files : FileTable) (roles : RolesRead) where
       (and_then (calls ++ call ∷ []) more made.0 t (Answered s call history made.1) made.2)
 
   replied : (calls : List Call) (s t : SessionAndDraft) (request : Request) (output : List ℕ)
-      → History files roles calls s.session → (reply : Replies answers s request output t)
+      → History files roles calls s.session → (reply : IsAnswer answers s request output t)
       → History files roles (calls ++ calls_of_answer reply) t.session
   replied calls s t request output history (inl a) = and_then calls a.0 s.session t.session history a.2
   replied calls s t request output history (inr short) = rw (short.2, append-nil calls) history
@@ -39,44 +40,38 @@ module _ (files : FileTable) (roles : RolesRead) where
       (append_assoc calls (calls_of_answer d.3) (calls_of d.2 t commands d.1 d.4))
       (goes_on (calls ++ calls_of_answer d.3) d.2 t commands d.1 first d.4)
 
-  -- so do the commands of a whole conversation
+  -- so do the answers of a whole conversation
   module _ (calls : List Call) where
-    abbrev Extends : Exchange SessionAndDraft → Type 0
-    Extends s = (more : List Call) × History files roles (calls ++ more) s.state.session
+    all : {old new : Exchange SessionAndDraft} {commands : List Command} → History files roles calls old.state.session
+        → (a : AreAnswered answers old new commands)
+        → History files roles (calls ++ calls_of_answers a) new.state.session
+    all {old} {new} {commands} history a = goes_on calls old.state new.state commands a.output history a.answered
 
-    later : (t : SessionRead) (first rest : List Call) → History files roles ((calls ++ first) ++ rest) t
-        → (more : List Call) × History files roles (calls ++ more) t
-    later t first rest history =
-        (first ++ rest, subst (λ cs. History files roles cs t) (append_assoc calls first rest) history)
+    cut : {old new : Exchange SessionAndDraft} {commands : List Command} → History files roles calls old.state.session
+        → (is : IsCut answers old new commands)
+        → History files roles (calls ++ calls_until_cut is) new.state.session
+    cut {old} {new} history is =
+        let front = calls_of_answers is.goes_on.is_answered in
+        subst (λ cs. History files roles cs new.state.session)
+        (append_assoc calls front (calls_of_answer is.at_last.1))
+        (replied (calls ++ front) is.before.state new.state (request_of is.last) is.at_last.0
+        (all history is.goes_on.is_answered) is.at_last.1)
 
-    all : (old new : Exchange SessionAndDraft) (commands : List Command) → Extends old
-        → AreAnswered answers old new commands → Extends new
-    all old new commands so_far a =
-        later new.state.session so_far.0 (calls_of old.state new.state commands a.output a.answered)
-        (goes_on (calls ++ so_far.0) old.state new.state commands a.output so_far.1 a.answered)
-
-    cut : (old new : Exchange SessionAndDraft) (commands : List Command) → Extends old
-        → IsCut answers old new commands → Extends new
-    cut old new commands so_far is =
-        let front = all old is.before is.front so_far is.is_answered in
-        later new.state.session front.0 (calls_of_answer is.at_last.1)
-        (replied (calls ++ front.0) is.before.state new.state (request_of is.last) is.at_last.0 front.1 is.at_last.1)
-
-    pub ends_go_on : (old new : Conversation SessionAndDraft) (status : ℕ)
-        → ConversationEnds answers HasError old new status → History files roles calls old.exchange.state.session
-        → (more : List Call) × History files roles (calls ++ more) new.exchange.state.session
-    ends_go_on old new status ends history = by ends ([], rw (append-nil calls) history)
-      where
-        by : ConversationEnds answers HasError old new status → Extends old.exchange → Extends new.exchange
-        by (IsAtQuit read are quit is) start =
-            all quit.before new.exchange (quit.last ∷ []) (all old.exchange quit.before quit.front start quit.is_answered)
-            quit.at_last.1
-        by (IsAtInputEnd read are end none answered is) start = all old.exchange new.exchange _ start answered
-        by (IsUnread read given within failed ended is) start = all old.exchange new.exchange _ start ended.is_answered
-        by (IsTooLong read more given long calm ended is) start = all old.exchange new.exchange _ start ended.is_answered
-        by (IsUnwritten read are (inl now) is) start = cut old.exchange new.exchange _ start now
-        by (IsUnwritten read are (inr last) is) start = cut old.exchange new.exchange _ start last.2
-        by (IsShortOfMemory read are long ended is) start = all old.exchange new.exchange _ start ended.is_answered
+  pub ends_go_on : (calls : List Call) {old new : Conversation SessionAndDraft} {status : ℕ}
+      → History files roles calls old.exchange.state.session
+      → (ends : ConversationEnds answers HasError old new status)
+      → History files roles (calls ++ calls_of_conversation ends) new.exchange.state.session
+  ends_go_on calls {new = new} history (IsAtQuit read are quit is) =
+      let front = calls_of_answers quit.goes_on.is_answered in
+      subst (λ cs. History files roles cs new.exchange.state.session)
+      (append_assoc calls front (calls_of_answers quit.at_last.1))
+      (all (calls ++ front) (all calls history quit.goes_on.is_answered) quit.at_last.1)
+  ends_go_on calls history (IsAtInputEnd read are end on answered is) = all calls history answered
+  ends_go_on calls history (IsUnread read given within failed on is) = all calls history on.is_answered
+  ends_go_on calls history (IsTooLong read more given long calm on is) = all calls history on.is_answered
+  ends_go_on calls history (IsUnwritten read are (inl now) is) = cut calls history now
+  ends_go_on calls history (IsUnwritten read are (inr last) is) = cut calls history last.2
+  ends_go_on calls history (IsShortOfMemory read are long on is) = all calls history on.is_answered
 
 -- a session that is started is a history of its own files
 pub from_start : (files : FileTable) (roles : RolesRead) (session : SessionRead) → IsStarted files roles session

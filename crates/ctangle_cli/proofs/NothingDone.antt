@@ -1,21 +1,23 @@
 -- A run that leaves the error stream as it was does not end with status 3: each such ending writes
 -- some bytes, or the stream fails.
 use Rattle.std.proofs.Common.{rules}
-use Rattle.std.proofs.lemmas.Bool.Decides.{nat_tests}
 use Rattle.std.proofs.Common.{◌≡◌, ◌⊎◌, inl, inr, Option, None, Some, ℕ, ◌<◌, ◌-◌, ◌^◌, take, List, []}
-use Rattle.std.proofs.Common.{◌∷◌, ◌++◌, ap, append-nil, codes, length, length-append, arith, refl, subst, sym}
+use Rattle.std.proofs.Common.{◌++◌, ap, append-nil, codes, length, length-append, arith, refl, subst, sym}
 use Rattle.std.proofs.lemmas.Bool.{false≢true}
 use Rattle.std.specs.Prelude.{IsSome}
 use Rattle.std.specs.Io.KnownBytes.{Appends}
 use Rattle.tangle_streams.specs.Streams.{Stream, Failed, TakesAll, TakesPrefix}
-use Rattle.tangle_faults.specs.Faults.{FaultRead}
+use Rattle.std.specs.List.{list_any}
+use Rattle.tangle_script.proofs.FailureLemmas.{small}
+use Rattle.tangle_faults.specs.Faults.{FaultRead, is_error}
 use Rattle.tangle_files.specs.Roles.{RolesRead}
 use Rattle.tangle_folders.specs.Folder.{File, FolderRead}
 use Rattle.tangle_folders.specs.declared.folder.FolderFault.{FolderFault}
 use Rattle.ctangle_cli.specs.Arguments.{names_by_arguments}
 use Rattle.tangle_loading.specs.Loading.{LoadEnd}
 use Rattle.tangle_loading.specs.Loading.LoadEnd.{NoMemory as LoadMemory}
-use Rattle.ctangle_cli.specs.Messages.{ending_line, faults_status, unwritten_line, usage_line}
+use Rattle.tangle_session.specs.Headline.{output_files}
+use Rattle.ctangle_cli.specs.Messages.{ending_line, unwritten_line, usage_line}
 use Rattle.ctangle_cli.specs.Run.{EndsUnstarted, Moment, RunEnds, TangledEnds, TriesToWrite, moment}
 use Rattle.ctangle_cli.specs.Run.EndsUnstarted.{IsMisused, IsCutAtUsage, IsUnnamed, IsUnloaded}
 use Rattle.ctangle_cli.specs.Run.RunEnds.{IsUnstarted, IsTangled}
@@ -30,10 +32,6 @@ ending_some ending = search rules
 keeps : (taken : Option (List ℕ)) → Appends taken taken []
 keeps None = search rules
 keeps (Some xs) = sym (append-nil xs)
-
-small_status : (fs : List FaultRead) → faults_status fs < 3
-small_status [] = omega arith
-small_status (f ∷ fs) = grind (arith, nat_tests, small_status fs)
 
 module _ (same : Moment) (known : IsSome same.stream.taken) (few : same.stream.failures < 2 ^ 64 - 1) where
   no_failure : Failed same.stream.failures same.stream.failures → ⊥
@@ -64,7 +62,7 @@ module _ (same : Moment) (known : IsSome same.stream.taken) (few : same.stream.f
 
   tangled_not_3 : (outputs : List File) (faults : List FaultRead) (folder : FolderRead)
       → TangledEnds outputs faults (moment folder same.stream) same 3 → ⊥
-  tangled_not_3 outputs faults folder (IsDone reported created unfailed status) = let h = small_status faults in omega arith
+  tangled_not_3 outputs faults folder (IsDone reported created unfailed status) = let h = small (list_any is_error faults) in omega arith
   tangled_not_3 outputs faults folder (IsCutAtFaults reported created status) = no_failure reported.3
   tangled_not_3 outputs faults folder (IsUnwritten stop status) =
       search (rules, silent_after, stop_some)
@@ -79,5 +77,6 @@ module _ (same : Moment) (known : IsSome same.stream.taken) (few : same.stream.f
   pub run_not_3 : (arguments : List (List ℕ)) → RunEnds arguments same same 3 → ⊥
   run_not_3 arguments (IsUnstarted ends) = unstarted_not_3 usage_line (names_by_arguments arguments) ends
   run_not_3 arguments (IsTangled roles started session is starts ends read) =
-      tangled_not_3 ends.outputs ends.faults started.folder
-      (subst (λ s. TangledEnds ends.outputs ends.faults (moment started.folder s) same 3) starts.unwritten ends.ends)
+      tangled_not_3 _ ends.faults started.folder (subst
+      (λ s. TangledEnds (output_files session.files session.roles) ends.faults (moment started.folder s) same 3)
+      starts.unwritten ends.ends)

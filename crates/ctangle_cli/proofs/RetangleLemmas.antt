@@ -12,7 +12,7 @@ use Rattle.std.specs.Prelude.{Option, None, if◌then◌else◌}
 use Rattle.clap.specs.Walk.{is_empty}
 use Rattle.tangle_files.specs.Roles.{RolesRead}
 use Rattle.ctangle_cli.specs.RetangleArguments.{retangle_app, retangle_names_of}
-use Rattle.clap.specs.Words.{HasKind, IsAmong, Kinds, fault_of, is_simple_and_free, kind_of, takes}
+use Rattle.clap.specs.Words.{HasKind, IsAmong, Kinds, fault_of, is_simple_and_free, kind_of}
 use Rattle.clap.specs.declared.error.Error.{Error}
 use Rattle.clap.specs.declared.error.kind.ErrorKind.TheVariants.{OutOfMemory}
 use Rattle.clap.specs.declared.builder.arg.Arg.{Arg}
@@ -49,10 +49,6 @@ pub value_is : (c : Command) (a : App) (m : ArgMatches) (arguments : List Text) 
     → app_of c ≡ a → is_simple a ≡ true → HasMatchesOf (app_of c) arguments m
     → first_of id (matches_of a arguments) ≡ first_value (found_of m) id
 value_is c a m arguments id app simple has = search (rules, first_value-rows)
-
-pub takes_is : (c : Command) (a : App) (arguments : List Text)
-    → app_of c ≡ a → takes a arguments ≡ true → takes (app_of c) arguments ≡ true
-takes_is c a arguments app accepted = ap (λ x. takes x arguments) app ∙ accepted
 
 -- a simple command that gives matches has no fault, and one that gives another error than out of memory has one
 module _ (c : Command) (a : App) (arguments : List Text) (app : app_of c ≡ a) (free : is_simple_and_free a ≡ true) where

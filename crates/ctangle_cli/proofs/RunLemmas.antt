@@ -1,8 +1,8 @@
 -- Several writes on a stream, one after another.
 use Rattle.std.proofs.Common.{rules}
 use Rattle.std.proofs.Common.{◌≡◌, ◌∙◌, ◌⊎◌, ℕ, ◌+◌, ◌<◌, List, [], ◌∷◌, ◌++◌, Result, Ok, Err, ap}
-use Rattle.std.proofs.Common.{subst, sym, refl, length, take, length-append, arith, append_assoc, append-nil}
-use Rattle.std.proofs.Common.{◌≢◌, ◌^◌, get_or, drop}
+use Rattle.std.proofs.Common.{subst, sym, length, take, length-append, arith, append_assoc, append-nil}
+use Rattle.std.proofs.Common.{◌^◌, get_or, drop}
 use Rattle.std.proofs.lemmas.List.{take-append-le, take-append-drop}
 use Rattle.tangle_streams.proofs.StreamLemmas.{Appends-append}
 use Rattle.tangle_streams.specs.Streams.{Stream, Failed, IsWritten, IsWrittenAfter, TakesAll, TakesPrefix}
@@ -11,18 +11,6 @@ use Rattle.std.proofs.Math.Seq.{take-append-add}
 use Rattle.std.specs.List.{fold}
 use Rattle.std.proofs.lemmas.List.Sums.{fold-append, fold_more}
 use Rattle.tangle_script.specs.Script.{WritesAnswer}
-use Rattle.tangle_faults.specs.Faults.{FaultRead}
-use Rattle.tangle_folders.specs.declared.folder.FolderFault.{FolderFault}
-use Rattle.tangle_folders.specs.declared.folder.FolderFault.TheVariants.{NoMemory}
-use Rattle.tangle_files.specs.Lines.{FileTable}
-use Rattle.tangle_files.specs.Roles.{RolesRead}
-use Rattle.tangle_folders.specs.Folder.{File, FolderRead}
-use Rattle.tangle_loading.specs.Loading.LoadEnd.{NoMemory as LoadMemory}
-use Rattle.tangle_loading.specs.Endings.{LoadGives}
-use Rattle.tangle_loading.specs.Endings.EndsEarly.{IsShort}
-use Rattle.ctangle_cli.specs.Run.{Moment, StopsAt, TangledEnds}
-use Rattle.ctangle_cli.specs.Run.TangledEnds.{IsUnwritten}
-use Rattle.ctangle_cli.specs.Messages.{fault_lines, unwritten_line}
 
 pub whole_then_whole : (a b c : Stream) (xs ys : List ℕ) → TakesAll a b xs → TakesAll b c ys → TakesAll a c (xs ++ ys)
 whole_then_whole a b c xs ys p q = (Appends-append a.taken b.taken c.taken xs ys p.0 q.0, q.1 ∙ p.1)
@@ -100,31 +88,3 @@ pub answer_then : {T E : Type 0} (a b c : Stream) (xs ys : List ℕ) (r : Result
     → TakesAll a b xs → WritesAnswer b c ys r → WritesAnswer a c (xs ++ ys) r
 answer_then a b c xs ys (Ok x) p q = whole_then_whole a b c xs ys p q
 answer_then a b c xs ys (Err e) p q = whole_then_cut a b c xs ys p q
-
--- memory may run out once all files are loaded
-pub short_after_loading : (roles : RolesRead) (old new : FolderRead) (files : FileTable)
-    → LoadGives roles old new (Ok files) → LoadGives roles old new (Err LoadMemory)
-short_after_loading roles old new files loads = record {
-  contents = loads.contents;
-  are_its = loads.are_its;
-  gives = IsShort _ [] (sym (append-nil _)) loads.gives.1 refl;
-}
-
--- writing stopped because memory ran out, or because the folder failed
-pub tangled_stops : (outputs : List File) (faults : List FaultRead) (old new : Moment) (mid : Stream)
-    (name : List ℕ) (fault : FolderFault) (r : Result ℕ WriteFault)
-    → StopsAt outputs old.folder.created new.folder.created name fault
-    → (fault ≢ NoMemory → Failed old.folder.failures new.folder.failures)
-    → (fault ≡ NoMemory → new.folder.failures ≡ old.folder.failures) → TakesAll old.stream mid (fault_lines faults)
-    → IsWritten mid new.stream (unwritten_line fault name) r
-    → TangledEnds outputs faults old new 3
-tangled_stops outputs faults old new mid name fault r stops why calm reported put = IsUnwritten (record {
-  name = name;
-  stops = stops;
-  fault = fault;
-  why = why;
-  no_failure = calm;
-  between = mid;
-  faults_reported = reported;
-  output_reported = tries_from mid new.stream r (unwritten_line fault name) put;
-}) refl

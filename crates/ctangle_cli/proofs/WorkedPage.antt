@@ -1,6 +1,6 @@
 -- A worked page: a web of 21 lines, its output files, and what a C compiler reads of each, typed from the rules and the
 -- standard. Each token is at the line on which its author wrote it, whichever of two regions the compiler reads.
-use Rattle.std.proofs.Common.{◌≡◌, ℕ, Bool, true, false, List, [], ◌∷◌, ◌++◌, map, codes, refl, ap, sym, subst, ◌∙◌}
+use Rattle.std.proofs.Common.{◌≡◌, ℕ, Bool, true, false, List, [], ◌∷◌, ◌++◌, map, codes, refl, sym, subst}
 use Rattle.std.specs.Prelude.{◌&&◌, decimal, filter, not, None}
 use Rattle.std.specs.Str.{bytes_eq}
 use Rattle.std.specs.List.{join_with_byte}
@@ -10,7 +10,7 @@ use Rattle.c_tokens.specs.Grammar.{is_element, is_token, is_punctuator}
 use Rattle.c_lines.specs.Counting.{LineOfTokens, lines_from, reads, start_of_text}
 use Rattle.c_tokens.specs.Borders.{is_whole}
 use Rattle.c_lines.proofs.LineLemmas.{each-line}
-use Rattle.c_lines.specs.JoinedLines.{joined_lines, lines_of_each}
+use Rattle.c_lines.specs.JoinedLines.{lines_of_each}
 use Rattle.std.specs.List.{AllByRecursion}
 use Rattle.std.proofs.Common.{rules}
 use Rattle.tangle_files.specs.Lines.{cut}
@@ -54,13 +54,6 @@ program_lines =
 abbrev header_lines : List (List ℕ)
 header_lines =
     codes "/*3:*/" ∷ codes "#line 20 \"a.w\"" ∷ [] ∷ codes "extern int n;" ∷ codes "/*:3*/" ∷ [] ∷ []
-
-record AreLines : Type 0 where
-  pub program : joined_lines [] program ≡ program_lines
-  pub header : joined_lines [] header ≡ header_lines
-
-are_lines : AreLines
-are_lines = record { program = refl; header = refl }
 
 abbrev AreWhole : List (List ℕ) → Type 0
 AreWhole lines = AllByRecursion (λ line. is_whole line ≡ true) lines
@@ -106,19 +99,9 @@ reads_of_lines : Reads (lines_of_each start_of_text program_lines) (lines_of_eac
 unfolding is_element is_token is_punctuator digits
 reads_of_lines = record { both = refl; debug = refl; other = refl; of_header = refl }
 
--- each line is read by itself, since no comment and no quoted text goes over its end
-program_read : lines_from start_of_text program ≡ lines_of_each start_of_text program_lines
-program_read =
-    each-line start_of_text program (subst AreWhole (sym are_lines.program) program_whole)
-    ∙ ap (lines_of_each start_of_text) are_lines.program
-
-header_read : lines_from start_of_text header ≡ lines_of_each start_of_text header_lines
-header_read =
-    each-line start_of_text header (subst AreWhole (sym are_lines.header) header_whole)
-    ∙ ap (lines_of_each start_of_text) are_lines.header
-
--- `c_reads` reads the lines of the bytes
+-- `c_reads` reads the lines of the bytes, each by itself, since no comment and no quoted text goes over its end
 worked : Reads (lines_from start_of_text program) (lines_from start_of_text header)
 worked =
-    subst (λ (both : List LineOfTokens × List LineOfTokens). Reads both.0 both.1) (λ i. (sym program_read i, sym header_read i))
+    subst (λ (both : List LineOfTokens × List LineOfTokens). Reads both.0 both.1)
+    (λ i. (sym (each-line start_of_text program program_whole) i, sym (each-line start_of_text header header_whole) i))
     reads_of_lines

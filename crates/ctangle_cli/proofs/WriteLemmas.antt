@@ -7,12 +7,14 @@ use Rattle.std.proofs.Common.{take, zero, suc, Result, Ok, Err, OnOk, OnErr}
 use Rattle.std.specs.Io.KnownBytes.{Appends}
 use Rattle.tangle_folders.specs.declared.folder.FolderFault.{FolderFault}
 use Rattle.tangle_folders.specs.Folder.{Begins, Closes, ClosesWithin, File, with_created, with_last}
-use Rattle.std.specs.Prelude.{Bool, true, false, cond, map, unwrap_or, IsSome}
-use Rattle.std.specs.List.{AllByRecursion, IsDistinct}
+use Rattle.std.specs.Prelude.{map, unwrap_or, IsSome}
+use Rattle.std.specs.List.{IsDistinct}
 use Rattle.std.specs.Map.{lookup}
 use Rattle.std.specs.Str.{bytes_eq}
-use Rattle.std.proofs.Common.{◌≢◌, sym}
-use Rattle.std.proofs.lemmas.Map.Keys.{IsDistinct-head, IsDistinct-tail}
+use Rattle.std.proofs.Common.{subst, sym}
+use Rattle.std.proofs.lemmas.Cmp.{nat_list_eq_equiv}
+use Rattle.std.proofs.lemmas.List.Elements.{Contains-append_right}
+use Rattle.std.proofs.lemmas.Map.Views.{lookup-from_Contains}
 use Rattle.tangle_streams.specs.Streams.{Stream}
 use Rattle.tangle_files.specs.declared.refusal.Refusal.{Refusal}
 use Rattle.tangle_files.specs.declared.refusal.Refusal.TheVariants as refusal
@@ -82,30 +84,11 @@ pub record HasWritten (outputs : List File) (old new : Option (List File)) (name
   pub created : new ≡ with_created old done
   pub names_are : names ≡ map (λ f. f.0) others
 
--- the output of the next name is the first of the remaining outputs
-lookup_here : (done others : List File) (f : File)
-    → IsDistinct bytes_eq (map (λ f. f.0) (done ++ f ∷ others)) → lookup (bytes_eq f.0) (done ++ f ∷ others) ≡ Some f.1
-lookup_here [] others f distinct =
-    search rules
-lookup_here (g ∷ done) others f distinct =
-    let apart : bytes_eq f.0 g.0 ≡ false =
-    other done (IsDistinct-head bytes_eq g.0 (map (λ f. f.0) (done ++ f ∷ others)) distinct) in
-    ap (λ b. cond b (Some g.1) (lookup (bytes_eq f.0) (done ++ f ∷ others))) apart
-    ∙ lookup_here done others f (IsDistinct-tail bytes_eq g.0 (map (λ f. f.0) (done ++ f ∷ others)) distinct)
-  where
-    turned : (b c : Bool) → bytes_eq g.0 f.0 ≡ b → bytes_eq f.0 g.0 ≡ c → b ≡ false → c ≡ false
-    turned b false p q e = search rules
-    turned b true p q e = search rules
-
-    other : (xs : List File)
-        → AllByRecursion (λ y. bytes_eq g.0 y ≡ false) (map (λ f. f.0) (xs ++ f ∷ others)) → bytes_eq f.0 g.0 ≡ false
-    other [] h = search rules
-    other (x ∷ xs) h = cc (other xs h.1)
-
 -- the output of this name
 abbrev pub named : List File → List ℕ → File
 named outputs name = (name, unwrap_or (lookup (bytes_eq name) outputs) [])
 
+-- the others begin with the output of this name
 pub record IsNext (outputs : List File) (old new : Option (List File))
     (name : List ℕ) (names : List (List ℕ)) : Type 0 where
   pub done : List File
@@ -128,8 +111,8 @@ next_output outputs old new before name names is distinct h = by h.others (sym i
     by (f ∷ others) e all =
         let same : name ≡ f.0 = cc in
         let found : lookup (bytes_eq name) outputs ≡ Some f.1 =
-        ap (λ k. lookup (bytes_eq k) outputs) same
-        ∙ (search (rules, lookup_here)) in
+        lookup-from_Contains nat_list_eq_equiv name f.1 outputs distinct (rw (all, same)
+        (Contains-append_right h.done (f ∷ others) f (0, omega arith, refl))) in
         search rules
 
 pub wrote_next : (outputs : List File) (old mid new : Option (List File)) (name : List ℕ) (names : List (List ℕ))
@@ -139,25 +122,16 @@ pub wrote_next : (outputs : List File) (old mid new : Option (List File)) (name 
 wrote_next outputs old mid new name names next is = search (rules, append_assoc, with_created-append)
 
 -- writing stopped at the next output, because memory ran out or the folder failed
-stops_without : (outputs : List File) (old mid new : Option (List File))
-    (name : List ℕ) (names : List (List ℕ)) (fault : FolderFault)
-    → IsNext outputs old mid name names
-    → new ≡ mid → StopsAt outputs old new name fault
-stops_without outputs old mid new name names fault next nothing = search rules
-
-stops_with : (outputs : List File) (old mid new : Option (List File))
-    (name : List ℕ) (names : List (List ℕ)) (fault : FolderFault)
-    → IsNext outputs old mid name names
-    → AddsPrefix mid new (named outputs name) → fault ≢ NoMemory
-    → StopsAt outputs old new name fault
-stops_with outputs old mid new name names fault next added failed = search (rules, with_created-append)
-
 pub stops_at_next : (outputs : List File) (old mid new : Option (List File))
     (name : List ℕ) (names : List (List ℕ)) (fault : FolderFault)
     → IsNext outputs old mid name names
     → AddsPrefix mid new (named outputs name) → (fault ≡ NoMemory → new ≡ mid)
     → StopsAt outputs old new name fault
-stops_at_next outputs old mid new name names NoMemory next added nothing =
-    search rules
-stops_at_next outputs old mid new name names fault next added nothing =
-    grind (arith, nat_tests, stops_with outputs old mid new name names fault next added)
+stops_at_next outputs old mid new name names fault next added nothing = record {
+  before = next.done;
+  bytes = unwrap_or (lookup (bytes_eq name) outputs) [];
+  after = next.others;
+  split = next.all;
+  created = subst (λ files. AddsPrefix files new (named outputs name)) next.created added;
+  no_prefix = λ short. nothing short ∙ next.created;
+}

@@ -19,7 +19,11 @@ use Rattle.tangle_script.specs.Requests.{Command, Request, is_edit}
 use Rattle.tangle_script.specs.Requests.Request.{Insert, Replace, Remove, Create, Discard}
 use Rattle.tangle_script.specs.Requests.Request.{Show, MarksFull, MarksNone, Begin, Commit, Cancel}
 use Rattle.tangle_script.specs.Requests.Request.{Faults, Work, Quit}
-use Rattle.tangle_script.specs.Script.{Dialogue, Replies}
+use Rattle.tangle_script.specs.Script.{AreAnswered, Conversation, Dialogue, Exchange, IsAnswer}
+use Rattle.tangle_script.specs.Script.{IsCut}
+use Rattle.tangle_script.specs.Endings.{ConversationEnds}
+use Rattle.tangle_script.specs.Endings.ConversationEnds.{IsAtQuit, IsAtInputEnd, IsUnread}
+use Rattle.tangle_script.specs.Endings.ConversationEnds.{IsTooLong, IsUnwritten, IsOutOfMemory}
 use Rattle.tangle_session.specs.Headline.{Call, Apply, ApplyAll, IsAnswered, IsPlainTangling}
 use Rattle.tangle_session.specs.Headline.{output_at, output_files}
 use Rattle.tangle_session.specs.Sessions.{SessionRead}
@@ -156,7 +160,7 @@ answers s request output t =
 
 -- the calls of the answer to a request: none where memory ran out for an edit
 abbrev pub calls_of_answer : {s t : SessionAndDraft} {request : Request} {output : List ℕ}
-    → Replies answers s request output t → List Call
+    → IsAnswer answers s request output t → List Call
 calls_of_answer (inl answered) = answered.0
 calls_of_answer (inr short) = []
 
@@ -167,6 +171,18 @@ calls_of s t [] output dialogue = []
 calls_of s t (command ∷ commands) output dialogue =
     calls_of_answer dialogue.3 ++ calls_of dialogue.2 t commands dialogue.1 dialogue.4
 
+-- the calls of the answers that were written
+abbrev pub calls_of_answers : {old new : Exchange SessionAndDraft} {commands : List Command}
+    → AreAnswered answers old new commands → List Call
+calls_of_answers {old} {new} {commands} a =
+    calls_of old.state new.state commands a.output a.answered
+
+-- the calls of the answers up to one in which the writer failed; that one is carried out, too
+abbrev pub calls_until_cut : {old new : Exchange SessionAndDraft} {commands : List Command}
+    → IsCut answers old new commands → List Call
+calls_until_cut cut =
+    calls_of_answers cut.goes_on.is_answered ++ calls_of_answer cut.at_last.1
+
 -- whether an error is among the faults of the files
 abbrev pub HasError : SessionAndDraft → Bool → Type 0
 HasError s error =
@@ -174,3 +190,15 @@ HasError s error =
     × IsPlainTangling s.session.files s.session.roles
     (output_files s.session.files s.session.roles) faults
     × (error ≡ list_any is_error faults)
+
+-- the calls of the answers in a conversation
+abbrev pub calls_of_conversation : {old new : Conversation SessionAndDraft} {status : ℕ}
+    → ConversationEnds answers HasError old new status → List Call
+calls_of_conversation (IsAtQuit read are quit is) =
+    calls_of_answers quit.goes_on.is_answered ++ calls_of_answers quit.at_last.1
+calls_of_conversation (IsAtInputEnd read are end on all is) = calls_of_answers all
+calls_of_conversation (IsUnread read given within failed on is) = calls_of_answers on.is_answered
+calls_of_conversation (IsTooLong read more given long calm on is) = calls_of_answers on.is_answered
+calls_of_conversation (IsUnwritten read are (inl now) is) = calls_until_cut now
+calls_of_conversation (IsUnwritten read are (inr last) is) = calls_until_cut last.2
+calls_of_conversation (IsOutOfMemory read are long on is) = calls_of_answers on.is_answered

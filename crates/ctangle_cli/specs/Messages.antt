@@ -1,6 +1,6 @@
 -- The lines that the programs write on the error stream.
-use Rattle.std.specs.Prelude.{ℕ, List, [], ◌∷◌, ◌++◌, codes, if◌then◌else◌}
-use Rattle.std.specs.List.{fold}
+use Rattle.std.specs.Prelude.{ℕ, List, [], ◌++◌, codes}
+use Rattle.std.specs.List.{fold, list_any}
 use Rattle.tangle_files.specs.declared.refusal.Refusal.{Refusal}
 use Rattle.tangle_files.specs.declared.refusal.Refusal.TheVariants.{
   BadName,
@@ -22,6 +22,7 @@ use Rattle.tangle_faults.specs.Faults.{FaultRead, is_error}
 use Rattle.tangle_faults.specs.FaultLine.{fault_line}
 use Rattle.tangle_folders.specs.declared.folder.FolderFault.{FolderFault}
 use Rattle.tangle_folders.specs.declared.folder.FolderFault.TheVariants.{NoMemory as FolderMemory}
+use Rattle.tangle_script.specs.Endings.{status_by}
 use Rattle.tangle_loading.specs.Loading.{LoadEnd}
 use Rattle.tangle_loading.specs.Loading.LoadEnd.{CannotRead, Refused, NoMemory as LoadMemory}
 
@@ -51,13 +52,10 @@ ending_line program (Refused name refusal) =
     program ++ codes ": " ++ name ++ codes ": " ++ refusal_name refusal ++ codes "\n"
 ending_line program LoadMemory = program ++ codes ": NoMemory\n"
 
-abbrev pub cannot_write_line : List ℕ → List ℕ
-cannot_write_line name = codes "ctangle: cannot write " ++ name ++ codes "\n"
-
 -- the line that reports an unwritten output
 abbrev pub unwritten_line : FolderFault → List ℕ → List ℕ
 unwritten_line FolderMemory name = ending_line (codes "ctangle") LoadMemory
-unwritten_line _ name = cannot_write_line name
+unwritten_line _ name = codes "ctangle: cannot write " ++ name ++ codes "\n"
 
 -- the lines of the faults
 abbrev pub fault_lines : List FaultRead → List ℕ
@@ -65,5 +63,4 @@ fault_lines faults = fold (λ lines fault. lines ++ fault_line fault) [] faults
 
 -- 1 where a fault is an error, else 0
 abbrev pub faults_status : List FaultRead → ℕ
-faults_status [] = 0
-faults_status (f ∷ fs) = if is_error f then 1 else faults_status fs
+faults_status faults = status_by (list_any is_error faults)

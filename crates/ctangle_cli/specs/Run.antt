@@ -7,7 +7,7 @@ use Rattle.tangle_files.specs.Roles.{RolesRead}
 use Rattle.tangle_faults.specs.Faults.{FaultRead}
 use Rattle.tangle_script.specs.Endings.{ConversationEnds}
 use Rattle.tangle_script.specs.Script.{Conversation}
-use Rattle.tangle_session.specs.Headline.{Call, History, IsPlainTangling, IsStarted}
+use Rattle.tangle_session.specs.Headline.{History, IsPlainTangling, IsStarted, output_files}
 use Rattle.tangle_session.specs.Sessions.{SessionRead}
 use Rattle.tangle_folders.specs.declared.folder.FolderFault.{FolderFault}
 use Rattle.tangle_folders.specs.declared.folder.FolderFault.TheVariants.{NoMemory}
@@ -15,6 +15,7 @@ use Rattle.tangle_folders.specs.Folder.{File, FolderRead, with_created}
 use Rattle.ctangle_cli.specs.Writing.{AddsPrefix}
 use Rattle.ctangle_cli.specs.Arguments.{names_by_arguments}
 use Rattle.ctangle_cli.specs.Conversation.{HasError, SessionAndDraft, answers}
+use Rattle.ctangle_cli.specs.Conversation.{calls_of_conversation}
 use Rattle.ctangle_cli.specs.RetangleArguments.{retangle_names_of}
 use Rattle.tangle_loading.specs.Loading.{LoadEnd}
 use Rattle.tangle_loading.specs.Loading.LoadEnd.{NoMemory as LoadMemory}
@@ -31,14 +32,6 @@ pub record Moment : Type 0 where
 
 abbrev pub moment : FolderRead → Stream → Moment
 moment folder stream = record { folder = folder; stream = stream }
-
--- the error stream took these bytes, and did not fail
-abbrev pub Writes : Moment → Moment → List ℕ → Type 0
-Writes old new bytes = TakesAll old.stream new.stream bytes
-
--- the error stream failed, and took a prefix of them
-abbrev pub IsCutOff : Moment → Moment → List ℕ → Type 0
-IsCutOff old new bytes = TakesPrefix old.stream new.stream bytes
 
 -- a stream took these bytes, or failed and took a prefix of them
 abbrev pub TriesToWrite : Stream → Stream → List ℕ → Type 0
@@ -85,13 +78,13 @@ pub record IsStopped (outputs : List File) (faults : List FaultRead)
 pub data TangledEnds (outputs : List File) (faults : List FaultRead)
     (old new : Moment) (status : ℕ) : Type 0 where
   -- status 0 or 1: the lines of the faults are written, and just the outputs are created
-  IsDone : Writes old new (fault_lines faults)
+  IsDone : TakesAll old.stream new.stream (fault_lines faults)
       → new.folder.created ≡ with_created old.folder.created outputs
       → new.folder.failures ≡ old.folder.failures → status ≡ faults_status faults
       → TangledEnds outputs faults old new status
   -- status 3: the error stream fails while the lines of the faults are written; no file is created
-  IsCutAtFaults : IsCutOff old new (fault_lines faults) → LeavesFolder old new → status ≡ 3
-      → TangledEnds outputs faults old new status
+  IsCutAtFaults : TakesPrefix old.stream new.stream (fault_lines faults) → LeavesFolder old new
+      → status ≡ 3 → TangledEnds outputs faults old new status
   -- status 3: an output can't be written
   IsUnwritten : IsStopped outputs faults old new → status ≡ 3
       → TangledEnds outputs faults old new status
@@ -99,10 +92,9 @@ pub data TangledEnds (outputs : List File) (faults : List FaultRead)
 -- how a run ends after it has started a session of these files
 pub record SessionEnds (files : FileTable) (roles : RolesRead)
     (old new : Moment) (status : ℕ) : Type 0 where
-  pub outputs : List File
   pub faults : List FaultRead
-  pub plain : IsPlainTangling files roles outputs faults
-  pub ends : TangledEnds outputs faults old new status
+  pub plain : IsPlainTangling files roles (output_files files roles) faults
+  pub ends : TangledEnds (output_files files roles) faults old new status
   pub asks_nothing : AsksNothing old new
 
 -- the files of these names are loaded, and a session of them is started; nothing is written
@@ -116,11 +108,11 @@ pub record StartsSession (roles : RolesRead) (old new : Moment) (session : Sessi
 pub data EndsUnstarted (program usage : List ℕ) (names : Option RolesRead)
     (old new : Moment) (status : ℕ) : Type 0 where
   -- status 2: the arguments give no names, and the usage is written
-  IsMisused : names ≡ None → Writes old new usage → LeavesFolder old new → status ≡ 2
-      → EndsUnstarted program usage names old new status
+  IsMisused : names ≡ None → TakesAll old.stream new.stream usage → LeavesFolder old new
+      → status ≡ 2 → EndsUnstarted program usage names old new status
   -- status 3: they give none, and the error stream fails at the usage
-  IsCutAtUsage : names ≡ None → IsCutOff old new usage → LeavesFolder old new → status ≡ 3
-      → EndsUnstarted program usage names old new status
+  IsCutAtUsage : names ≡ None → TakesPrefix old.stream new.stream usage → LeavesFolder old new
+      → status ≡ 3 → EndsUnstarted program usage names old new status
   -- status 3: memory runs out while the arguments are read
   IsUnnamed : TriesToWrite old.stream new.stream (ending_line program LoadMemory)
       → LeavesFolder old new → status ≡ 3 → EndsUnstarted program usage names old new status
@@ -151,14 +143,13 @@ pub data RetangleEnds (arguments : List Text) (old new : Moment)
   IsUnanswered : (usage : List ℕ)
       → EndsUnstarted (codes "retangle") usage (retangle_names_of arguments) old new status
       → after ≡ before → RetangleEnds arguments old new before after status
-  -- status 0, 1 or 3: a session is started, which answers the script; the last session is at the
-  -- end of a history. A C compiler reads each output as the author wrote it, in the first session
-  -- and after any calls.
-  IsConversation : (roles : RolesRead) (session : SessionRead) (calls : List Call)
-      (last : SessionAndDraft) → retangle_names_of arguments ≡ Some roles
-      → StartsSession roles old new session
-      → ConversationEnds answers HasError (before (record { session = session; draft = None }))
-      (after last) status
-      → History session.files session.roles calls last.session
+  -- status 0, 1 or 3: a session is started, which answers the script; the calls of the answers are
+  -- a history, at whose end is the last session. A C compiler reads each output as the author wrote
+  -- it, in the first session and after any calls.
+  IsConversation : (roles : RolesRead) (session : SessionRead) (last : SessionAndDraft)
+      → retangle_names_of arguments ≡ Some roles → StartsSession roles old new session
+      → (ends : ConversationEnds answers HasError
+      (before (record { session = session; draft = None })) (after last) status)
+      → History session.files session.roles (calls_of_conversation ends) last.session
       → OutputsStayReadAsWritten session.files session.roles
       → RetangleEnds arguments old new before after status

@@ -2,9 +2,7 @@
 //! request then makes.
 ghost use Rattle.std.specs.Prelude.{◌≡◌, ◌++◌, ℕ, List, Option, None};
 ghost use Rattle.std.specs.Prelude.{codes, decimal, true, IfOk};
-ghost use Rattle.std.specs.List.{list_any};
 ghost use Rattle.tangle_files.specs.declared.edits.Edit.{Edit as EditRead};
-ghost use Rattle.tangle_faults.specs.Faults.{is_error};
 ghost use Rattle.tangle_script.specs.Endings.{ConversationEnds};
 ghost use Rattle.tangle_script.specs.Requests.{is_edit};
 ghost use Rattle.tangle_script.specs.Requests.Request.{Begin as begin_request};
@@ -13,16 +11,17 @@ ghost use Rattle.tangle_script.specs.Requests.Request.{Commit as commit_request}
 ghost use Rattle.tangle_script.specs.Requests.Request.{Create as create, Discard as discard};
 ghost use Rattle.tangle_script.specs.Requests.Request.{Insert as insert, Remove as remove};
 ghost use Rattle.tangle_script.specs.Requests.Request.{Replace as replace};
-ghost use Rattle.tangle_script.specs.Script.{Replies, WritesAnswer, conversation};
+ghost use Rattle.tangle_script.specs.Script.{IsAnswer, WritesAnswer, conversation};
 ghost use Rattle.tangle_files.specs.Lines.{FileTable};
 ghost use Rattle.tangle_files.specs.Roles.{RolesRead};
 ghost use Rattle.tangle_session.specs.Headline.{Call, History, output_at};
-ghost use Rattle.ctangle_cli.specs.Conversation.{HasError, answers, edit_line};
+ghost use Rattle.ctangle_cli.specs.Conversation.{HasError, answers, calls_of_conversation};
+ghost use Rattle.ctangle_cli.specs.Conversation.{edit_line};
 ghost use Rattle.ctangle_cli.specs.Conversation.{edit_number, list_line, listed_faults};
 ghost use Rattle.ctangle_cli.specs.Conversation.{marks_request, request_for, session_and_draft};
 ghost use Rattle.ctangle_cli.specs.Conversation.{shown};
 
-use crate::messages::{name_of, say, write_faults};
+use crate::messages::{is_error_among, name_of, say, write_faults};
 use itoa::Buffer;
 use std::alloc::{AllocError, Global};
 use tangle_lines::{Edit, Fault, Feed, MarkMode, Refusal, Sink};
@@ -179,7 +178,7 @@ fn make_or_hold(
 ) -> Result<Accepted, Refusal>
     ensures { (request : _) → IfOk edit (λ made. request_for made ≡ request)
         → is_edit request ≡ true
-        → Replies answers (session_and_draft session.old draft.old) request (edit_line result)
+        → IsAnswer answers (session_and_draft session.old draft.old) request (edit_line result)
         (session_and_draft session.new draft.new) }
 {
     let edit = edit?;
@@ -205,7 +204,7 @@ fn answer_edit<S: Sink>(
     ensures { (request : _) → IfOk edit (λ made. request_for made ≡ request)
         → is_edit request ≡ true
         → (output : List ℕ)
-        × Replies answers (session_and_draft session.old draft.old) request output
+        × IsAnswer answers (session_and_draft session.old draft.old) request output
         (session_and_draft session.new draft.new)
         × WritesAnswer (S.stream sink.old) (S.stream sink.new) output result }
 {
@@ -270,12 +269,6 @@ fn commit<S: Sink>(
     }
 }
 
-fn is_error_among(faults: &[Fault]) -> bool
-    ensures { result ≡ list_any is_error faults.now }
-{
-    faults.iter().any(|fault| fault.is_error())
-}
-
 // The project that answers a script: a session, with the list of edits that is open.
 struct SessionProject;
 
@@ -335,7 +328,7 @@ impl Project for SessionProject {
 /// Answers a script of edits and questions, and returns the status with which the program ends.
 /// While a list of edits is open, edits are held, and questions are answered from the session
 /// without them. A list that is still open at the end of the run is dropped. The edits that are
-/// made go on with any history of the session (`history`).
+/// made go on with any history of the session: the calls of the answers come after its own.
 ///
 /// The status is 0, or 1 where an error is among the faults at the end of the script. It is 3 where
 /// the reader or the writer failed, the script is longer than `SCRIPT_LIMIT`, or memory ran out for
@@ -346,14 +339,14 @@ pub fn run_retangle<R: Feed, S: Sink>(
     feed: &mut R,
     sink: &mut S,
 ) -> u8
-    ensures ends { (draft : Option (List EditRead)) × ConversationEnds answers HasError
+    ensures { (draft : Option (List EditRead)) × (ends : ConversationEnds answers HasError
         (conversation (record { session = session.old; draft = None })
         (S.stream sink.old) (R.remaining feed.old) (R.failures feed.old))
         (conversation (record { session = session.new; draft = draft })
-        (S.stream sink.new) (R.remaining feed.new) (R.failures feed.new)) result }
-    ensures history { (files : FileTable) (roles : RolesRead) (calls : List Call)
+        (S.stream sink.new) (R.remaining feed.new) (R.failures feed.new)) result)
+        × ((files : FileTable) (roles : RolesRead) (calls : List Call)
         → History files roles calls session.old
-        → (more : List Call) × History files roles (calls ++ more) session.new }
+        → History files roles (calls ++ calls_of_conversation ends) session.new) }
 {
     let mut draft = None;
     run_script::<SessionProject, R, S>(alloc, session, &mut draft, feed, sink)

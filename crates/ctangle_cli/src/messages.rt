@@ -1,11 +1,12 @@
 //! The lines that the programs write on the error stream.
 ghost use Rattle.std.specs.Prelude.{◌≡◌, ◌<◌, ◌^◌, ◌++◌, [], length};
-ghost use Rattle.std.specs.List.{fold};
+ghost use Rattle.std.specs.List.{fold, list_any};
+ghost use Rattle.tangle_faults.specs.Faults.{is_error};
 ghost use Rattle.tangle_script.specs.Script.{WritesAnswer};
 ghost use Rattle.tangle_streams.specs.Streams.{IsWritten};
 ghost use Rattle.tangle_loading.specs.Endings.{ending_of};
-ghost use Rattle.ctangle_cli.specs.Messages.{cannot_write_line, ending_line};
-ghost use Rattle.ctangle_cli.specs.Messages.{fault_lines, refusal_name, unwritten_line, usage_line};
+ghost use Rattle.ctangle_cli.specs.Messages.{ending_line};
+ghost use Rattle.ctangle_cli.specs.Messages.{fault_lines, refusal_name, unwritten_line};
 
 use std::alloc::Global;
 use tangle_folders::FolderFault;
@@ -83,23 +84,6 @@ pub fn write_load<'a, E: Sink>(
     }
 }
 
-/// Writes the line that shows how `ctangle` is used. Returns its length.
-///
-/// # Errors
-///
-/// `WriteFault(n)` where the stream failed, or took no byte, after the first `n` bytes of the line.
-pub fn write_usage<E: Sink>(err: &mut E) -> Result<u128, WriteFault>
-    ensures { IsWritten (E.stream err.old) (E.stream err.new) usage_line result }
-{
-    write_parts(err, &[b"usage: ctangle [flags] web [change [out]]\n"])
-}
-
-fn write_cannot_write<E: Sink>(name: &[u8], err: &mut E) -> Result<u128, WriteFault>
-    ensures { IsWritten (E.stream err.old) (E.stream err.new) (cannot_write_line name.now) result }
-{
-    write_parts(err, &[b"ctangle: cannot write ", name, b"\n"])
-}
-
 /// Writes the line that reports an unwritten output. Returns its length.
 ///
 /// # Errors
@@ -115,9 +99,9 @@ pub fn write_unwritten<E: Sink>(
 {
     match fault {
         FolderFault::NoMemory => write_load(b"ctangle", &LoadFault::NoMemory, err),
-        FolderFault::Missing => write_cannot_write(name, err),
-        FolderFault::Failed => write_cannot_write(name, err),
-        FolderFault::TooBig => write_cannot_write(name, err),
+        FolderFault::Missing => write_parts(err, &[b"ctangle: cannot write ", name, b"\n"]),
+        FolderFault::Failed => write_parts(err, &[b"ctangle: cannot write ", name, b"\n"]),
+        FolderFault::TooBig => write_parts(err, &[b"ctangle: cannot write ", name, b"\n"]),
     }
 }
 
@@ -174,4 +158,11 @@ pub fn say<S: Sink>(sink: &mut S, parts: &[&[u8]]) -> Result<(), SinkFailed>
         }
     }
     Ok(())
+}
+
+/// Whether a fault is an error.
+pub fn is_error_among(faults: &[Fault]) -> bool
+    ensures { result ≡ list_any is_error faults.now }
+{
+    faults.iter().any(|fault| fault.is_error())
 }

@@ -11,7 +11,7 @@ ghost use Rattle.ctangle_cli.specs.Run.{Moment, StartsSession, moment};
 
 use crate::arguments::{WordFault, Words, read_words};
 use crate::conversation::run_retangle;
-use crate::messages::{say, write_faults_at_once, write_load, write_unwritten, write_usage};
+use crate::messages::{is_error_among, say, write_faults_at_once, write_load, write_unwritten};
 use crate::retangle_names::{RetangleFault, read_retangle};
 use crate::writing::create_outputs;
 use clap::Error;
@@ -27,12 +27,7 @@ use tangle_session::Session;
 fn status(faults: &[Fault]) -> u8
     ensures { result ≡ faults_status faults.now }
 {
-    for fault in faults {
-        if fault.is_error() {
-            return 1;
-        }
-    }
-    0
+    if is_error_among(faults) { 1 } else { 0 }
 }
 
 // Writes the lines of the session's faults, and then the outputs.
@@ -56,23 +51,6 @@ fn run_session<F: Folder, E: Sink>(
                 3
             }
         },
-    }
-}
-
-// The result of a run: the status, and the session unless the run ended before one was started.
-#[derive(Drop)]
-struct Ended {
-    status: u8,
-    session: Option<Session>,
-}
-
-// The result of a run that ended before a session was started.
-fn unstarted(status: u8) -> Ended
-    ensures { result.status ≡ status }
-{
-    Ended {
-        status,
-        session: None,
     }
 }
 
@@ -109,18 +87,23 @@ fn start_session<F: Folder, E: Sink>(
     }
 }
 
-// Starts a session of the files of these names, and writes its faults and outputs.
-fn run_named<F: Folder, E: Sink>(alloc: Global, names: &Words, folder: &mut F, err: &mut E) -> Ended
+// Starts a session of the files of these names, and writes its faults and outputs. Returns the
+// status, and the session unless none was started.
+fn run_named<F: Folder, E: Sink>(
+    alloc: Global,
+    names: &Words,
+    folder: &mut F,
+    err: &mut E,
+) -> (u8, Option<Session>)
     ensures { (arguments : List (List ℕ)) → names_by_arguments arguments ≡ Some names.now
         → RunEnds arguments (moment (F.state folder.old) (E.stream err.old))
-        (moment (F.state folder.new) (E.stream err.new)) result.status }
+        (moment (F.state folder.new) (E.stream err.new)) result.0 }
 {
     match start_session(alloc, b"ctangle", names, folder, err) {
-        None => unstarted(3),
+        None => (3, None),
         Some(session) => {
             let status = run_session(alloc, &session, folder, err);
-            let session = Some(session);
-            Ended { status, session }
+            (status, Some(session))
         }
     }
 }
@@ -131,19 +114,19 @@ fn run_keeping_session<F: Folder, E: Sink>(
     arguments: &[&[u8]],
     folder: &mut F,
     err: &mut E,
-) -> Ended
+) -> (u8, Option<Session>)
     ensures { RunEnds (map (λ w. w.now) arguments.now)
         (moment (F.state folder.old) (E.stream err.old))
-        (moment (F.state folder.new) (E.stream err.new)) result.status }
+        (moment (F.state folder.new) (E.stream err.new)) result.0 }
 {
     match read_words(alloc, arguments) {
-        Err(WordFault::Usage) => match write_usage(err) {
-            Ok(_) => unstarted(2),
-            Err(_) => unstarted(3),
+        Err(WordFault::Usage) => match say(err, &[b"usage: ctangle [flags] web [change [out]]\n"]) {
+            Ok(_) => (2, None),
+            Err(_) => (3, None),
         },
         Err(WordFault::NoMemory) => {
             let _ = write_load(b"ctangle", &LoadFault::NoMemory, err);
-            unstarted(3)
+            (3, None)
         }
         Ok(names) => run_named(alloc, &names, folder, err),
     }
@@ -171,7 +154,7 @@ pub fn run_ctangle<F: Folder, E: Sink>(
         (moment (F.state folder.new) (E.stream err.new)) result }
 {
     let ended = run_keeping_session(alloc, arguments, folder, err);
-    ended.status
+    ended.0
 }
 
 /// Runs `ctangle` as [`run_ctangle`] does, for a program that ends after the run. The session is not
@@ -186,7 +169,7 @@ pub fn run_before_exit<F: Folder, E: Sink>(
         (moment (F.state folder.old) (E.stream err.old))
         (moment (F.state folder.new) (E.stream err.new)) result }
 {
-    let Ended { status, session } = run_keeping_session(alloc, arguments, folder, err);
+    let (status, session) = run_keeping_session(alloc, arguments, folder, err);
     forget(session);
     status
 }

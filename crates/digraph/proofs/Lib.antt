@@ -1,11 +1,10 @@
 pub mod GraphLemmas
 pub mod RowLemmas
-pub mod LinkLemmas
 pub mod UserLemmas
 pub mod ReachLemmas
 pub mod RootLemmas
 pub mod FindingLemmas
-pub mod CycleLemmas
+pub mod LinkLemmas
 pub mod TitleLemmas
 pub mod OrderSoFarLemmas
 pub mod OrderLemmas

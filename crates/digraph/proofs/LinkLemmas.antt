@@ -1,6 +1,6 @@
 -- Rows as links in one list.
 use Rattle.std.proofs.Common.{rules}
-use Rattle.std.proofs.Common.{◌≡◌, ◌≤◌, ◌<◌, ◌+◌, ◌-◌, ◌∙◌, ℕ, suc, cond, eqb, List, [], ◌∷◌, ◌++◌, map}
+use Rattle.std.proofs.Common.{◌≡◌, ◌≤◌, ◌<◌, ◌-◌, ◌∙◌, ℕ, suc, cond, eqb, List, [], ◌∷◌, ◌++◌, map}
 use Rattle.std.proofs.Common.{length, get_or, set, reverse, refl, ap, sym, subst, arith, All}
 use Rattle.std.proofs.lemmas.List.{reverse-append, length-reverse, length-map, map-set, get_or-map}
 use Rattle.std.proofs.lemmas.List.{get_or-reverse}

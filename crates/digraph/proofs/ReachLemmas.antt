@@ -1,12 +1,11 @@
 -- Reaching along several uses, and what ranks that never fall exclude.
 use Rattle.std.proofs.Common.{rules}
-use Rattle.std.proofs.Common.{◌<◌, ◌≤◌, ◌∙◌, ℕ, Bool, true, false, List, length, get_or, set}
+use Rattle.std.proofs.Common.{◌<◌, ◌≤◌, ◌∙◌, ℕ, Bool, true, false, List, get_or, set}
 use Rattle.std.proofs.Common.{arith, All, get_or-set_other, length-set}
 use Rattle.std.proofs.lemmas.Bool.Decides.{nat_tests}
-use Rattle.std.proofs.lemmas.List.{get_or_past}
 use Rattle.digraph.specs.Graph.{Graph, HasUse, row_at}
 use Rattle.digraph.specs.Reach.{Reaches, here, on, ContainsItself}
-use Rattle.digraph.specs.Flags.{FlagsOnly, IsFlagged}
+use Rattle.digraph.specs.Flags.{FlagsOnly}
 use Rattle.digraph.specs.Roots.{NeverFalls}
 
 pub reaches_trans : {X : Type 0} (Uses : X → X → Type 0) (a b c : X)
@@ -31,6 +30,3 @@ only_set {HasIt} graph flags n only has = record {
   size = length-set flags n true ∙ only.size;
   sound = λ m f. grind (arith, nat_tests, get_or-set_other flags n m true false, only.sound m);
 }
-
-pub flagged_in : (flags : List Bool) (n : ℕ) → IsFlagged flags n → n < length flags
-flagged_in flags n f = search (rules, get_or_past)

@@ -1,7 +1,7 @@
 -- The nodes that use a node: the numbers of the rows that have it.
 use Rattle.std.proofs.Common.{rules}
 use Rattle.std.proofs.lemmas.Bool.Decides.{nat_tests}
-use Rattle.std.proofs.Common.{◌≡◌, ◌<◌, ◌+◌, ◌∙◌, ℕ, zero, suc, Bool, true, false, cond, eqb, List, [], ◌∷◌}
+use Rattle.std.proofs.Common.{◌≡◌, ◌<◌, ◌+◌, ◌∙◌, ℕ, zero, suc, Bool, true, cond, eqb, List, [], ◌∷◌}
 use Rattle.std.proofs.Common.{◌++◌, length, take, get_or, filter, refl, ap, sym, subst, arith, add-one}
 use Rattle.std.proofs.Common.{zero-add, Contains, ◌⊎◌, inl, inr, true≢false}
 use Rattle.std.specs.List.{list_any, range_with_len}

@@ -1,7 +1,6 @@
 -- A flag for each node.
 use Rattle.std.specs.Prelude.{◌≡◌, ◌<◌, ◌↔◌, ℕ, Bool, true, false, List, length, slice_index_or}
-use Rattle.digraph.specs.Graph.{Graph, HasUse}
-use Rattle.digraph.specs.Reach.{Reaches}
+use Rattle.digraph.specs.Graph.{Graph}
 
 abbrev pub IsFlagged : List Bool → ℕ → Type 0
 IsFlagged flags n = slice_index_or flags n false ≡ true
@@ -14,7 +13,3 @@ FlagsJust graph flags HasIt = (n : ℕ) → n < length graph → (IsFlagged flag
 pub record FlagsOnly (graph : Graph) (flags : List Bool) (HasIt : ℕ → Type 0) : Type 0 where
   pub size : length flags ≡ length graph
   pub sound : (n : ℕ) → IsFlagged flags n → HasIt n
-
--- the node reaches a flagged node; a flagged node reaches itself
-abbrev pub ReachesFlagged : Graph → List Bool → ℕ → Type 0
-ReachesFlagged graph flags n = (k : ℕ) × Reaches (HasUse graph) n k × IsFlagged flags k

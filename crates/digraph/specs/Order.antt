@@ -1,6 +1,8 @@
 -- Orders of the nodes of a graph.
-use Rattle.std.specs.Prelude.{◌≢◌, ◌<◌, ℕ, List, length, take, slice_index, Contains, All, AllPairs}
+use Rattle.std.specs.Prelude.{◌≡◌, ◌≢◌, ◌<◌, ◌↔◌, ℕ, Bool, false, List, length, take, slice_index}
+use Rattle.std.specs.Prelude.{slice_index_or, Contains, All, AllPairs}
 use Rattle.digraph.specs.Graph.{Graph, HasUse}
+use Rattle.digraph.specs.Reach.{ReachesCycle}
 
 -- each node of the list comes once, and after all nodes that it uses
 pub record IsAfterUses (graph : Graph) (order : List ℕ) : Type 0 where
@@ -15,3 +17,8 @@ pub record IsOrder (graph : Graph) (order : List ℕ) : Type 0 where
   pub after_uses : IsAfterUses graph order
   pub rest : (n : ℕ) → n < length graph → ¬ (Contains order n)
       → (m : ℕ) × HasUse graph n m × (¬ (Contains order m))
+
+-- exactly the nodes that reach a cycle have no flag
+abbrev pub AreAcyclic : Graph → List Bool → Type 0
+AreAcyclic graph flags = (n : ℕ) → n < length graph
+    → ((slice_index_or flags n false ≡ false) ↔ ReachesCycle (HasUse graph) n)

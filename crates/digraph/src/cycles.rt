@@ -1,7 +1,7 @@
-//! Finds the nodes that contain themselves, and those that reach such a node.
+//! Finds the nodes that contain themselves.
 ghost use Rattle.std.specs.Prelude.{◌≡◌, ◌<◌, ◌↔◌, IfOk, true, length, vec_len};
 ghost use Rattle.digraph.specs.Graph.{InRange, HasUse};
-ghost use Rattle.digraph.specs.Reach.{ContainsItself, ReachesCycle};
+ghost use Rattle.digraph.specs.Reach.{ContainsItself};
 ghost use Rattle.digraph.specs.Flags.{FlagsJust};
 ghost use Rattle.digraph.specs.Evidence.{IsEvidence};
 
@@ -38,32 +38,8 @@ pub fn self_containing(
     Ok(flags)
 }
 
-/// A flag for each node: whether it reaches a node that contains itself. The given flags say which
-/// nodes contain themselves.
-///
-/// `users` has, for each node, the nodes that use it; the result does not depend on it, only the
-/// speed.
-///
-/// # Errors
-///
-/// `AllocError` where an allocation failed.
-pub fn reaching_cycles(
-    alloc: Global,
-    uses: &Rows<Node>,
-    users: &Rows<Node>,
-    flags: &[bool],
-) -> Result<Vec<bool>, AllocError>
-    requires range { InRange uses.now }
-    requires size { length flags.now ≡ length uses.now }
-    requires flags { FlagsJust uses.now flags.now (ContainsItself (HasUse uses.now)) }
-    ensures size { IfOk result (λ found. vec_len found ≡ length uses.now) }
-    ensures flags { IfOk result
-        (λ found. FlagsJust uses.now found.items (ReachesCycle (HasUse uses.now))) }
-{
-    reaching(alloc, uses, users, flags)
-}
-
-/// Whether the node contains itself: by the evidence or, where that does not decide, by a search.
+/// Whether the node contains itself: by the evidence or, where that does not decide, by a search
+/// from this node alone.
 fn contains_itself(
     alloc: Global,
     uses: &Rows<Node>,
@@ -78,23 +54,6 @@ fn contains_itself(
 {
     match evidence.conclusion(uses, n) {
         Some(flag) => Ok(flag),
-        None => search(alloc, uses, users, n),
+        None => Ok(any_with(uses.row(n), &reaching(alloc, uses, users, n)?, true)),
     }
-}
-
-/// Whether the node contains itself, by a search from this node alone.
-fn search(
-    alloc: Global,
-    uses: &Rows<Node>,
-    users: &Rows<Node>,
-    n: usize,
-) -> Result<bool, AllocError>
-    requires range { InRange uses.now }
-    requires node { n < length uses.now }
-    ensures { IfOk result (λ flag. (flag ≡ true) ↔ ContainsItself (HasUse uses.now) n) }
-{
-    let mut flags = vec![in alloc; false; uses.len()]?;
-    flags[n] = true;
-    let found = reaching(alloc, uses, users, &flags)?;
-    Ok(any_with(uses.row(n), &found, true))
 }

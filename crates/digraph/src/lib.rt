@@ -17,10 +17,10 @@ mod reversing;
 mod roots;
 mod rows;
 
-pub use cycles::{reaching_cycles, self_containing};
+pub use cycles::self_containing;
 pub use growing::GrowingRows;
 pub use laws::order_holds_what_reaches_no_cycle;
 pub use nodes::Node;
-pub use ordering::order;
+pub use ordering::{Ordered, order};
 pub use reversing::{once_each, users};
 pub use rows::Rows;

@@ -1,7 +1,7 @@
 //! A topological order of a graph's nodes: each comes after those that it uses.
 ghost use Rattle.std.specs.Prelude.{◌≡◌, ◌<◌, ℕ, IfOk, true, false, length};
 ghost use Rattle.digraph.specs.Graph.{InRange};
-ghost use Rattle.digraph.specs.Order.{IsOrder};
+ghost use Rattle.digraph.specs.Order.{AreAcyclic, IsOrder};
 ghost use Rattle.digraph.specs.OrderSoFar.{IsOrderSoFar, IsStuck, unflagged};
 
 use crate::nodes::Node;
@@ -10,7 +10,15 @@ use crate::reach::any_with;
 use crate::rows::Rows;
 use std::alloc::{AllocError, Global};
 
-/// The nodes that reach no cycle, each after those that it uses.
+/// The nodes that reach no cycle, each after those that it uses; and a flag for each node: whether
+/// it is one of these.
+#[derive(Drop)]
+pub struct Ordered {
+    pub nodes: Vec<Node>,
+    pub acyclic: Vec<bool>,
+}
+
+/// The order of a graph. So cycles are found too: what is not in the order reaches one.
 ///
 /// `users` has, for each node, the nodes that use it; the result does not depend on it, only the
 /// speed.
@@ -18,19 +26,20 @@ use std::alloc::{AllocError, Global};
 /// # Errors
 ///
 /// `AllocError` where an allocation failed.
-pub fn order(alloc: Global, uses: &Rows<Node>, users: &Rows<Node>) -> Result<Vec<Node>, AllocError>
+pub fn order(alloc: Global, uses: &Rows<Node>, users: &Rows<Node>) -> Result<Ordered, AllocError>
     requires { InRange uses.now }
-    ensures { IfOk result (λ order. IsOrder uses.now order.items) }
+    ensures order { IfOk result (λ order. IsOrder uses.now order.nodes.items) }
+    ensures cycles { IfOk result (λ order. AreAcyclic uses.now order.acyclic.items) }
 {
-    let mut flags = vec![in alloc; false; uses.len()]?;
-    let mut order = Vec::new(alloc);
+    let mut acyclic = vec![in alloc; false; uses.len()]?;
+    let mut nodes = Vec::new(alloc);
     for n in &topological_order(alloc, uses, users)? {
         if *n < uses.len() {
-            add_to_order(uses, *n, &mut flags, &mut order)?;
+            add_to_order(uses, *n, &mut acyclic, &mut nodes)?;
         }
     }
-    while add_each(uses, &mut flags, &mut order)? {}
-    Ok(order)
+    while add_each(uses, &mut acyclic, &mut nodes)? {}
+    Ok(Ordered { nodes, acyclic })
 }
 
 /// Goes once over the nodes and adds each that can be added. Returns whether any was.

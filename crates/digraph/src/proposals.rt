@@ -115,19 +115,16 @@ pub fn rank_components(
     Ok(visits)
 }
 
-/// The flagged nodes and the nodes that reach them. Each node that is not flagged comes after one
-/// that it uses.
+/// The nodes that reach the target. Each but the target comes after one that it uses.
 pub fn backward(
     alloc: Global,
     users: &Rows<Node>,
-    flags: &[bool],
+    target: usize,
 ) -> Result<Vec<usize>, AllocError> {
-    let mut visited = vec![in alloc; false; flags.len()]?;
+    let mut visited = vec![in alloc; false; users.len()]?;
     let mut visits = Vec::new(alloc);
-    for (n, flag) in flags.iter().enumerate() {
-        if *flag && visit(&mut visited, n) {
-            visits.push(n)?;
-        }
+    if visit(&mut visited, target) {
+        visits.push(target)?;
     }
     for head in 0..usize::MAX {
         let Some(n) = visits.get(head) else {

@@ -3,13 +3,13 @@ use Rattle.std.proofs.Common.{rules}
 use Rattle.std.proofs.lemmas.Bool.Decides.{nat_tests}
 use Rattle.std.proofs.Common.{◌≡◌, ℕ, ◌+◌, List, [], ◌∷◌, ◌++◌, map, length, refl}
 use Rattle.std.proofs.Common.{arith}
-use Rattle.tangle_text.specs.Runs.{chunks, part_of}
+use Rattle.tangle_text.specs.Runs.{parts_of}
 use Rattle.tangle_text.specs.declared.runs.RunPart.{RunPart}
 use Rattle.tangle_bodies.specs.Shapes.{Program, Shape}
 use Rattle.tangle_bodies.specs.Flat.{own_counts, own_weight}
 use Rattle.tangle_bodies.specs.Flat.{own_symbols}
 use Rattle.tangle_bodies.specs.NodeBodies.{HoldsShape}
-use Rattle.tangle_scan.specs.UnfoldedTags.{chunk_tag, part_tag, run_tags, kind_tags, unfolded_tags}
+use Rattle.tangle_scan.specs.UnfoldedTags.{part_tag, run_tags, kind_tags, unfolded_tags}
 use Rattle.tangle_bodies.specs.declared.nodes.NodeBody.{NodeBody}
 use Rattle.tangle_scan.specs.declared.texts.ItemKind.{ItemKind}
 use Rattle.tangle_scan.specs.declared.texts.ItemTag.{ItemTag}
@@ -20,20 +20,14 @@ own_counts-append (t ∷ tags) more = omega (arith, own_counts-append tags more)
 
 -- the parts of a run have no symbols besides their bytes
 
-part_count : (p : RunPart) → length (own_symbols Program 0 0 (part_tag p).kind) ≡ 0
-part_count p = search rules
-
-chunks_count : (cs : List (List ℕ)) → own_counts (map chunk_tag cs) ≡ 0
-chunks_count [] = refl
-chunks_count (c ∷ cs) = omega (arith, part_count (part_of 0 0 c), chunks_count cs)
-
-run_count : (bytes : List ℕ) → own_counts (run_tags bytes) ≡ 0
-unfolding run_tags
-run_count bytes = chunks_count (chunks bytes)
+parts_count : (ps : List RunPart) → own_counts (map part_tag ps) ≡ 0
+parts_count [] = refl
+parts_count (x ∷ ps) = grind (arith, nat_tests, parts_count ps)
 
 kind_count : (k : ItemKind) (t : ItemTag) (bytes : List ℕ)
     → t.kind ≡ k → own_counts (kind_tags k t bytes) ≡ length (own_symbols Program 0 0 t.kind)
-kind_count k t bytes is = search (rules, run_count)
+unfolding run_tags
+kind_count k t bytes is = search (rules, parts_count (parts_of 0 0 0 bytes))
 
 unfolded_count : (tags : List ItemTag) (bytes : List ℕ) → own_counts (unfolded_tags tags bytes) ≡ own_counts tags
 unfolded_count [] bytes = refl

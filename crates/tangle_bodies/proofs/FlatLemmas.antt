@@ -2,13 +2,13 @@
 use Rattle.std.proofs.Common.{arith}
 use Rattle.std.proofs.Common.{rules}
 use Rattle.std.proofs.lemmas.Bool.Decides.{nat_tests}
-use Rattle.std.proofs.Common.{◌≡◌, ◌∙◌, ℕ, ◌+◌, List, [], ◌∷◌, ◌++◌, map, take, drop, length, refl, ap, subst, append_assoc}
+use Rattle.std.proofs.Common.{◌≡◌, ◌∙◌, ℕ, ◌+◌, zero, suc, List, [], ◌∷◌, ◌++◌, map, take, drop}
+use Rattle.std.proofs.Common.{length, refl, ap, append_assoc}
 use Rattle.std.specs.Prelude.{flat_map}
-use Rattle.std.proofs.lemmas.List.{map-append, take-append-drop}
+use Rattle.std.proofs.lemmas.List.{map-append, take-append-drop, length-take-le}
 use Rattle.std.proofs.Math.Seq.{take-append_seam, drop-append_seam}
-use Rattle.tangle_text.specs.Runs.{chunks, part_of}
-use Rattle.tangle_text.specs.declared.runs.RunPart.{RunPart}
-use Rattle.tangle_text.proofs.RunChunks.{AreChunks, joined, chunks_are, chunks_joined}
+use Rattle.tangle_text.specs.Runs.{part_more, parts_of}
+use Rattle.tangle_text.proofs.PartLemmas.{part-fits}
 use Rattle.tangle_bodies.specs.Shapes.{Title, Kind, ShapeItem, Written, Shape}
 use Rattle.tangle_bodies.specs.Flat.{Symbol, Byte, items_flat, marks_after_shape_item}
 use Rattle.tangle_bodies.specs.Flat.{pieces_flat}
@@ -17,46 +17,36 @@ use Rattle.tangle_bodies.specs.Flat.{own_symbols}
 use Rattle.tangle_bodies.specs.NodeBodies.{HoldsShape, body_title, body_uses, names_at}
 use Rattle.tangle_bodies.specs.Tags.{item_tag, item_bytes, piece_end, shape_tags, shape_bytes}
 use Rattle.tangle_bodies.specs.Shapes.{item_names, shape_names}
-use Rattle.tangle_scan.specs.UnfoldedTags.{chunk_tag, part_tag, run_tags, kind_tags, unfolded_tags}
+use Rattle.tangle_scan.specs.UnfoldedTags.{part_tag, run_tags, kind_tags, unfolded_tags}
 use Rattle.tangle_bodies.specs.declared.nodes.NodeBody.{NodeBody}
 use Rattle.tangle_scan.specs.declared.texts.ItemKind.{ItemKind}
 use Rattle.tangle_scan.specs.declared.texts.ItemKind.TheVariants as tag
 use Rattle.tangle_scan.specs.declared.texts.ItemTag.{ItemTag}
-use Rattle.tangle_scan.proofs.lemmas.RunTags.{chunk_size}
+use Rattle.tangle_scan.proofs.lemmas.RunTags.{part_size}
 
 module _ (node : Title) where
   -- the parts of a run have its bytes
 
-  part_flat : (piece marks : ℕ) (p : RunPart) (chunk more : List ℕ) (tags : List ItemTag) (used : List (List Symbol))
-      → (part_tag p).size ≡ length chunk
-      → tags_flat node piece marks (chunk ++ more) (part_tag p ∷ tags) used
-      ≡ map Byte chunk ++ tags_flat node piece marks more tags used
-  part_flat piece marks p chunk more tags used size = search (rules, take-append_seam, drop-append_seam)
-
-  chunks_flat : (piece marks : ℕ) (cs : List (List ℕ)) (more : List ℕ) (tags : List ItemTag)
-      (used : List (List Symbol)) → AreChunks cs
-      → tags_flat node piece marks (joined cs ++ more) (map chunk_tag cs ++ tags) used
-      ≡ map Byte (joined cs) ++ tags_flat node piece marks more tags used
-  chunks_flat piece marks [] more tags used h = refl
-  chunks_flat piece marks (c ∷ cs) more tags used h =
+  parts_flat : (piece marks line column k : ℕ) (bs more : List ℕ) (tags : List ItemTag) (used : List (List Symbol))
+      → tags_flat node piece marks (drop k bs ++ more) (map part_tag (parts_of line column k bs) ++ tags) used
+      ≡ map Byte (drop k bs) ++ tags_flat node piece marks more tags used
+  parts_flat piece marks line column zero [] more tags used = refl
+  parts_flat piece marks line column (suc k) [] more tags used = refl
+  parts_flat piece marks line column (suc k) (b ∷ bs) more tags used =
+      parts_flat piece marks line (column + 1) k bs more tags used
+  parts_flat piece marks line column zero (b ∷ bs) more tags used =
       grind (
         arith,
         nat_tests,
         append_assoc,
         map-append {A = ℕ} {B = Symbol},
-        part_flat piece marks (part_of 0 0 c) c,
-        chunk_size c h.0,
-        chunks_flat piece marks cs more tags used h.1,
+        take-append-drop (part_more b bs) bs,
+        take-append_seam (b ∷ take (part_more b bs) bs),
+        drop-append_seam (b ∷ take (part_more b bs) bs),
+        part_size line column b bs,
+        length-take-le (part_more b bs) bs (part-fits b bs),
+        parts_flat piece marks line (column + 1) (part_more b bs) bs more tags used,
       )
-
-  run_flat : (piece marks : ℕ) (bytes more : List ℕ) (tags : List ItemTag) (used : List (List Symbol))
-      → tags_flat node piece marks (bytes ++ more) (run_tags bytes ++ tags) used
-      ≡ map Byte bytes ++ tags_flat node piece marks more tags used
-  unfolding run_tags
-  run_flat piece marks bytes more tags used =
-      subst (λ l. tags_flat node piece marks (l ++ more) (map chunk_tag (chunks bytes) ++ tags) used
-      ≡ map Byte l ++ tags_flat node piece marks more tags used) (chunks_joined bytes)
-      (chunks_flat piece marks (chunks bytes) more tags used (chunks_are bytes))
 
   -- the symbols are those of the unfolded tags
 
@@ -64,8 +54,9 @@ module _ (node : Title) where
       (used : List (List Symbol)) → t.kind ≡ k
       → tags_flat node piece marks bytes (kind_tags k t (take t.size bytes) ++ tags) used
       ≡ tags_flat node piece marks bytes (t ∷ tags) used
+  unfolding run_tags
   kind_flat piece marks t tag.Run bytes tags used is =
-      grind (arith, nat_tests, take-append-drop t.size bytes, run_flat piece marks)
+      grind (arith, nat_tests, take-append-drop t.size bytes, parts_flat piece marks 0 0 0 (take t.size bytes))
   kind_flat piece marks t _ bytes tags used is = refl
 
   unfolded_flat : (piece marks : ℕ) (tags : List ItemTag) (bytes : List ℕ) (used : List (List Symbol))

@@ -4,33 +4,22 @@ use Rattle.std.proofs.Common.{◌≡◌, ◌∙◌, ◌<◌, ℕ, ◌+◌, true,
 use Rattle.std.proofs.Common.{refl, ap, sym, arith, append_assoc}
 use Rattle.std.proofs.lemmas.List.{take_more_set, drop-set-lt}
 use Rattle.std.specs.List.{list_all}
-use Rattle.tangle_text.specs.Runs.{chunks, part_of}
+use Rattle.tangle_text.specs.Runs.{parts_of}
 use Rattle.tangle_text.specs.declared.runs.RunPart.{RunPart}
 use Rattle.tangle_scan.specs.declared.texts.ItemKind.{ItemKind}
 use Rattle.tangle_scan.specs.declared.texts.ItemKind.TheVariants as tag
 use Rattle.tangle_scan.specs.declared.texts.ItemTag.{ItemTag}
-use Rattle.tangle_scan.specs.UnfoldedTags.{StandFor, chunk_tag, part_tag, run_tags, tag_sizes, unfolded_tags}
+use Rattle.tangle_scan.specs.UnfoldedTags.{StandFor, part_tag, run_tags, tag_sizes, unfolded_tags}
 use Rattle.tangle_names.specs.NameTable.{TableRead}
 use Rattle.tangle_bodies.specs.ItemTags.{is_name, resolved_tags}
 use Rattle.tangle_bodies.specs.WebShapes.{resolved_at}
 use Rattle.tangle_bodies.proofs.DropLemmas.{drop_at}
 
 module _ (table : TableRead) where
-  part-resolved : (p : RunPart) (ts : List ItemTag) (ns : List ℕ)
-      → resolved_tags table (part_tag p ∷ ts) ns ≡ part_tag p ∷ resolved_tags table ts ns
-  part-resolved x ts ns = grind arith
-
-  chunks-resolved : (cs : List (List ℕ)) (ts : List ItemTag) (ns : List ℕ)
-      → resolved_tags table (map chunk_tag cs ++ ts) ns ≡ map chunk_tag cs ++ resolved_tags table ts ns
-  chunks-resolved [] ts ns = refl
-  chunks-resolved (c ∷ cs) ts ns =
-      part-resolved (part_of 0 0 c) (map chunk_tag cs ++ ts) ns ∙ ap (λ l. chunk_tag c ∷ l) (chunks-resolved cs ts ns)
-
-  -- a run has no use
-  run-resolved : (bytes : List ℕ) (ts : List ItemTag) (ns : List ℕ)
-      → resolved_tags table (run_tags bytes ++ ts) ns ≡ run_tags bytes ++ resolved_tags table ts ns
-  unfolding run_tags
-  run-resolved bytes ts ns = chunks-resolved (chunks bytes) ts ns
+  parts-resolved : (ps : List RunPart) (ts : List ItemTag) (ns : List ℕ)
+      → resolved_tags table (map part_tag ps ++ ts) ns ≡ map part_tag ps ++ resolved_tags table ts ns
+  parts-resolved [] ts ns = refl
+  parts-resolved (x ∷ ps) ts ns = grind (arith, parts-resolved ps ts ns)
 
   tag-resolved : (t : ItemTag) (tags : List ItemTag) (bytes : List ℕ)
       → ((ns : List ℕ) → unfolded_tags (resolved_tags table tags ns) (drop t.size bytes)
@@ -38,9 +27,10 @@ module _ (table : TableRead) where
       → (k : ItemKind) → t.kind ≡ k → (ns : List ℕ)
       → unfolded_tags (resolved_tags table (t ∷ tags) ns) bytes
       ≡ resolved_tags table (unfolded_tags (t ∷ tags) bytes) ns
+  unfolding run_tags
   tag-resolved t tags bytes rest tag.Run is ns =
       rw is (ap (λ l. run_tags (take t.size bytes) ++ l) (rest ns)
-      ∙ sym (run-resolved (take t.size bytes) (unfolded_tags tags (drop t.size bytes)) ns))
+      ∙ sym (parts-resolved (parts_of 0 0 0 (take t.size bytes)) (unfolded_tags tags (drop t.size bytes)) ns))
   tag-resolved t tags bytes rest k is ns = grind (arith, nat_tests, rest)
 
   unfolded-resolved : (tags : List ItemTag) (bytes : List ℕ) (ns : List ℕ)

@@ -1,6 +1,5 @@
 -- The nodes of a web: their titles, and the rows of their pieces.
-use Rattle.std.specs.Prelude.{◌≡◌, ◌<◌, ℕ, zero, suc, Bool, true, false, List, [], ◌∷◌, length, map}
-use Rattle.std.specs.Prelude.{slice_get, slice_index_or, Option, Some, None}
+use Rattle.std.specs.Prelude.{◌≡◌, ◌<◌, ℕ, zero, suc, List, [], ◌∷◌, length, map, slice_index_or}
 use Rattle.std.specs.List.{All}
 use Rattle.digraph.specs.Nodes.{Node}
 use Rattle.tangle_scan.specs.Web.{WebRead, PieceRead, no_piece}
@@ -8,19 +7,10 @@ use Rattle.tangle_names.specs.NameTable.{TableRead}
 use Rattle.tangle_bodies.specs.Shapes.{Title, Program, Named}
 use Rattle.tangle_bodies.specs.WebShapes.{pieces_of}
 
-abbrev pub title_of_name : Option (List ℕ) → Title
-title_of_name None = Program
-title_of_name (Some name) = Named name
-
--- the title of the node
+-- the title of the node: the program, or the name with its number
 abbrev pub title_at : List (List ℕ) → Node → Title
 title_at names zero = Program
-title_at names (suc id) = title_of_name (slice_get names id)
-
--- the node with this row of pieces has a piece
-abbrev pub row_has_piece : List ℕ → Bool
-row_has_piece [] = false
-row_has_piece (n ∷ ns) = true
+title_at names (suc id) = Named (slice_index_or names id [])
 
 -- the pieces with these numbers
 abbrev pub pieces_at : List PieceRead → List ℕ → List PieceRead

@@ -7,7 +7,6 @@ use Rattle.c_lines.specs.Counting.{start_of_text}
 use Rattle.tangle_files.specs.declared.marks.MarkMode.TheVariants.{Full}
 use Rattle.tangle_lines.specs.Reading.{SourceRead}
 use Rattle.tangle_scan.proofs.laws.WebLaws.{web-line-truth}
-use Rattle.tangle_scan.specs.Directives.{SameRegion}
 use Rattle.tangle_scan.specs.Rules.{texts_of}
 use Rattle.tangle_scan.specs.Web.{WebRead, web_of}
 use Rattle.tangle_names.specs.NameTable.{table_of}
@@ -22,7 +21,8 @@ use Rattle.tangle_c_tokens.specs.Files.{SourceHasNoLineFeed, numbers_in, shapes_
 use Rattle.tangle_c_lines.specs.CountedLines.{no_class, classes_of_bytes, classes_of_file, bytes_of_file, FilesAreCountedAsWritten, SourceLinesAreLow}
 use Rattle.tangle_c_tokens.proofs.AllMacroLemmas.{macros-keep}
 use Rattle.tangle_c_tokens.proofs.FileLemmas.{AreWrittenByPieces, file-is_read}
-use Rattle.tangle_c_lines.proofs.LineEndLemmas.{last-read}
+use Rattle.tangle_c_lines.proofs.ByteLemmas.{FileOfBytes}
+use Rattle.tangle_c_lines.proofs.LineEndLemmas.{at_front, last-read}
 use Rattle.tangle_c_lines.proofs.RunLemmas.{IsReadOn, keeps_after, loose-read}
 use Rattle.tangle_c_lines.proofs.SymbolLemmas.{AreKept, symbols-read, keeps_after-from}
 use Rattle.tangle_c_lines.proofs.FitLemmas.{node-fits}
@@ -43,18 +43,20 @@ module _ (pieces : AreWrittenByPieces) (source : SourceRead) (clear : SourceHasN
   classes_in node = classes levels source web node
 
   module _ (all : List ByteClass) (text : List ℕ) where
+    abbrev file : FileOfBytes
+    file = record { names = web.file_names; classes = all; bytes = text }
+
     -- after the macros
     abbrev Property : Bool → Title → Bool → Type 0
     Property true node now = AreAtTheirOrigins numbers now None (symbols_of node) (classes_in node)
     Property false node now = Unit {0}
 
     after-macros : (has_piece : Bool) (node : Title) → (has_piece ≡ true → IsExpandableNode (shapes_in source) node × ReachesWholePieces source node)
-        → IsReadOn web.file_names all text true None
+        → IsReadOn file true None
         (if has_piece then expansion_bytes numbers (symbols_of node) ++ line_feed ∷ [] else [])
         (if has_piece then classes_of_bytes numbers (symbols_of node) (classes_in node) ++ no_class ∷ [] else [])
         (Property has_piece node)
-    after-macros false node ready = λ start line read count choices border kept s pending.
-        last-read web.file_names all text start line read count choices border None [] s
+    after-macros false node ready = λ r choices kept s pending. last-read file r choices None [] s
     after-macros true node ready =
         symbols-read web (table_of web) clear.names (mark-low source low) (macros-keep (texts_of source.lines) web.macros) all text
         (symbols_of node) (classes_in node) true None
@@ -71,10 +73,15 @@ module _ (pieces : AreWrittenByPieces) (source : SourceRead) (clear : SourceHasN
 
   pub file-counted : FilesAreCountedAsWritten source
   file-counted name has_macros has_piece node whole ready seen choices =
-      loose-read web.file_names all text true (front_bytes numbers has_macros) rest more (Property all text has_piece node)
-      (subst (λ (kept : Bool). IsReadOn web.file_names all text kept None rest more (Property all text has_piece node)) (sym (front-keeps all text has_macros))
+      let all : List ByteClass = classes_of_file source has_macros has_piece node in
+      let text : List ℕ = bytes_of_file source has_macros has_piece node in
+      loose-read (file all text) true (front_bytes numbers has_macros) _ _ (Property all text has_piece node)
+      (subst (λ (kept : Bool). IsReadOn (file all text) kept None
+      (if has_piece then expansion_bytes numbers (symbols_of node) ++ line_feed ∷ [] else [])
+      (if has_piece then classes_of_bytes numbers (symbols_of node) (classes_in node) ++ no_class ∷ [] else [])
+      (Property all text has_piece node)) (sym (front-keeps all text has_macros))
       (after-macros all text has_piece node ready))
-      start_of_text [] true (record { row = 0; origin = record { file = name; line = 1 } }) choices SameRegion refl
+      (at_front start_of_text true (record { row = 0; origin = record { file = name; line = 1 } })) choices refl
       (record {
         own = λ now. tt;
         plain = tt;
@@ -88,15 +95,3 @@ module _ (pieces : AreWrittenByPieces) (source : SourceRead) (clear : SourceHasN
         bytes_are = refl;
         line_is = refl;
       }) (property all text has_piece node)
-    where
-      all : List ByteClass
-      all = classes_of_file source has_macros has_piece node
-
-      text : List ℕ
-      text = bytes_of_file source has_macros has_piece node
-
-      rest : List ℕ
-      rest = if has_piece then expansion_bytes numbers (symbols_of node) ++ line_feed ∷ [] else []
-
-      more : List ByteClass
-      more = if has_piece then classes_of_bytes numbers (symbols_of node) (classes_in node) ++ no_class ∷ [] else []

@@ -1,28 +1,27 @@
 -- The classes of an expansion fit its symbols: an item has no line feed, and each other byte is a
 -- line feed with its class, or a space.
+use Rattle.c_lines.proofs.LineDirectiveLemmas.{digits-line}
 use Rattle.std.proofs.Common.{rules}
 use Rattle.std.proofs.Common.{arith}
 use Rattle.std.proofs.Common.{◌≡◌, ℕ, ◌+◌, zero, suc, Bool, true, false, List, [], ◌∷◌, ◌++◌, map}
 use Rattle.std.proofs.Common.{refl, sym, subst}
 use Rattle.std.specs.Prelude.{◌==◌, if◌then◌else◌, filter, flat_map}
-use Rattle.std.specs.List.{AllZip, zip, list_all}
+use Rattle.std.specs.List.{AllZip, zip}
 use Rattle.std.proofs.lemmas.Bool.Decides.{nat_tests}
-use Rattle.c_tokens.specs.Bytes.{line_feed, is_digit}
+use Rattle.c_tokens.specs.Bytes.{line_feed}
 use Rattle.tangle_lines.specs.Reading.{SourceLine, SourceRead}
 use Rattle.tangle_text.specs.Text.{span_text}
 use Rattle.tangle_text.specs.declared.spans.Span.{Span}
 use Rattle.tangle_scan.specs.declared.items.Item.{Item}
-use Rattle.tangle_scan.specs.declared.items.Item.TheVariants as item
 use Rattle.tangle_scan.specs.Rules.{texts_of}
-use Rattle.tangle_scan.specs.Directives.{Border, SameRegion, border_after, after_line_end}
+use Rattle.tangle_scan.specs.Directives.{SameRegion, after_line_end}
 use Rattle.tangle_scan.specs.LineTruth.{Location, piece_locations, PiecesAreAtTheirLines}
 use Rattle.tangle_scan.specs.Web.{WebRead, PieceRead, web_of}
-use Rattle.tangle_names.specs.declared.Resolved.{Resolved}
 use Rattle.tangle_names.specs.NameTable.{table_of}
-use Rattle.tangle_bodies.specs.Shapes.{Title, Named, ShapeItem}
+use Rattle.tangle_bodies.specs.Shapes.{Title, Named}
 use Rattle.tangle_bodies.specs.Flat.{Symbol, Byte, items_flat, pieces_flat, flat}
-use Rattle.tangle_bodies.specs.WebShapes.{is_piece_of, use_of, resolved_at, shape_item, shape_of, shapes}
-use Rattle.tangle_expansion.specs.Location.{ByteClass, Other, class_at, resolved_classes, items_classes, classes}
+use Rattle.tangle_bodies.specs.WebShapes.{is_piece_of, shape_item, shape_of, shapes}
+use Rattle.tangle_expansion.specs.Location.{ByteClass, Other, class_at, items_classes, classes}
 use Rattle.tangle_c_tokens.specs.LineFeeds.{TextHasNoLineFeed, SourceLinesHaveNoLineFeed}
 use Rattle.tangle_c_tokens.proofs.DecimalLemmas.{decimal-digits}
 use Rattle.tangle_c_tokens.proofs.OneLineLemmas.{span-clear}
@@ -32,12 +31,6 @@ zip-both : {X Y : Type 0} (R : X → Y → Type 0) (xs zs : List X) (ys ws : Lis
 zip-both R [] zs [] ws h k = k
 zip-both R [] zs (y ∷ ys) ws h k = absurd h
 zip-both R (x ∷ xs) zs ys ws h k = search (rules, zip-both R xs zs)
-
--- texts without line feeds
-
-digits-none : (t : List ℕ) → list_all is_digit t ≡ true → TextHasNoLineFeed t
-digits-none [] all = refl
-digits-none (b ∷ t) all = grind (arith, nat_tests, digits-none t)
 
 module _ (web : WebRead) (lines : List SourceLine) (same : web.texts ≡ texts_of lines) (clear : SourceLinesHaveNoLineFeed lines)
     (used : List ℕ → List Symbol) (used_classes : List ℕ → List ByteClass)
@@ -53,25 +46,17 @@ module _ (web : WebRead) (lines : List SourceLine) (same : web.texts ≡ texts_o
   span-fits : (s : Span) → TextHasNoLineFeed (span_text web.texts s)
   span-fits s = subst (λ (texts : List (List ℕ)). TextHasNoLineFeed (span_text texts s)) (sym same) (span-clear lines clear s)
 
-  resolved-fit : (node : Title) (piece marks : ℕ) (items : List ShapeItem) (ds : List ByteClass) (border : Border) (r : Resolved)
-      → AllZip FitsClass (items_flat used node piece marks items) ds
-      → AllZip FitsClass (items_flat used node piece marks (use_of (table_of web) r ∷ items))
-      (Other border ∷ resolved_classes (table_of web) used_classes r ++ ds)
-  resolved-fit node piece marks items ds border r h = search (rules, zip-both)
-
   items-fit : (node : Title) (piece marks : ℕ) (line items : List Item) (ss : List Location)
       → AllZip FitsClass (items_flat used node piece marks (map (shape_item web.texts (table_of web)) items))
       (items_classes (table_of web) used_classes web.texts lines line ss items)
   items-fit node piece marks line [] ss = (tt, tt)
-  items-fit node piece marks line (item.UseOf occurrence ∷ items) ss =
-      resolved-fit node piece marks (map (shape_item web.texts (table_of web)) items) _ (border_after (texts_of lines) line) (resolved_at (table_of web) occurrence)
-      (items-fit node piece marks [] items ss)
   items-fit node piece marks line (x ∷ items) ss =
       search (
         rules,
         bytes-fit,
+        zip-both,
         span-fits,
-        digits-none,
+        digits-line,
         decimal-digits,
         items-fit node piece marks (line ++ x ∷ []) items,
         items-fit node piece (marks + 1) [] items ss,

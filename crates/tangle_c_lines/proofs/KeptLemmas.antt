@@ -1,30 +1,29 @@
 -- No mark of an expansion is directly after a backslash, if the pieces that it reaches are whole.
 use Rattle.std.proofs.Common.{rules}
 use Rattle.std.proofs.Common.{arith}
-use Rattle.std.proofs.Common.{ℕ, ◌+◌, zero, suc, Bool, true, false, List, [], ◌∷◌, ◌++◌, map, filter, Option}
+use Rattle.std.proofs.Common.{ℕ, ◌+◌, zero, suc, Bool, true, List, [], ◌∷◌, ◌++◌, map, Option}
 use Rattle.std.proofs.Common.{refl, sym, subst, append_assoc, append-nil}
-use Rattle.std.specs.Prelude.{if◌then◌else◌, flat_map}
+use Rattle.std.specs.Prelude.{flat_map}
 use Rattle.std.specs.List.{AllByRecursion}
 use Rattle.digraph.specs.Reach.{here, on}
 use Rattle.tangle_lines.specs.Reading.{SourceLine, SourceRead}
-use Rattle.tangle_lexer.specs.Steps.{all_tokens}
-use Rattle.tangle_lexer.specs.declared.tokens.Token.{Token}
 use Rattle.tangle_scan.specs.declared.items.Item.{Item}
 use Rattle.tangle_scan.specs.declared.items.Item.TheVariants as item
 use Rattle.tangle_scan.specs.ItemBytes.{bytes_in}
 use Rattle.tangle_scan.specs.Rules.{texts_of, part_tokens}
-use Rattle.tangle_scan.specs.Web.{PieceRead, Block, blocks, web_of}
+use Rattle.tangle_scan.specs.Web.{PieceRead, Block, web_of}
 use Rattle.tangle_c_tokens.specs.Kinds.{AreTexts}
 use Rattle.tangle_c_tokens.specs.LineFeeds.{SourceLinesHaveNoLineFeed}
-use Rattle.tangle_c_tokens.proofs.kind_lemmas.WebTexts.{piece_at, pieces-by, blocks-have}
-use Rattle.tangle_names.specs.declared.Resolved.{Resolved}
+use Rattle.tangle_c_tokens.proofs.kind_lemmas.WebTexts.{piece_at, node-by}
 use Rattle.tangle_names.specs.NameTable.{TableRead, table_of}
-use Rattle.tangle_bodies.specs.Shapes.{Title, Named, ShapeItem, item_names, shape_names}
+use Rattle.tangle_bodies.specs.Shapes.{Title, Named, item_names, shape_names}
 use Rattle.tangle_bodies.specs.Flat.{Symbol, Byte, items_flat, pieces_flat, flat}
-use Rattle.tangle_bodies.specs.WebShapes.{is_piece_of, use_of, shape_item, shape_of}
+use Rattle.tangle_bodies.specs.WebShapes.{shape_item, shape_of}
 use Rattle.tangle_c_tokens.specs.Pieces.{Passage, row_of_piece}
-use Rattle.tangle_c_tokens.specs.Files.{IsWholePassage, ReachesWholePieces, node_row, shapes_in}
-use Rattle.tangle_c_lines.proofs.KeptMarks.{MarksAreKept, IsWholeText, is_kept, after_feed, kept-last, feed-kept, marks-kept}
+use Rattle.tangle_c_tokens.specs.Files.{IsWholePassage, ReachesWholePieces, shapes_in}
+use Rattle.tangle_c_lines.proofs.KeptMarks.{MarksAreKept, IsWholeText, after_feed, feed-kept, marks-kept}
+use Rattle.tangle_c_tokens.proofs.FeedLemmas.{kept-last}
+use Rattle.tangle_c_tokens.proofs.TextLemmas.{is_kept}
 use Rattle.tangle_c_tokens.proofs.ListLemmas.{all-front, all-back, each}
 use Rattle.tangle_c_tokens.proofs.ListLemmas.{all-each}
 use Rattle.tangle_c_lines.proofs.SymbolLemmas.{AreKept}
@@ -44,12 +43,6 @@ module _ (texts : List (List ℕ)) (table : TableRead) (used : List ℕ → List
   abbrev symbols_of : Title → ℕ → ℕ → List Item → List Symbol
   symbols_of node piece marks items = items_flat used node piece marks (map (shape_item texts table) items)
 
-  use-kept : (node : Title) (piece marks : ℕ) (items : List ShapeItem) (rest : List Symbol) (kept : Bool) (r : Resolved)
-      → AllByRecursion (λ name. KeepOn (used name)) (item_names (use_of table r))
-      → AreKept true (items_flat used node piece marks items ++ rest)
-      → AreKept kept (items_flat used node piece marks (use_of table r ∷ items) ++ rest)
-  use-kept node piece marks items rest kept r names h = search (rules, append_assoc)
-
   -- the items of a piece
   items-kept : (node : Title) (piece marks : ℕ) (so_far : List ℕ) (items : List Item) (rest : List Symbol)
       → MarksAreKept texts so_far items
@@ -61,7 +54,7 @@ module _ (texts : List (List ℕ)) (table : TableRead) (used : List ℕ → List
       subst (λ (is : Bool). AreKept is (symbols_of node piece marks items ++ rest)) (feed-kept so_far)
       (items-kept node piece marks (after_feed so_far) items rest kept names h)
   items-kept node piece marks so_far (item.UseOf occurrence ∷ items) rest kept names h =
-      search (rules, use-kept, all-front, all-back, items-kept node piece marks [] items rest kept)
+      search (rules, append_assoc, all-front, all-back, items-kept node piece marks [] items rest kept)
   items-kept node piece marks so_far (item.AllMacros ∷ items) rest kept names h = items-kept node piece marks [] items rest kept names h
   items-kept node piece marks so_far (x ∷ items) rest kept names h =
       subst (AreKept (is_kept so_far)) (sym (append_assoc (map Byte (bytes_in texts x)) (symbols_of node piece marks items) rest))
@@ -72,18 +65,15 @@ module _ (texts : List (List ℕ)) (table : TableRead) (used : List ℕ → List
       → AllByRecursion (λ name. KeepOn (used name)) (shape_names (shape_of texts table pieces))
       → KeepOn (pieces_flat used node piece (shape_of texts table pieces))
   pieces-kept node piece [] kept names rest h = h
-  pieces-kept node piece (p ∷ pieces) kept names rest h = (
-    refl,
-    subst (AreKept true) (sym (append_assoc (symbols_of node piece 0 p.items) others rest))
-        (items-kept node piece 0 [] p.items (others ++ rest) kept.0 (all-front (λ name. KeepOn (used name)) own _ names)
-        (pieces-kept node (piece + 1) pieces kept.1 (all-back (λ name. KeepOn (used name)) own _ names) rest h)),
-  )
-    where
-      others : List Symbol
-      others = pieces_flat used node (piece + 1) (shape_of texts table pieces)
-
-      own : List (List ℕ)
-      own = flat_map item_names (map (shape_item texts table) p.items)
+  pieces-kept node piece (p ∷ pieces) kept names rest h =
+      let others = pieces_flat used node (piece + 1) (shape_of texts table pieces) in
+      let own = flat_map item_names (map (shape_item texts table) p.items) in (
+        refl,
+        subst (AreKept true) (sym (append_assoc (symbols_of node piece 0 p.items) others rest))
+            (items-kept node piece 0 [] p.items (others ++ rest) kept.0
+            (all-front (λ name. KeepOn (used name)) own _ names)
+            (pieces-kept node (piece + 1) pieces kept.1 (all-back (λ name. KeepOn (used name)) own _ names) rest h)),
+      )
 
 module _ (source : SourceRead) (clear : SourceLinesHaveNoLineFeed source.lines) where
   abbrev lines : List SourceLine
@@ -92,44 +82,31 @@ module _ (source : SourceRead) (clear : SourceLinesHaveNoLineFeed source.lines) 
   abbrev table : TableRead
   table = table_of (web_of source)
 
-  abbrev IsKeptPiece : PieceRead → Type 0
-  IsKeptPiece p = MarksAreKept (texts_of lines) [] p.items
+  -- the pieces of a row that is whole
+  abbrev AreKeptPieces : List Passage → List PieceRead → Type 0
+  AreKeptPieces row pieces =
+      AllByRecursion (IsWholePassage source) row
+      → AllByRecursion (λ p. MarksAreKept (texts_of lines) [] p.items) pieces
 
-  abbrev AreWhole : List Passage → Type 0
-  AreWhole row = AllByRecursion (IsWholePassage source) row
-
-  -- the pieces of a node whose row is whole
-  abbrev AreKeptPieces : Title → List PieceRead → List (List Token) → Type 0
-  AreKeptPieces node pieces tokens =
-      AreWhole (node_row (texts_of lines) table node pieces tokens) → AllByRecursion IsKeptPiece (filter (is_piece_of table node) pieces)
-
-  piece-kept : (node : Title) (b : Block) (occurrence : Option ℕ) (line : ℕ) (pieces : List PieceRead) (tokens : List (List Token))
-      → AreTexts (texts_of lines) (part_tokens (texts_of lines) b.tokens) → AreKeptPieces node pieces tokens
-      → AreKeptPieces node (piece_at lines b occurrence line ∷ pieces) (part_tokens (texts_of lines) b.tokens ∷ tokens)
-  piece-kept node b occurrence line pieces tokens are more whole = chosen (is_piece_of table node p) whole
-    where
-      p : PieceRead
-      p = piece_at lines b occurrence line
-
-      row : List Passage
-      row = row_of_piece (texts_of lines) p (part_tokens (texts_of lines) b.tokens)
-
-      chosen : (is : Bool) → AreWhole ((if is then row else []) ++ node_row (texts_of lines) table node pieces tokens)
-          → AllByRecursion IsKeptPiece (if is then p ∷ filter (is_piece_of table node) pieces else filter (is_piece_of table node) pieces)
-      chosen true whole = (
+  piece-kept : (b : Block) (occurrence : Option ℕ) (line : ℕ) (row : List Passage) (pieces : List PieceRead)
+      → AreTexts (texts_of lines) (part_tokens (texts_of lines) b.tokens) → AreKeptPieces row pieces
+      → let piece : PieceRead = piece_at lines b occurrence line in
+      AreKeptPieces (row_of_piece (texts_of lines) piece (part_tokens (texts_of lines) b.tokens) ++ row)
+      (piece ∷ pieces)
+  piece-kept b occurrence line row pieces are more whole =
+      let own = row_of_piece (texts_of lines) (piece_at lines b occurrence line)
+      (part_tokens (texts_of lines) b.tokens) in (
         marks-kept lines (λ occurrence. []) [] line b.tokens
             (all-each (IsWholePassage source) (IsWholeText (texts_of lines) (λ occurrence. []) []) _ (λ p whole. search rules)
-            (all-front (IsWholePassage source) row _ whole).1),
-        more (all-back (IsWholePassage source) row _ whole),
+            (all-front (IsWholePassage source) own row whole).1),
+        more (all-back (IsWholePassage source) own row whole),
       )
-      chosen false whole = more whole
 
   -- the expansion of a node
   pub node-kept : (fuel : ℕ) (node : Title) → ReachesWholePieces source node → KeepOn (flat fuel (shapes_in source) node)
   node-kept zero node reaches = λ rest h. h
   node-kept (suc fuel) node reaches =
       pieces-kept (texts_of lines) table (λ name. flat fuel (shapes_in source) (Named name)) node 0 _
-      (pieces-by lines (AreKeptPieces node) (λ whole. tt) (piece-kept node) (blocks 0 (all_tokens lines)) (blocks-have lines clear)
-      (reaches node here))
+      (node-by lines table node AreKeptPieces (λ whole. tt) piece-kept clear (reaches node here))
       (each (λ name. KeepOn (flat fuel (shapes_in source) (Named name))) _
       (λ name uses. node-kept fuel (Named name) (λ other onward. reaches other (on uses onward))))

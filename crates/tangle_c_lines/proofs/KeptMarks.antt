@@ -1,4 +1,6 @@
 -- No line mark of a piece is directly after a backslash, which would take out the mark's line feed.
+use Rattle.tangle_c_tokens.proofs.FeedLemmas.{kept-last}
+use Rattle.tangle_c_tokens.proofs.TextLemmas.{is_kept}
 use Rattle.std.proofs.Common.{rules, arith}
 use Rattle.std.proofs.lemmas.Bool.Decides.{nat_tests}
 use Rattle.std.proofs.Common.{◌≡◌, ℕ, Bool, true, false, ◌||◌, if◌then◌else◌, List, [], ◌∷◌, ◌++◌, flat_map}
@@ -6,7 +8,6 @@ use Rattle.std.proofs.Common.{append_assoc, append-nil, refl, ap, sym, ◌∙◌
 use Rattle.std.specs.List.{AllByRecursion, list_all}
 use Rattle.std.proofs.lemmas.Bool.{and_parts, false≢true, or_left}
 use Rattle.c_tokens.specs.Bytes.{space, line_feed}
-use Rattle.c_tokens.specs.Borders.{keep_lines}
 use Rattle.tangle_lines.specs.declared.origin.Origin.{Origin}
 use Rattle.tangle_lines.specs.Reading.{SourceLine}
 use Rattle.tangle_lexer.specs.declared.tokens.Token.{Token}
@@ -17,10 +18,6 @@ use Rattle.tangle_scan.specs.Rules.{texts_of, part_tokens, part_items}
 use Rattle.tangle_c_tokens.specs.Groups.{Group}
 use Rattle.tangle_c_tokens.specs.Pieces.{Passage, OfPart, OfMark, mark_place, row_after, line_feed_follows, IsWholePart}
 use Rattle.tangle_c_tokens.proofs.LayoutLemmas.{is_inner, is_mark, IsUseItem, OfUse, OfMacros, Meets, IsPart, piece-lays}
-
--- a line feed after these bytes is not taken out
-abbrev pub is_kept : List ℕ → Bool
-is_kept bytes = keep_lines bytes (line_feed ∷ [])
 
 -- the bytes of a line after a line feed, which ends the line or is taken out
 abbrev pub after_feed : List ℕ → List ℕ
@@ -40,13 +37,6 @@ MarksAreKept texts so_far (x ∷ items) = MarksAreKept texts (so_far ++ bytes_in
 abbrev pub IsWholeText : List (List ℕ) → (ℕ → List ℕ) → List ℕ → Passage → Type 0
 IsWholeText texts used macros (OfPart part) = IsWholePart texts used macros part
 IsWholeText texts used macros (OfMark origin) = Unit {0}
-
--- the last byte decides
-
-pub kept-last : (a : List ℕ) (c : ℕ) (b : List ℕ) → is_kept (a ++ c ∷ b) ≡ is_kept (c ∷ b)
-kept-last [] c b = refl
-kept-last (x ∷ []) c b = refl
-kept-last (x ∷ y ∷ a) c b = kept-last (y ∷ a) c b
 
 -- a line that ends as a text does, if the text has bytes
 abbrev EndsAs : List ℕ → List ℕ → Type 0

@@ -13,7 +13,7 @@ use Rattle.tangle_lexer.specs.Steps.{all_tokens}
 use Rattle.tangle_lexer.specs.declared.tokens.Token.{Token}
 use Rattle.tangle_scan.specs.declared.items.Item.{Item}
 use Rattle.tangle_scan.specs.declared.items.Item.TheVariants as item
-use Rattle.tangle_scan.specs.Rules.{texts_of, token_items, marks_after, with_all_marks, with_needed_marks, part_items, blanks, part_tokens, next_line}
+use Rattle.tangle_scan.specs.Rules.{texts_of, with_all_marks, with_needed_marks, part_items, blanks, part_tokens, next_line}
 use Rattle.tangle_scan.specs.Texts.{item_origins}
 use Rattle.tangle_scan.specs.Web.{WebRead, PieceRead, web_of, Block, blocks, piece_of}
 use Rattle.tangle_names.specs.NameTable.{TableRead, table_of}
@@ -31,24 +31,18 @@ module _ (lines : List SourceLine) (low : SourceLinesAreLow lines) where
   abbrev AreLow : List Item → Type 0
   AreLow items = AllByRecursion IsLow (flat_map item_origins items)
 
-  token-low : (e : Token) (more : List Item) → AreLow more → AreLow (token_items e ++ more)
-  token-low e more h = search rules
-
-  marks-low : (before : Option Token) (e : Token) (more : List Item) → AreLow more → AreLow (marks_after lines before e ++ more)
-  marks-low before e more h = search (rules, origin-low)
-
   all-marks-low : (before : Option Token) (es : List Token) → AreLow (with_all_marks lines before es)
   all-marks-low before [] = tt
-  all-marks-low before (e ∷ es) = token-low e _ (marks-low before e _ (all-marks-low (Some e) es))
+  all-marks-low before (e ∷ es) = search (rules, origin-low, all-marks-low (Some e) es)
 
   needed-low : (line : List Item) (counted : Origin) (items : List Item) → AreLow items → AreLow (with_needed_marks (texts_of lines) line counted items)
   needed-low line counted [] h = tt
   needed-low line counted (item.LineEnd ∷ item.LineMark p ∷ items) h = search (rules, needed-low [] p items)
   needed-low line counted (item.LineEnd ∷ []) h = tt
   needed-low line counted (item.LineEnd ∷ x ∷ items) h = needed-low (line ++ item.LineEnd ∷ []) (next_line counted) (x ∷ items) h
-  needed-low line counted (item.QuoteBreak ∷ items) h = needed-low (line ++ item.QuoteBreak ∷ []) (next_line counted) items h
   needed-low line counted (item.LineMark p ∷ items) h = (h.0, needed-low [] p items h.1)
-  needed-low line counted (x ∷ items) h = needed-low (line ++ x ∷ []) counted items h
+  needed-low line counted (x ∷ items) h =
+      search (rules, needed-low (line ++ x ∷ []) (next_line counted) items, needed-low (line ++ x ∷ []) counted items)
 
   part-low : (line : ℕ) (es : List Token) → AreLow (part_items lines line es)
   part-low line es = needed-low [] (origin_at lines line)
@@ -70,28 +64,21 @@ numbers-low : (test : PieceRead → Bool) (pieces : List PieceRead) → AllByRec
 numbers-low test [] low = tt
 numbers-low test (p ∷ pieces) low = search (rules, numbers-low test pieces)
 
+names-low : (web : WebRead) (table : TableRead) → AllByRecursion IsLowPiece web.pieces → (names : List (List ℕ))
+    → AllByRecursion AreLowNumbers (map (map numbers_of_piece) (map (λ name. pieces_of web table (Named name)) names))
+names-low web table each [] = tt
+names-low web table each (name ∷ names) =
+    (numbers-low (is_piece_of table (Named name)) web.pieces each, names-low web table each names)
+
 -- the origin of each mark is low
 pub mark-low : (source : SourceRead) → SourceLinesAreLow source.lines → (node : Title) (piece mark : ℕ)
     → IsLow (origin_of_mark (numbers_of (web_of source) (table_of (web_of source)) Full) node piece mark)
 mark-low source low node piece mark =
+    let web : WebRead = web_of source in
+    let table : TableRead = table_of web in
+    let numbers : NumbersRead = numbers_of web table Full in
+    let each = pieces-low source.lines low (blocks 0 (all_tokens source.lines)) in
     all-get IsLow (numbers_at numbers node piece).origins mark no_origin (omega arith)
     (all-get (λ (n : PieceNumbersRead). AllByRecursion IsLow n.origins) (node_numbers numbers node) piece no_numbers tt
     (all-get AreLowNumbers numbers.rows (row_number numbers.names node) [] tt
-    (numbers-low (is_piece_of table Program) web.pieces each, names-low numbers.names)))
-  where
-    web : WebRead
-    web = web_of source
-
-    table : TableRead
-    table = table_of web
-
-    numbers : NumbersRead
-    numbers = numbers_of web table Full
-
-    each : AllByRecursion IsLowPiece web.pieces
-    each = pieces-low source.lines low (blocks 0 (all_tokens source.lines))
-
-    names-low : (names : List (List ℕ))
-        → AllByRecursion AreLowNumbers (map (map numbers_of_piece) (map (λ name. pieces_of web table (Named name)) names))
-    names-low [] = tt
-    names-low (name ∷ names) = (numbers-low (is_piece_of table (Named name)) web.pieces each, names-low names)
+    (numbers-low (is_piece_of table Program) web.pieces each, names-low web table each numbers.names)))

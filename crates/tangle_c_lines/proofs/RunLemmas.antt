@@ -4,25 +4,26 @@ use Rattle.std.proofs.Common.{rules}
 use Rattle.std.proofs.lemmas.Bool.Decides.{nat_tests}
 use Rattle.std.proofs.Common.{arith}
 use Rattle.std.proofs.Common.{◌≡◌, ℕ, ◌+◌, ◌-◌, Bool, true, false, List, [], ◌∷◌, ◌++◌, map, drop, get_or}
-use Rattle.std.proofs.Common.{Option, None, Some, refl, sym, ap, subst, ◌∙◌, append_assoc, append-nil}
+use Rattle.std.proofs.Common.{Option, None, Some, refl, sym, ap, subst, ◌∙◌, append_assoc}
 use Rattle.std.specs.Prelude.{◌==◌, ◌&&◌, not, if◌then◌else◌, codes}
-use Rattle.std.specs.List.{AllByRecursion, list_all}
+use Rattle.std.specs.List.{AllByRecursion, list_all, list_any}
 use Rattle.std.specs.Str.Parse.{digits_value}
-use Rattle.std.proofs.lemmas.Bool.{and_parts, eqb-true, not-true}
+use Rattle.std.proofs.lemmas.Bool.{and_parts, or_parts, eqb-true, not-true}
 use Rattle.c_tokens.specs.Bytes.{line_feed, space, is_digit}
 use Rattle.c_tokens.specs.Grammar.{is_string}
 use Rattle.c_tokens.specs.Borders.{keep_lines, has_bytes}
 use Rattle.c_lines.specs.Counting.{Place, LineCount}
 use Rattle.c_lines.specs.Counting.{next_place, place_after, tokens_at, lines_from, directive}
 use Rattle.c_lines.specs.Counting.{counted, count_after, counts_from, unescaped, reads}
+use Rattle.c_lines.proofs.JoinedLemmas.{IsInLine}
 use Rattle.c_lines.proofs.LineDirectiveLemmas.{line-directive}
-use Rattle.tangle_c_lines.proofs.ByteLemmas.{begins_sign, after_byte, same-choice, each-choice, later-choice, goes-on, counts-feed}
-use Rattle.tangle_c_lines.proofs.ByteLemmas.{Stands, AreRead, IsOwn, IsPlainByte, IsCountedAs, presumed}
-use Rattle.tangle_c_lines.proofs.KeptMarks.{kept-last}
-use Rattle.tangle_c_lines.proofs.LineEndLemmas.{ends, counts-end}
+use Rattle.tangle_c_lines.proofs.ByteLemmas.{begins_sign, after_byte, each-choice, pending-parts, goes-on, counts-feed}
+use Rattle.tangle_c_lines.proofs.ByteLemmas.{FileOfBytes, Reader, here, with_byte, Stands, AreRead, IsOwn, IsPlainByte, IsCountedAs, presumed}
+use Rattle.tangle_c_tokens.proofs.FeedLemmas.{kept-last}
+use Rattle.tangle_c_lines.proofs.LineEndLemmas.{counts_after, at_front, at_next, ends, counts-end}
 use Rattle.tangle_lines.specs.declared.origin.Origin.{Origin}
 use Rattle.tangle_scan.specs.LineTruth.{with_line_end}
-use Rattle.tangle_scan.specs.Directives.{Border, SameRegion, ForEachChoice}
+use Rattle.tangle_scan.specs.Directives.{SameRegion, ForEachChoice}
 use Rattle.tangle_expansion.specs.Location.{ByteClass, IsOwnOrigin, border_of}
 use Rattle.tangle_c_lines.specs.CountedLines.{no_class, later_border}
 
@@ -46,177 +47,156 @@ abbrev pub keeps_after : Bool → List ℕ → Bool
 keeps_after kept [] = kept
 keeps_after kept (b ∷ bs) = keeps_after (keeps b) bs
 
-rows-same : (p : Place) (l : List ℕ) → list_all (λ b. not (is_feed b)) l ≡ true → (place_after p l).row ≡ p.row
+rows-same : (p : Place) (l : List ℕ) → IsInLine l → (place_after p l).row ≡ p.row
 rows-same p [] none = refl
 rows-same p (b ∷ l) none = grind (arith, nat_tests, rows-same (next_place p b) l)
 
-module _ (names : List (List ℕ)) (all : List ByteClass) (text : List ℕ) where
-  abbrev Here : Place → List ℕ → Bool → LineCount → Border → Option Origin → List ℕ → List ByteClass → Type 0
-  Here start line read count border origin rest ks = Stands names all text start line read count border origin rest ks
-
-  abbrev Reads : Place → List ℕ → Bool → LineCount → List Bool → List ℕ → Type 0
-  Reads start line read count choices rest = AreRead names all text start line read count choices rest
-
+module _ (f : FileOfBytes) where
   -- What is after any line so far, of which each region that the border permits has this property,
   -- is read as it is to be. `kept`: the line so far takes out no line feed after it.
   abbrev pub IsReadOn : Bool → Option Origin → List ℕ → List ByteClass → (Bool → Type 0) → Type 0
   IsReadOn kept origin rest ks T =
-      (start : Place) (line : List ℕ) (read : Bool) (count : LineCount) (choices : List Bool) (border : Border)
-      → keep_lines line (line_feed ∷ []) ≡ kept
-      → Here start line read count border origin rest ks → ForEachChoice border read T → Reads start line read count choices rest
+      (r : Reader) (choices : List Bool) → keep_lines r.line (line_feed ∷ []) ≡ kept → Stands f r origin rest ks
+      → ForEachChoice r.border r.read T → AreRead f r choices rest
 
   -- without the origin less is known
-  pub forget : (start : Place) (line : List ℕ) (read : Bool) (count : LineCount) (border : Border) (origin : Option Origin)
-      (rest : List ℕ) (ks : List ByteClass) → Here start line read count border origin rest ks → Here start line read count border None rest ks
-  forget start line read count border origin rest ks s = record {
-    own = s.own;
-    plain = tt;
-    counts = tt;
-    row = s.row;
-    joined = s.joined;
-    whole = s.whole;
-    borders = s.borders;
-    seen = s.seen;
-    classes_are = s.classes_are;
-    bytes_are = s.bytes_are;
-    line_is = s.line_is;
-  }
+  pub forget : (r : Reader) (origin : Option Origin) (rest : List ℕ) (ks : List ByteClass) → Stands f r origin rest ks
+      → Stands f r None rest ks
+  forget r origin rest ks s = search rules
+
+  -- bytes that go on a line are read as they were
+  regrouped : (r : Reader) (choices : List Bool) (bs rest : List ℕ)
+      → AreRead f (record r { line = r.line ++ bs }) choices rest → AreRead f r choices (bs ++ rest)
+  regrouped r choices bs rest =
+      subst (λ (bytes : List ℕ). AllByRecursion (IsOwn f) (reads choices r.read r.count (lines_from r.start bytes)))
+      (append_assoc r.line bs rest)
 
   -- one byte, which ends a line or does not
   pub byte-read : (kept : Bool) (c : ℕ) (rest : List ℕ) (k : ByteClass) (ks : List ByteClass) (origin : Option Origin) (T : Bool → Type 0)
-      → IsPlainByte names all text origin c k → IsReadOn (keeps c) (after_byte c origin) rest ks T
+      → IsPlainByte origin c k → IsReadOn (keeps c) (after_byte c origin) rest ks T
       → IsReadOn kept origin (c ∷ rest) (k ∷ ks) (λ now. ForEachChoice (border_of k) now (λ after. IsOwnOrigin after origin k × T after))
-  byte-read kept c rest k ks origin T plain onward start line read count choices border keeps-so s pending =
-      by (is_feed c) refl kept keeps-so
+  byte-read kept c rest k ks origin T plain onward r choices keeps-so s pending = by (is_feed c) refl kept keeps-so
     where
-      own : IsOwnOrigin read origin k
-      own = (same-choice (border_of k) read _ (same-choice border read _ pending)).0
+      parts : IsOwnOrigin r.read origin k × ForEachChoice (later_border r.border (border_of k)) r.read T
+      parts = pending-parts r.border k r.read (λ after. IsOwnOrigin after origin k) T pending
 
-      after : ForEachChoice (later_border border (border_of k)) read T
-      after = each-choice (later_border border (border_of k)) read _ T (λ now h. h.1)
-          (later-choice border (border_of k) read _ pending)
-
-      counts : LineCount
-      counts = if read then count_after count (Some (place_after start line)) (directive (tokens_at start line)) else count
-
-      more : (c == line_feed && keep_lines line (line_feed ∷ [])) ≡ false → Reads start line read count choices (c ∷ rest)
+      more : (c == line_feed && keep_lines r.line (line_feed ∷ [])) ≡ false → AreRead f r choices (c ∷ rest)
       more none =
-          subst (λ (bytes : List ℕ). AllByRecursion (IsOwn names all text) (reads choices read count (lines_from start bytes)))
-          (append_assoc line (c ∷ []) rest)
-          (onward start (line ++ c ∷ []) read count choices (later_border border (border_of k)) (kept-last line c [])
-          (goes-on names all text start line read count border origin c rest k ks s none own plain) after)
+          regrouped r choices (c ∷ []) rest
+          (onward (with_byte r c k) choices (kept-last r.line c [])
+          (goes-on f r origin c rest k ks s none parts.0 plain) parts.1)
 
-      by : (feed : Bool) → is_feed c ≡ feed → (kept : Bool) → keep_lines line (line_feed ∷ []) ≡ kept → Reads start line read count choices (c ∷ rest)
+      by : (feed : Bool) → is_feed c ≡ feed → (kept : Bool) → keep_lines r.line (line_feed ∷ []) ≡ kept
+          → AreRead f r choices (c ∷ rest)
       by false is kept held = more (rw is refl)
       by true is false held = more (rw is held)
       by true is true held =
           let same : c ≡ line_feed = eqb-true c line_feed is in
-          let now_s : Here start line read count border origin (line_feed ∷ rest) (k ∷ ks) =
-          subst (λ (b : ℕ). Here start line read count border origin (b ∷ rest) (k ∷ ks)) same s in
-          subst (λ (b : ℕ). Reads start line read count choices (b ∷ rest)) (sym same)
-          (ends names all text start line read count choices border origin rest k ks T (with_line_end origin) now_s held after
-          (counts-end names all text start line read count border origin rest (k ∷ ks) now_s held)
-          (λ now choices allowed later. onward (next_place (place_after start line) line_feed) [] now counts choices SameRegion (sym (ap keeps same))
-          (subst (λ (o : Option Origin). Here (next_place (place_after start line) line_feed) [] now counts SameRegion o rest ks)
+          let now_s = subst (λ (b : ℕ). Stands f r origin (b ∷ rest) (k ∷ ks)) same s in
+          subst (λ (b : ℕ). AreRead f r choices (b ∷ rest)) (sym same)
+          (ends f r choices origin rest k ks T (with_line_end origin) now_s held parts.1
+          (counts-end f r origin rest (k ∷ ks) now_s held)
+          (λ now choices allowed later. onward (at_next r now) choices (sym (ap keeps same))
+          (subst (λ (o : Option Origin). Stands f (at_next r now) o rest ks)
           (sym (ap (λ (feed : Bool). if feed then with_line_end origin else origin) is)) later) allowed))
 
   -- any bytes, where no origin is counted
   pub loose-read : (kept : Bool) (bs rest : List ℕ) (ks : List ByteClass) (T : Bool → Type 0)
       → IsReadOn (keeps_after kept bs) None rest ks T → IsReadOn kept None (bs ++ rest) (no_classes bs ++ ks) T
   loose-read kept [] rest ks T onward = onward
-  loose-read kept (b ∷ bs) rest ks T onward = λ start line read count choices border keeps-so s pending.
+  loose-read kept (b ∷ bs) rest ks T onward = λ r choices keeps-so s pending.
       byte-read kept b (bs ++ rest) no_class (no_classes bs ++ ks) None T tt
       (cond_both (is_feed b) None None (λ o. IsReadOn (keeps b) o (bs ++ rest) (no_classes bs ++ ks) T)
       (λ e. loose-read (keeps b) bs rest ks T onward) (λ e. loose-read (keeps b) bs rest ks T onward))
-      start line read count choices border keeps-so s (each-choice border read T _ (λ now h. (tt, h)) pending)
+      r choices keeps-so s (each-choice r.border r.read T _ (λ now h. (tt, h)) pending)
 
-  sign-first : (origin : Option Origin) (b : ℕ) (bs : List ℕ) (k : ByteClass) → HasNoSign origin (b ∷ bs) → IsPlainByte names all text origin b k
+  sign-first : (origin : Option Origin) (b : ℕ) (bs : List ℕ) (k : ByteClass) → HasNoSign origin (b ∷ bs)
+      → IsPlainByte origin b k
   sign-first origin b bs k plain = search (rules, and_parts, not-true)
 
   sign-rest : (origin : Option Origin) (b : ℕ) (bs : List ℕ) → HasNoSign origin (b ∷ bs) → HasNoSign origin bs
   sign-rest origin b bs plain = search (rules, and_parts)
 
-  -- bytes without a line feed
-  pub run : (bs rest : List ℕ) (ks : List ByteClass) (start : Place) (line : List ℕ) (read : Bool) (count : LineCount)
-      (border : Border) (origin : Option Origin) → list_all (λ b. not (is_feed b)) bs ≡ true → HasNoSign origin bs
-      → Here start line read count border origin (bs ++ rest) (no_classes bs ++ ks)
-      → Here start (line ++ bs) read count border origin rest ks
-  run [] rest ks start line read count border origin none plain s =
-      subst (λ (l : List ℕ). Here start l read count border origin rest ks) (sym (append-nil line)) s
-  run (b ∷ bs) rest ks start line read count border origin none plain s =
-      let parts = and_parts (not (is_feed b)) (list_all (λ b. not (is_feed b)) bs) none in
-      let other : is_feed b ≡ false = not-true (is_feed b) parts.0 in
-      subst (λ (l : List ℕ). Here start l read count border origin rest ks) (append_assoc line (b ∷ []) bs)
-      (run bs rest ks start (line ++ b ∷ []) read count border origin parts.1 (sign-rest origin b bs plain)
-      (subst (λ (o : Option Origin). Here start (line ++ b ∷ []) read count border o (bs ++ rest) (no_classes bs ++ ks))
+  -- a byte that is no line feed
+  byte-on : (r : Reader) (c : ℕ) (rest : List ℕ) (k : ByteClass) (ks : List ByteClass) (origin : Option Origin)
+      → is_feed c ≡ false
+      → IsPlainByte origin c k → IsOwnOrigin r.read origin k → Stands f r origin (c ∷ rest) (k ∷ ks)
+      → Stands f (with_byte r c k) origin rest ks
+  byte-on r c rest k ks origin other plain own s =
+      subst (λ (o : Option Origin). Stands f (with_byte r c k) o rest ks)
       (ap (λ (feed : Bool). if feed then with_line_end origin else origin) other)
-      (goes-on names all text start line read count border origin b (bs ++ rest) no_class (no_classes bs ++ ks) s
-      (ap (λ (feed : Bool). feed && keep_lines line (line_feed ∷ [])) other) tt (sign-first origin b bs no_class plain))))
+      (goes-on f r origin c rest k ks s
+      (ap (λ (feed : Bool). feed && keep_lines r.line (line_feed ∷ [])) other) own plain)
 
-  -- such bytes, of which the first has this class
+  -- bytes without a line feed, of which the first has this class
+  run : (r : Reader) (c : ℕ) (bs rest : List ℕ) (k : ByteClass) (ks : List ByteClass) (origin : Option Origin)
+      → IsInLine (c ∷ bs)
+      → HasNoSign origin (c ∷ bs) → IsOwnOrigin r.read origin k → Stands f r origin (c ∷ bs ++ rest)
+      (k ∷ no_classes bs ++ ks)
+      → Stands f (record r { line = r.line ++ c ∷ bs; border = later_border r.border (border_of k) }) origin rest ks
+  run r c [] rest k ks origin none plain own s =
+      byte-on r c rest k ks origin (or_parts (is_feed c) false none).0 (sign-first origin c [] k plain) own s
+  run r c (b ∷ bs) rest k ks origin none plain own s =
+      let parts = or_parts (is_feed c) (list_any is_feed (b ∷ bs)) none in
+      subst (λ (l : List ℕ). Stands f
+      (record r { line = l; border = later_border r.border (border_of k) }) origin rest ks)
+      (append_assoc r.line (c ∷ []) (b ∷ bs))
+      (run (with_byte r c k) b bs rest no_class ks origin parts.1 (sign-rest origin c (b ∷ bs) plain) tt
+      (byte-on r c (b ∷ bs ++ rest) k (no_classes (b ∷ bs) ++ ks) origin parts.0
+      (sign-first origin c (b ∷ bs) k plain) own s))
+
+  -- such bytes, after which no line feed is taken out
   pub plain-read : (kept : Bool) (c : ℕ) (bs rest : List ℕ) (k : ByteClass) (ks : List ByteClass) (origin : Option Origin)
-      (T : Bool → Type 0) → list_all (λ b. not (is_feed b)) (c ∷ bs) ≡ true → HasNoSign origin (c ∷ bs) → keep_lines (c ∷ bs) (line_feed ∷ []) ≡ true
+      (T : Bool → Type 0) → IsInLine (c ∷ bs) → HasNoSign origin (c ∷ bs) → keep_lines (c ∷ bs)
+      (line_feed ∷ []) ≡ true
       → IsReadOn true origin rest ks T → IsReadOn kept origin (c ∷ bs ++ rest) (k ∷ no_classes bs ++ ks)
       (λ now. ForEachChoice (border_of k) now (λ after. IsOwnOrigin after origin k × T after))
-  plain-read kept c bs rest k ks origin T none plain keeps-end onward start line read count choices border keeps-so s pending =
-      subst (λ (bytes : List ℕ). AllByRecursion (IsOwn names all text) (reads choices read count (lines_from start bytes)))
-      (append_assoc line (c ∷ bs) rest)
-      (onward start (line ++ c ∷ bs) read count choices (later_border border (border_of k)) (kept-last line c bs ∙ keeps-end)
-      (subst (λ (l : List ℕ). Here start l read count (later_border border (border_of k)) origin rest ks) (append_assoc line (c ∷ []) bs)
-      (run bs rest ks start (line ++ c ∷ []) read count (later_border border (border_of k)) origin parts.1 (sign-rest origin c bs plain)
-      (subst (λ (o : Option Origin). Here start (line ++ c ∷ []) read count (later_border border (border_of k)) o (bs ++ rest) (no_classes bs ++ ks))
-      (ap (λ (feed : Bool). if feed then with_line_end origin else origin) other)
-      (goes-on names all text start line read count border origin c (bs ++ rest) k (no_classes bs ++ ks) s
-      (ap (λ (feed : Bool). feed && keep_lines line (line_feed ∷ [])) other)
-      (same-choice (border_of k) read _ (same-choice border read _ pending)).0
-      (sign-first origin c bs k plain)))))
-      (each-choice (later_border border (border_of k)) read _ T (λ now h. h.1) (later-choice border (border_of k) read _ pending)))
-    where
-      parts : (not (is_feed c) ≡ true) × (list_all (λ b. not (is_feed b)) bs ≡ true)
-      parts = and_parts (not (is_feed c)) (list_all (λ b. not (is_feed b)) bs) none
-
-      other : is_feed c ≡ false
-      other = not-true (is_feed c) parts.0
+  plain-read kept c bs rest k ks origin T none plain keeps-end onward r choices keeps-so s pending =
+      let parts = pending-parts r.border k r.read (λ after. IsOwnOrigin after origin k) T pending in
+      regrouped r choices (c ∷ bs) rest
+      (onward (record r { line = r.line ++ c ∷ bs; border = later_border r.border (border_of k) }) choices
+      (kept-last r.line c bs ∙ keeps-end) (run r c bs rest k ks origin none plain parts.0 s) parts.1)
 
   -- a `#line`, which begins a line of C
   pub line-read : (digits literal rest : List ℕ) (ks : List ByteClass) (own : Origin) (origin : Option Origin)
       (start : Place) (read : Bool) (count : LineCount) (choices : List Bool)
-      → list_all is_digit digits ≡ true → has_bytes digits ≡ true → is_string literal ≡ true
-      → list_all (λ b. not (is_feed b)) literal ≡ true
+      → list_all is_digit digits ≡ true → has_bytes digits ≡ true → is_string literal ≡ true → IsInLine literal
       → let line : List ℕ = codes "#line " ++ (digits ++ space ∷ literal) in
-      list_all (λ b. not (is_feed b)) line ≡ true → keep_lines line (line_feed ∷ []) ≡ true
-      → unescaped (drop 1 literal) ≡ get_or names own.file [] → digits_value 10 digits ≡ own.line
-      → Here start [] read count SameRegion origin (line ++ line_feed ∷ rest) (no_classes line ++ no_class ∷ ks)
+      IsInLine line → keep_lines line (line_feed ∷ []) ≡ true
+      → unescaped (drop 1 literal) ≡ get_or f.names own.file [] → digits_value 10 digits ≡ own.line
+      → Stands f (at_front start read count) origin (line ++ line_feed ∷ rest) (no_classes line ++ no_class ∷ ks)
       → ((next : Place) (count : LineCount) (choices : List Bool)
-      → Here next [] read count SameRegion (if read then Some own else with_line_end origin) rest ks
-      → Reads next [] read count choices rest) → Reads start [] read count choices (line ++ line_feed ∷ rest)
+      → Stands f (at_front next read count) (if read then Some own else with_line_end origin) rest ks
+      → AreRead f (at_front next read count) choices rest) → AreRead f (at_front start read count) choices
+      (line ++ line_feed ∷ rest)
   line-read digits literal rest ks own origin start read count choices all_digits some is_text in_line no_feed kept name number s onward =
-      ends names all text start line read count choices SameRegion None rest no_class ks (λ now. now ≡ read)
-      (if read then Some own else with_line_end origin)
-      (run line (line_feed ∷ rest) (no_class ∷ ks) start [] read count SameRegion None no_feed tt
-      (forget start [] read count SameRegion origin (line ++ line_feed ∷ rest) (no_classes line ++ no_class ∷ ks) s))
-      kept refl (new read)
-      (λ now choices is later. subst (λ (r : Bool). Reads (next_place here line_feed) [] r counts choices rest) (sym is)
-      (onward (next_place here line_feed) counts choices
-      (subst (λ (r : Bool). Here (next_place here line_feed) [] r counts SameRegion (if read then Some own else with_line_end origin) rest ks) is later)))
+      let line : List ℕ = codes "#line " ++ (digits ++ space ∷ literal) in
+      let after : Reader = record { start = start; line = line; read = read; count = count; border = SameRegion } in
+      let next : Option Origin = if read then Some own else with_line_end origin in
+      let now_at = λ (now : Bool). at_front (next_place (here after) line_feed) now (counts_after after) in
+      ends f after choices None rest no_class ks (λ now. now ≡ read) next
+      (run (at_front start read count) 35 (drop 1 line) (line_feed ∷ rest) no_class (no_class ∷ ks) None no_feed tt tt
+      (forget (at_front start read count) origin (line ++ line_feed ∷ rest)
+      (no_classes line ++ no_class ∷ ks) s)) kept refl (new read)
+      (λ now choices is later. subst (λ (r : Bool). AreRead f (now_at r) choices rest) (sym is)
+      (onward (next_place (here after) line_feed) (counts_after after) choices
+      (subst (λ (r : Bool). Stands f (now_at r) next rest ks) is later)))
     where
-      line : List ℕ
-      line = codes "#line " ++ (digits ++ space ∷ literal)
+      at : Place
+      at = place_after start (codes "#line " ++ (digits ++ space ∷ literal))
 
-      here : Place
-      here = place_after start line
-
-      counts : LineCount
-      counts = if read then count_after count (Some here) (directive (tokens_at start line)) else count
-
-      set : count_after count (Some here) (codes "line" ∷ digits ∷ literal ∷ []) ≡ counts_from (here.row + 1) (unescaped (drop 1 literal)) digits
+      set : count_after count (Some at) (codes "line" ∷ digits ∷ literal ∷ []) ≡ counts_from (at.row + 1)
+          (unescaped (drop 1 literal)) digits
       set = rw all_digits (rw is_text refl)
 
-      new : (read : Bool) → IsCountedAs names all text (if read then count_after count (Some here) (directive (tokens_at start line)) else count)
-          (here.row + 1) (if read then Some own else with_line_end origin)
-      new true = subst (λ (c : LineCount). counted c (here.row + 1) ≡ presumed names all text own)
-          (sym (ap (count_after count (Some here)) (line-directive start digits literal all_digits some is_text in_line).1 ∙ set))
-          (ap (λ (f : List ℕ). record { file = f; line = digits_value 10 digits + ((here.row + 1) - (here.row + 1)) }) name
-          ∙ ap (λ (n : ℕ). record { file = get_or names own.file []; line = n }) (omega (arith, number)))
-      new false = subst (λ (row : ℕ). IsCountedAs names all text count (row + 1) (with_line_end origin)) (sym (rows-same start line no_feed))
-          (counts-feed names all text count start.row origin s.row s.counts)
+      new : (read : Bool) → IsCountedAs f (if read then count_after count (Some at)
+          (directive (tokens_at start (codes "#line " ++ (digits ++ space ∷ literal)))) else count)
+          (at.row + 1) (if read then Some own else with_line_end origin)
+      new true = subst (λ (c : LineCount). counted c (at.row + 1) ≡ presumed f own)
+          (sym (ap (count_after count (Some at))
+          (line-directive start digits literal all_digits some is_text in_line).1 ∙ set))
+          (ap (λ (file : List ℕ). record { file = file; line = digits_value 10 digits + ((at.row + 1) - (at.row + 1)) }) name
+          ∙ ap (λ (n : ℕ). record { file = get_or f.names own.file []; line = n }) (omega (arith, number)))
+      new false = subst (λ (row : ℕ). IsCountedAs f count (row + 1) (with_line_end origin))
+          (sym (rows-same start (codes "#line " ++ (digits ++ space ∷ literal)) no_feed))
+          (counts-feed f count start.row origin s.row s.counts)

@@ -1,16 +1,18 @@
 -- A web with a group, whose first directive has a use after it on its line: its directives are seen. One with `%:endif`, whose
 -- directives are not.
-use Rattle.std.proofs.Common.{◌≡◌, ℕ, true, false, List, [], ◌∷◌, ◌++◌, codes, replicate, refl, ap, sym, subst, ◌∙◌}
-use Rattle.std.specs.List.{AllByRecursion}
+use Rattle.std.proofs.Common.{rules, arith, ◌≡◌, ℕ, Bool, true, false, List, [], ◌∷◌, ◌++◌, codes, replicate, refl, ap, sym, subst}
+use Rattle.std.specs.List.{AllByRecursion, list_all}
+use Rattle.std.specs.Prelude.{◌&&◌, ◌||◌, not}
 use Rattle.std.specs.Fmt.{digits}
-use Rattle.std.proofs.lemmas.Bool.{false≢true}
-use Rattle.c_lines.specs.Counting.{LineOfTokens, start_of_text, begins_directive, begins_group, directive, turns_group}
+use Rattle.std.proofs.lemmas.Bool.{and_parts, false≢true, not-true}
+use Rattle.std.proofs.lemmas.Bool.Decides.{nat_tests}
+use Rattle.c_lines.specs.Counting.{LineOfTokens, start_of_text, begins_group, directive, turns_group}
 use Rattle.c_tokens.specs.Grammar.{is_element, is_token, is_punctuator}
 use Rattle.c_lines.specs.JoinedLines.{LinesAreWhole, joined_lines, lines_of_each}
 use Rattle.c_lines.proofs.LineLemmas.{each-line}
 use Rattle.tangle_lines.specs.Reading.{SourceRead}
 use Rattle.tangle_lexer.specs.Steps.{lexeme, occurrences_from, tokens_from}
-use Rattle.tangle_scan.specs.Directives.{SameRegion, GroupBegins, GroupTurns}
+use Rattle.tangle_scan.specs.Directives.{Border, SameRegion, GroupBegins, GroupTurns}
 use Rattle.tangle_bodies.specs.Shapes.{Program}
 use Rattle.tangle_expansion.specs.Limits.{levels}
 use Rattle.tangle_expansion.specs.Location.{ByteClass, OfItem, LineFeed, Other}
@@ -53,77 +55,32 @@ whole : LinesAreWhole written
 unfolding is_element is_token is_punctuator
 whole = (refl, (refl, (refl, (refl, (refl, (refl, (refl, (refl, (refl, (refl, (refl, (refl, (refl, (refl, (refl, tt)))))))))))))))
 
--- a line that is no directive
-no-directive : (line : LineOfTokens) → begins_directive line.tokens ≡ false → IsSeen of_bytes line
-no-directive line none = record {
-  begins = λ is. absurd (false≢true (rw none at is));
-  turns = λ is. absurd (false≢true (rw none at is));
-  marks = λ is. absurd (false≢true (rw none at is));
-}
+-- whether a line is seen, as a test
+abbrev is_turn : Border → Bool
+is_turn GroupTurns = true
+is_turn border = false
 
-line-mark : (line : LineOfTokens) → begins_group (directive line.tokens) ≡ false → turns_group (directive line.tokens) ≡ false
-    → is_of_item (class_of_byte of_bytes (place_of_first line.tokens).at) ≡ false → IsSeen of_bytes line
-line-mark line begins turns none = record {
-  begins = λ is. absurd (false≢true (sym begins ∙ is));
-  turns = λ is. absurd (false≢true (sym turns ∙ is));
-  marks = λ is. none;
-}
+abbrev is_seen : List ByteClass → LineOfTokens → Bool
+is_seen classes line =
+    let words : List (List ℕ) = directive line.tokens in
+    let border : Border = last_border (classes_of_line classes line) in
+    (not (begins_group words) || is_between_regions border) && (not (turns_group words) || is_turn border)
+    && (not (sets_line words) || not (is_of_item (class_of_byte classes (place_of_first line.tokens).at)))
 
-group-begins : (line : LineOfTokens) → is_between_regions (last_border (classes_of_line of_bytes line)) ≡ true
-    → turns_group (directive line.tokens) ≡ false → sets_line (directive line.tokens) ≡ false → IsSeen of_bytes line
-group-begins line border turns sets = record {
-  begins = λ is. border;
-  turns = λ is. absurd (false≢true (sym turns ∙ is));
-  marks = λ is. absurd (false≢true (sym sets ∙ is));
-}
+turn-is : (border : Border) → is_turn border ≡ true → border ≡ GroupTurns
+turn-is border is = search (rules, false≢true)
 
-group-turns : (line : LineOfTokens) → last_border (classes_of_line of_bytes line) ≡ GroupTurns
-    → begins_group (directive line.tokens) ≡ false → sets_line (directive line.tokens) ≡ false → IsSeen of_bytes line
-group-turns line border begins sets = record {
-  begins = λ is. absurd (false≢true (sym begins ∙ is));
-  turns = λ is. border;
-  marks = λ is. absurd (false≢true (sym sets ∙ is));
-}
+implied : (b c : Bool) → (not b || c) ≡ true → b ≡ true → c ≡ true
+implied b c h is = grind (arith, nat_tests)
+
+all-seen : (classes : List ByteClass) (ls : List LineOfTokens) → list_all (is_seen classes) ls ≡ true
+    → AllByRecursion (IsSeen classes) ls
+all-seen classes [] h = tt
+all-seen classes (line ∷ ls) h = search (rules, and_parts, implied, turn-is, not-true, all-seen classes ls)
 
 each-seen : AllByRecursion (IsSeen of_bytes) (lines_of_each start_of_text (joined_lines [] written))
 unfolding is_element is_token is_punctuator
-each-seen = (
-  no-directive _ refl,
-  (
-    line-mark _ refl refl refl,
-    (
-      no-directive _ refl,
-      (
-        group-begins _ refl refl refl,
-        (
-          line-mark _ refl refl refl,
-          (
-            no-directive _ refl,
-            (
-              no-directive _ refl,
-              (
-                no-directive _ refl,
-                (
-                  line-mark _ refl refl refl,
-                  (
-                    no-directive _ refl,
-                    (
-                      no-directive _ refl,
-                      (
-                        group-turns _ refl refl refl,
-                        (line-mark _ refl refl refl, (no-directive _ refl, (no-directive _ refl, tt))),
-                      ),
-                    ),
-                  ),
-                ),
-              ),
-            ),
-          ),
-        ),
-      ),
-    ),
-  ),
-)
+each-seen = all-seen of_bytes (lines_of_each start_of_text (joined_lines [] written)) refl
 
 -- the directives of the file are seen
 seen : DirectivesAreSeen (classes_of_file source false true Program) (bytes_of_file source false true Program)

@@ -1,6 +1,6 @@
 -- The bytes of all macros are read as their groups.
 use Rattle.std.proofs.Common.{rules, ℕ, List, [], ◌∷◌, ◌++◌, flat_map}
-use Rattle.std.proofs.Common.{append_assoc, refl, sym, subst}
+use Rattle.std.proofs.Common.{append_assoc, refl}
 use Rattle.std.specs.List.{AllByRecursion}
 use Rattle.tangle_lines.specs.Reading.{SourceLine}
 use Rattle.tangle_lexer.specs.declared.tokens.Token.{Token}
@@ -37,11 +37,9 @@ module _ (lines : List SourceLine) (rest : List ℕ) (ts : List (List ℕ))
   one-more : (b : Block) (macros : List (List Item)) (tokens : List (List Token)) → AreTexts (texts_of lines) (macro_tokens_of lines b)
       → AreRead macros tokens → AreRead (macro_items (texts_of lines) b.tokens ∷ macros) (macro_tokens_of lines b ∷ tokens)
   one-more b macros tokens are next alone =
-      let bytes = macro_bytes (texts_of lines) (macro_items (texts_of lines) b.tokens) in
-      let texts : List (List ℕ) = macro_texts (texts_of lines) (macro_tokens_of lines b) in
-      subst (IsReadAsTexts ((texts ++ flat_map (macro_texts (texts_of lines)) tokens) ++ ts)) (sym (append_assoc bytes _ rest))
-      (subst (λ us. IsReadAsTexts us (bytes ++ (flat_map (macro_bytes (texts_of lines)) macros ++ rest))) (sym (append_assoc texts _ ts))
-      (macro-by-groups (texts_of lines) _ _ (next alone.1) (macro_tokens_of lines b) are alone.0 (macro-on_line lines none _ are)))
+      simp append_assoc
+      (simp append_assoc at (macro-by-groups (texts_of lines) _ _ (next alone.1) (macro_tokens_of lines b) are alone.0
+      (macro-on_line lines none _ are)))
 
   pub macros-whole : AreRead (flat_map (macro_of lines) (blocks 0 (all_tokens lines))) (all_macro_tokens lines)
   macros-whole = macros-by lines AreRead (λ alone. read) one-more (blocks 0 (all_tokens lines)) (blocks-have lines none)

@@ -1,5 +1,7 @@
 -- The comments that open and close a piece have no tokens, and are apart from what is before and
 -- after them.
+use Rattle.tangle_c_tokens.specs.Reading.{IsReadAsTexts}
+use Rattle.std.proofs.Common.{subst, flat_map}
 use Rattle.c_tokens.proofs.GrammarLemmas.{all-weaker}
 use Rattle.std.proofs.Common.{rules}
 use Rattle.tangle_c_tokens.proofs.DecimalLemmas.{decimal-digits}
@@ -17,7 +19,7 @@ use Rattle.c_tokens.specs.Borders.{last_element, last_byte}
 use Rattle.c_tokens.specs.Borders.{have_border}
 use Rattle.c_tokens.proofs.ElementLemmas.{one-element, comment-element, last-append}
 use Rattle.c_lines.proofs.JoinedLemmas.{feeds_taken}
-use Rattle.tangle_c_tokens.proofs.TextLemmas.{Follows, follows-same, apart-from}
+use Rattle.tangle_c_tokens.proofs.TextLemmas.{Follows, apart-from}
 use Rattle.tangle_expansion.specs.Numbers.{opening_bytes, closing_bytes}
 use Rattle.std.proofs.lemmas.Bool.Decides.{nat_tests}
 
@@ -81,22 +83,22 @@ comment-one after [] all = refl
 comment-one after (b ∷ inside) all = grind (arith, nat_tests, comment-one (b == backslash) inside)
 
 comment-front : (inside rest : List ℕ) → list_all is_inside inside ≡ true → Follows [] rest (comment inside ++ rest)
-comment-front inside rest all =
+comment-front inside rest all ts read =
     let apart = apart-from (comment inside) rest (grind (arith, nat_tests, one-comment, comment-ended))
-    (comment-one false inside all) (search (rules, last-append)) (search (rules, spliced-comment, comment-border)) in
+    (comment-one false inside all) (search (rules, last-append))
+    (search (rules, spliced-comment, comment-border)) ts read in
     record {
-      read = apart.read ∙ ap (λ es. filter is_token es ++ tokens rest) (one-comment inside all)
-          ∙ ap (λ ts. ts ++ tokens rest) (no-token inside);
+      read = apart.read ∙ ap (λ es. filter is_token es ++ flat_map tokens ts) (one-comment inside all)
+          ∙ ap (λ us. us ++ flat_map tokens ts) (no-token inside);
       lines = apart.lines;
     }
 
 -- the comments around a piece
 
 pub after-opening : (n : ℕ) (rest : List ℕ) → Follows [] rest (opening_bytes n ++ rest)
-after-opening n rest =
-    follows-same [] rest (opening_bytes n ++ rest) (comment (decimal n ++ codes ":") ++ rest)
-    (search (rules, append_assoc))
-    (comment-front (decimal n ++ codes ":") rest (grind (arith, list_all-append is_inside (decimal n) (codes ":"), decimal-inside n)))
+after-opening n rest ts read =
+    subst (IsReadAsTexts ts) (search (rules, append_assoc)) (comment-front (decimal n ++ codes ":") rest
+    (grind (arith, list_all-append is_inside (decimal n) (codes ":"), decimal-inside n)) ts read)
 
 pub after-closing : (n : ℕ) (rest : List ℕ) → Follows [] rest (closing_bytes n ++ rest)
-after-closing n rest = comment-front (58 ∷ decimal n) rest ((decimal-inside n))
+after-closing n rest = comment-front (58 ∷ decimal n) rest (decimal-inside n)

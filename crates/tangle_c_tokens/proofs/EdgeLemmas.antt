@@ -9,13 +9,12 @@ use Rattle.c_tokens.specs.Bytes.{line_feed}
 use Rattle.c_tokens.specs.Reading.{spliced}
 use Rattle.c_tokens.specs.Borders.{is_whole, keep_lines}
 use Rattle.tangle_lexer.specs.declared.tokens.Token.{Token}
-use Rattle.tangle_lexer.specs.declared.tokens.Token.TheVariants as token
 use Rattle.tangle_scan.specs.Rules.{may_touch, next_item, ends_line}
 use Rattle.tangle_scan.specs.ReadAsMeant.{with_written, written_tokens}
 use Rattle.tangle_c_tokens.specs.Edges.{begins_as, ends_as, last_number_goes_on}
 use Rattle.tangle_c_tokens.specs.Kinds.{item_kind, is_range, AreTexts}
 use Rattle.tangle_c_tokens.proofs.kind_lemmas.Texts.{texts-by}
-use Rattle.tangle_c_tokens.specs.Groups.{Group, group_before, groups_after, group_text}
+use Rattle.tangle_c_tokens.specs.Groups.{Group, groups_after, group_text}
 use Rattle.tangle_c_tokens.specs.Macros.{text_of, stay_apart, IsReadAlone}
 use Rattle.c_lines.proofs.JoinedLemmas.{IsOneLine}
 use Rattle.tangle_c_tokens.proofs.ListLemmas.{all-append, all-both}
@@ -84,22 +83,11 @@ module _ (texts : List (List ℕ)) where
   next-edges [] all = tt
   next-edges (e ∷ es) all = search (rules, next-edges es)
 
-  before-apart : (items rest : List Token) (gs : List Group) → HaveEdges items → HaveEdges rest →
-      (AllByRecursion IsAloneOnLine gs → AllByRecursion IsApart gs) →
-      AllByRecursion IsAloneOnLine (group_before rest items ++ gs)
-      → AllByRecursion IsApart (group_before rest items ++ gs)
-  before-apart items rest gs of_items of_rest next alone = search (rules, apart-edges, last-edges, next-edges)
-
   groups-apart : (items es : List Token) → HaveEdges items → HaveEdges es →
       AllByRecursion IsAloneOnLine (groups_after items es) → AllByRecursion IsApart (groups_after items es)
   groups-apart items [] of_items all alone = grind (arith, nat_tests)
-  groups-apart items (token.White ∷ es) of_items all alone =
-      before-apart items (token.White ∷ es) (groups_after [] es) of_items all (groups-apart [] es tt all.1) alone
-  groups-apart items (token.LineEnd line ∷ es) of_items all alone =
-      before-apart items (token.LineEnd line ∷ es) (groups_after [] es) of_items all
-      (groups-apart [] es tt all.1) alone
   groups-apart items (e ∷ es) of_items all alone =
-      grind (arith, nat_tests, groups-apart (items ++ e ∷ []) es (all-append HasItsEdges items (e ∷ []) of_items (all.0, tt)) all.1 alone)
+      search (rules, apart-edges, last-edges, next-edges, all-append, groups-apart [] es, groups-apart (items ++ e ∷ []) es)
 
   -- the groups of a macro that are read alone
   pub apart-groups : (es : List Token) → AreTexts texts es →

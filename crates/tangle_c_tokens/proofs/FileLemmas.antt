@@ -30,8 +30,8 @@ use Rattle.tangle_c_tokens.specs.Files.{shapes_in, texts_of_node, row_of_node}
 use Rattle.tangle_c_tokens.proofs.ListLemmas.{each}
 use Rattle.c_lines.specs.JoinedLines.{LinesAreWhole}
 use Rattle.digraph.specs.Reach.{here, on}
-use Rattle.tangle_c_tokens.proofs.TextLemmas.{no-text, feed-front, with-nothing}
-use Rattle.tangle_c_tokens.proofs.FeedLemmas.{KeepsFeed, line-of}
+use Rattle.tangle_c_tokens.proofs.TextLemmas.{no-text, feed-front}
+use Rattle.tangle_c_tokens.proofs.FeedLemmas.{KeepsFeed}
 use Rattle.tangle_c_tokens.proofs.AllMacroLemmas.{macros-keep, macros-whole}
 use Rattle.tangle_c_tokens.proofs.OneLineLemmas.{texts-on_line}
 use Rattle.tangle_c_tokens.proofs.NodeLemmas.{pieces-keep, node-read}
@@ -67,9 +67,11 @@ module _ (pieces : AreWrittenByPieces) (source : SourceRead) (modes : MarkMode)
 
   macros-line : MacrosAreReadAlone source → IsWholeLine numbers.macros
   macros-line whole =
-      line-of numbers.macros
-      (subst LinesAreWhole (append-nil numbers.macros) (macros-whole source.lines [] [] no-text feeds.lines whole).lines)
-      (search (rules, macros-keep))
+      record {
+        lines = subst LinesAreWhole (append-nil numbers.macros)
+            (macros-whole source.lines [] [] no-text feeds.lines whole).lines;
+        kept = search (rules, macros-keep);
+      }
 
   abbrev texts_by : (List ℕ → List Symbol) → Title → List (List ℕ)
   texts_by used node =
@@ -109,9 +111,12 @@ module _ (pieces : AreWrittenByPieces) (source : SourceRead) (modes : MarkMode)
       let bytes : List ℕ = expansion_bytes numbers (flat (suc fuel) all_shapes (Named name)) in
       let read = node-by-parts used (Named name) (reaches (Named name) here)
       (names-by used (Named name) reaches (name-line fuel)) [] [] no-text in
-      line-of bytes (subst LinesAreWhole (append-nil bytes) read.lines)
-      (subst KeepsFeed (sym (written used (Named name))) (pieces-keep source numbers table used mark-lines macros-line
-      (texts-on_line source.lines feeds.lines) (pieces_of (web_of source) table (Named name))))
+      record {
+        lines = subst LinesAreWhole (append-nil bytes) read.lines;
+        kept = subst KeepsFeed (sym (written used (Named name)))
+            (pieces-keep source numbers table used mark-lines macros-line
+            (texts-on_line source.lines feeds.lines) (pieces_of (web_of source) table (Named name)));
+      }
 
   node-then : (node : Title) → IsExpandableNode all_shapes node → ReachesWholePieces source node
       → (tail : List ℕ) (us : List (List ℕ)) → IsReadAsTexts us tail →
@@ -124,12 +129,7 @@ module _ (pieces : AreWrittenByPieces) (source : SourceRead) (modes : MarkMode)
       (node-by-parts used node (reaches node here) (names-by used node reaches (name-line levels)) tail us read)
 
   pub node-is_read : NodesAreReadByParts source modes
-  node-is_read node expandable reaches =
-      subst (λ us. IsReadAsTexts us (expansion_bytes numbers (flat_of all_shapes node)))
-      (append-nil (texts_of_node source modes node))
-      (subst (IsReadAsTexts (texts_of_node source modes node ++ []))
-      (append-nil (expansion_bytes numbers (flat_of all_shapes node)))
-      (node-then node expandable reaches [] [] no-text))
+  node-is_read node expandable reaches = simp append-nil at (node-then node expandable reaches [] [] no-text)
 
   abbrev bytes_in_file : Bool → Title → List ℕ
   bytes_in_file has_piece node =
@@ -139,9 +139,7 @@ module _ (pieces : AreWrittenByPieces) (source : SourceRead) (modes : MarkMode)
       IsReadAsTexts (if has_piece then texts_of_node source modes node else []) (bytes_in_file has_piece node)
   node-in-file false node ready = no-text
   node-in-file true node ready =
-      subst (λ us. IsReadAsTexts us (bytes_in_file true node)) (append-nil (texts_of_node source modes node))
-      (node-then node (ready refl).0 (ready refl).1 (line_feed ∷ []) []
-      (with-nothing [] (line_feed ∷ []) [] (feed-front []) no-text))
+      simp append-nil at (node-then node (ready refl).0 (ready refl).1 (line_feed ∷ []) [] (feed-front [] [] no-text))
 
   pub file-is_read : FilesAreReadByParts source modes
   file-is_read false has_piece node whole ready = node-in-file has_piece node ready

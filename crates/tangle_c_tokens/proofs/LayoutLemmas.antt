@@ -203,9 +203,8 @@ module _ (lines : List SourceLine) (used : ℕ → List ℕ) (mark : Origin → 
         → (es : List Token) → ends_line rest ≡ ends_line es → next_item rest ≡ next_item es
         → Meets (record { items = items; rest = rest }) (items_from (after_white at) es)
     meets-white items rest own at all o [] line next = meets-end items rest own at all o next
-    meets-white items rest own at all o (token.White ∷ es) line next = meets-white items rest own at all o es line next
-    meets-white items rest own at all o (token.LineEnd n ∷ es) line next = meets-feed items rest n (after_white at) es line
-    meets-white items rest own at all o (e ∷ es) line next = rw o.before (no-use items own at all o)
+    meets-white items rest own at all o (e ∷ es) line next =
+        search (rules, meets-white items rest own at all o es, meets-feed, no-use items own at all o, o.before)
 
     lay-white : (es : List Token) → Lays es → Lays (token.White ∷ es)
     lay-white es next = record {
@@ -213,8 +212,7 @@ module _ (lines : List SourceLine) (used : ℕ → List ℕ) (mark : Origin → 
       within = λ items own at o.
           let xs : List Item = items_from (after_white at) es in
           let same = ap (λ e. is_continued texts e && ends_line es) (o.before ∙ sym o.is) in
-          cond_both (is_continued texts (last_or None items) && ends_line es) (row_of items xs es) (map OfPart
-          (group_before (token.White ∷ es) items) ++ row_of [] xs es) (λ row. P row (own ++ xs))
+          cond_both (is_continued texts (last_or None items) && ends_line es) _ _ (λ row. P row (own ++ xs))
           (λ is. next.within items own (after_white at) (record {
             bytes = o.bytes;
             inner = o.inner;
@@ -236,9 +234,7 @@ module _ (lines : List SourceLine) (used : ℕ → List ℕ) (mark : Origin → 
       within = λ items own at o.
           let xs : List Item = items_from at (token.LineEnd line ∷ es) in
           let same = ap (is_continued texts) (o.before ∙ sym o.is) in
-          cond_both (is_continued texts (last_or None items)) (row_after texts (items ++ token.LineEnd line ∷ [])
-          (drop 1 (flat_map mark_place xs)) es) (map OfPart (group_before (token.LineEnd line ∷ es) items) ++ row_of [] xs
-          (token.LineEnd line ∷ es)) (λ row. P row (own ++ xs))
+          cond_both (is_continued texts (last_or None items)) _ _ (λ row. P row (own ++ xs))
           (λ is. rw (same ∙ is) (subst (P _) (append_assoc own (item.LineEnd ∷ []) (items_from (after_continued line at) es))
           (next.within (items ++ token.LineEnd line ∷ []) (own ++ item.LineEnd ∷ []) (after_continued line at)
           (more-open items own (item.LineEnd ∷ []) (token.LineEnd line) _ es o.bytes o.inner refl refl refl refl refl))))
@@ -282,7 +278,7 @@ module _ (lines : List SourceLine) (used : ℕ → List ℕ) (mark : Origin → 
     lay-solid e es solid line first inside = record {
       closed = λ at is.
           subst (λ xs. P (row_of [] xs (e ∷ es)) xs) (sym (at-item at e es solid))
-          (cond_both (is_some at.before && at.white) (item.Blank ∷ own_items e at es) (own_items e at es) (λ xs. P (row_of [] xs (e ∷ es)) xs)
+          (cond_both (is_some at.before && at.white) _ _ (λ xs. P (row_of [] xs (e ∷ es)) xs)
           (λ b. blank _ _ (first at)) (λ b. first at));
       within = λ items own at o.
           subst (λ xs. P (row_of items xs (e ∷ es)) (own ++ xs)) (sym (at-item at e es solid ∙ ap (λ b. blanked b (own_items e at es)) (none at at.white refl o.white)))
@@ -299,16 +295,15 @@ module _ (lines : List SourceLine) (used : ℕ → List ℕ) (mark : Origin → 
     lay-item e es solid no_use line more next =
         lay-solid e es solid line (λ at. goes-on [] [] at refl refl) (λ items own at o. goes-on items own at o.bytes o.inner)
       where
-        no-places : flat_map mark_place (items_at lines e) ≡ []
-        no-places = search rules
-
         goes-on : (items : List Token) (own : List Item) (at : At) → flat_map item_bytes own ≡ text items → list_all is_inner own ≡ true
             → P (row_of items (own_items e at es) (e ∷ es)) (own ++ own_items e at es)
         goes-on items own at of_own is_own =
             let rest = items_from (after e at) es in
+            let no_places : flat_map mark_place (items_at lines e) ≡ [] = search rules in
             subst (λ row. P row (own ++ own_items e at es))
             (sym (more items _ ∙ ap (λ places. row_after texts (items ++ e ∷ []) places es)
-            (flat_map-append mark_place (items_at lines e) rest ∙ ap (λ places. places ++ flat_map mark_place rest) no-places)))
+            (flat_map-append mark_place (items_at lines e) rest
+            ∙ ap (λ places. places ++ flat_map mark_place rest) no_places)))
             (subst (P _) (append_assoc own (items_at lines e) rest)
             (next.within (items ++ e ∷ []) (own ++ items_at lines e) (after e at)
             (more-open items own (items_at lines e) e _ es of_own is_own (search (rules, append-nil)) (search rules) no_use refl refl)))

@@ -7,7 +7,7 @@ use Rattle.std.proofs.Common.{append_assoc, append-nil, Option, Some, None, refl
 use Rattle.std.proofs.Common.{subst, codes}
 use Rattle.std.specs.List.{AllByRecursion}
 use Rattle.std.proofs.lemmas.Bool.{and_parts, cond_both, not-true}
-use Rattle.c_tokens.specs.Bytes.{space, line_feed, backslash}
+use Rattle.c_tokens.specs.Bytes.{line_feed, backslash}
 use Rattle.c_tokens.specs.Grammar.{is_element, is_token, is_punctuator}
 use Rattle.c_tokens.specs.Reading.{spliced}
 use Rattle.c_tokens.specs.Touching.{TextKind}
@@ -31,9 +31,9 @@ use Rattle.tangle_c_tokens.proofs.OneLineLemmas.{IsGroupOnLine}
 use Rattle.c_lines.proofs.JoinedLemmas.{lines-one}
 use Rattle.tangle_c_tokens.proofs.GroupLemmas.{last-item, text-more, group-one}
 use Rattle.tangle_c_tokens.proofs.TextLemmas.{feed-between, feed-front, space-between}
-use Rattle.tangle_c_tokens.proofs.TextLemmas.{taken-between, kinds-border}
+use Rattle.tangle_c_tokens.proofs.TextLemmas.{taken-between, taken-front, kinds-border}
 use Rattle.tangle_c_tokens.proofs.TextLemmas.{ends-as}
-use Rattle.tangle_c_tokens.proofs.TextLemmas.{with-text, with-nothing, no-text}
+use Rattle.tangle_c_tokens.proofs.TextLemmas.{no-text}
 use Rattle.std.proofs.lemmas.Bool.Decides.{nat_tests}
 
 -- `tail` is written after the macro, and read as the texts `ts`.
@@ -66,9 +66,8 @@ module _ (texts : List (List ℕ)) (tail : List ℕ) (ts : List (List ℕ))
   front-border : (a : List ℕ) (in_name white : Bool) (es : List Token) → Meets a (next_item es) →
       have_border a (spliced (bytes_from in_name None white es)) ≡ true
   front-border a in_name white [] meets = grind (arith, nat_tests)
-  front-border a in_name white (token.White ∷ es) meets = front-border a in_name true es meets
-  front-border a in_name white (token.LineEnd line ∷ es) meets = front-border a false false es meets
-  front-border a in_name white (e ∷ es) meets = grind (arith, nat_tests, front-item in_name white e es refl)
+  front-border a in_name white (e ∷ es) meets =
+      search (rules, front-border a in_name true es, front-border a false false es, front-item in_name white e es)
 
   meets-next : (items : List Token) (e f : Token) → may_touch texts e f ≡ true →
       are_apart_at_edges texts (group_text texts (items ++ e ∷ [])) (Some e) (Some f) ≡ true →
@@ -128,35 +127,23 @@ module _ (texts : List (List ℕ)) (tail : List ℕ) (ts : List (List ℕ))
   at-end : (in_name white : Bool) → ReadsAfter in_name white []
   at-end in_name white items e alone rest =
       let t = group_text texts (items ++ e ∷ []) in
-      with-text t tail (t ++ line_feed ∷ tail) ts
-      (feed-between t tail (lines-one t alone.whole alone.one) (alone.ended refl)) read
+      feed-between t tail (lines-one t alone.whole alone.one) (alone.ended refl) ts read
 
   at-line_end : (line : ℕ) (es : List Token) → ReadsFront es → (in_name white : Bool)
       → ReadsAfter in_name white (token.LineEnd line ∷ es)
   at-line_end line es front in_name white items e alone rest =
+      let t : List ℕ = group_text texts (items ++ e ∷ []) in
+      let after : List ℕ = bytes_from false None false es in
+      let next = front false false rest in
+      let apart = ap (λ last. are_apart_at_edges texts t last (next_item es)) (sym (last-item None items e))
+      ∙ alone.apart refl in
       cond_both (has_blank_at_line_end texts in_name (Some e) (next_item es)) (token.White ∷ []) []
       (λ blanks. IsReadAsTexts (t ∷ texts_in (groups_after [] es) ++ ts)
       (t ++ (flat_map (macro_item_bytes texts) (unmarked_items (blanks ++ token.LineEnd line
       ∷ macro_blanks texts false None false es)) ++ line_feed ∷ tail)))
-      (λ is. with-text t (backslash ∷ line_feed ∷ after) _ (texts_in (groups_after [] es) ++ ts)
-      (space-between t (backslash ∷ line_feed ∷ after) alone.whole alone.one)
-      (with-nothing after (backslash ∷ line_feed ∷ after) (texts_in (groups_after [] es) ++ ts)
-      (taken-between [] after refl refl refl) next))
-      (λ is. with-text t after _ (texts_in (groups_after [] es) ++ ts)
-      (taken-between t after alone.whole alone.one
-      (front-border (spliced t) false false es (meets-if_no_blank in_name items e (next_item es) is apart))) next)
-    where
-      t : List ℕ
-      t = group_text texts (items ++ e ∷ [])
-
-      after : List ℕ
-      after = bytes_from false None false es
-
-      next : IsReadAsTexts (texts_in (groups_after [] es) ++ ts) after
-      next = front false false rest
-
-      apart : are_apart_at_edges texts t (Some e) (next_item es) ≡ true
-      apart = ap (λ last. are_apart_at_edges texts t last (next_item es)) (sym (last-item None items e)) ∙ alone.apart refl
+      (λ is. space-between t (backslash ∷ line_feed ∷ after) alone.whole alone.one _ (taken-front after _ next))
+      (λ is. taken-between t after alone.whole alone.one
+      (front-border (spliced t) false false es (meets-if_no_blank in_name items e (next_item es) is apart)) _ next)
 
   at-item : (e : Token) (es : List Token) → is_front_gap e ≡ false →
       ((items : List Token) → groups_after items (e ∷ es) ≡ groups_after (items ++ e ∷ []) es)
@@ -177,18 +164,12 @@ module _ (texts : List (List ℕ)) (tail : List ℕ) (ts : List (List ℕ))
         let t : List ℕ = group_text texts (items ++ before ∷ []) in
         subst (IsReadAsTexts (t ∷ texts_in (groups_after [] (e ∷ es)) ++ ts))
         (sym (ap (λ bs. t ++ bs) (search (rules, macro_blanks-item, item-bytes))))
-        (with-text t after (t ++ space ∷ after) (texts_in (groups_after [] (e ∷ es)) ++ ts)
-        (space-between t after alone.whole alone.one)
-        (first (in_name && false && is_name_part e) rest));
+        (space-between t after alone.whole alone.one _ (first (in_name && false && is_name_part e) rest));
   }
     where
       first : (in_name : Bool) → ReadsAs (groups_after [] (e ∷ es))
           (text_of texts e ++ bytes_from in_name (Some e) false es)
-      first in_name =
-          subst (λ gs. ReadsAs gs (text_of texts e ++ bytes_from in_name (Some e) false es)) (sym (more []))
-          (subst (λ t. ReadsAs (groups_after (e ∷ []) es)
-          (t ++ bytes_from in_name (Some e) false es)) (append-nil (text_of texts e))
-          (within in_name [] e))
+      first in_name = rw (more []) (simp append-nil at (within in_name [] e))
 
   -- white space and line ends change nothing of a group before them
   same-group : (items : List Token) (es : List Token)
@@ -198,7 +179,7 @@ module _ (texts : List (List ℕ)) (tail : List ℕ) (ts : List (List ℕ))
 
   reads : (es : List Token) → Reads es
   reads [] = record {
-    front = λ in_name white alone. with-nothing tail (line_feed ∷ tail) ts (feed-front tail) read;
+    front = λ in_name white alone. feed-front tail ts read;
     within = λ in_name items e. subst (λ gs. ReadsAs gs (group_text texts (items ++ e ∷ []) ++ line_feed ∷ tail))
         (sym (group-one items e [])) (λ alone. at-end in_name false items e alone.0 alone.1);
     after_white = λ in_name. at-end in_name true;
@@ -215,10 +196,7 @@ module _ (texts : List (List ℕ)) (tail : List ℕ) (ts : List (List ℕ))
   reads (token.LineEnd line ∷ es) =
       let next = reads es in
       record {
-        front = λ in_name white alone.
-            let after = bytes_from false None false es in
-            with-nothing after (backslash ∷ line_feed ∷ after) (texts_in (groups_after [] es) ++ ts)
-            (taken-between [] after refl refl refl) (next.front false false alone);
+        front = λ in_name white alone. taken-front (bytes_from false None false es) _ (next.front false false alone);
         within = λ in_name items e. closed items e (token.LineEnd line ∷ es)
             (group_text texts (items ++ e ∷ []) ++ bytes_from in_name (Some e) false
             (token.LineEnd line ∷ es)) (groups_after [] es) (at-line_end line es next.front in_name false items e);
@@ -238,16 +216,11 @@ module _ (texts : List (List ℕ)) (tail : List ℕ) (ts : List (List ℕ))
       let text = flat_map (macro_item_bytes texts) (items_from texts true None false written) in
       subst (IsReadAsTexts (macro_texts texts es ++ ts))
       (search (rules, end-items, append_assoc))
-      (with-text (codes "#define") (bytes_from true None false written)
-      (codes "#define " ++ bytes_from true None false written) (texts_in (groups written) ++ ts)
-      (space-between (codes "#define") (bytes_from true None false written) define-whole refl)
+      (space-between (codes "#define") (bytes_from true None false written) define-whole refl _
       ((reads written).front true false (apart-groups texts es are alone one)))
 
 -- the bytes of a macro alone
 pub one-macro : (texts : List (List ℕ)) (es : List Token) → AreTexts texts es →
     AllByRecursion (IsGroupOnLine texts) (groups (written_tokens texts es)) → GroupsAreReadAlone texts es →
     IsReadAsTexts (macro_texts texts es) (macro_bytes texts (unmarked_items (macro_blanks texts true None false es)))
-one-macro texts es are one alone =
-    let text = macro_bytes texts (unmarked_items (macro_blanks texts true None false es)) in
-    subst (λ ts. IsReadAsTexts ts text) (append-nil (macro_texts texts es))
-    (subst (IsReadAsTexts (macro_texts texts es ++ [])) (append-nil text) (macro-by-groups texts [] [] no-text es are alone one))
+one-macro texts es are one alone = simp append-nil at (macro-by-groups texts [] [] no-text es are alone one)

@@ -1,4 +1,6 @@
 -- Each line mark is a line, if no file has a line feed in its name.
+use Rattle.std.proofs.Common.{append-nil, sym}
+use Rattle.c_tokens.specs.Reading.{tokens}
 use Rattle.std.proofs.Common.{rules}
 use Rattle.std.proofs.Common.{arith}
 use Rattle.tangle_c_tokens.proofs.DecimalLemmas.{decimal-digits}
@@ -22,7 +24,7 @@ use Rattle.tangle_files.specs.declared.marks.MarkMode.TheVariants.{Full, Bare}
 use Rattle.tangle_expansion.specs.Numbers.{escaped, mark_end, mark_bytes}
 use Rattle.tangle_c_tokens.specs.LineFeeds.{TextHasNoLineFeed}
 use Rattle.tangle_c_tokens.proofs.ListLemmas.{all-get}
-use Rattle.tangle_c_tokens.proofs.FeedLemmas.{KeepsFeed, keeps-last, line-of}
+use Rattle.tangle_c_tokens.proofs.FeedLemmas.{KeepsFeed, keeps-last}
 use Rattle.tangle_c_tokens.proofs.TextLemmas.{space-between}
 use Rattle.std.proofs.lemmas.Bool.Decides.{nat_tests}
 
@@ -53,10 +55,13 @@ mark-lines n name none =
     let string = double_quote ∷ quoted name in
     let in_line : IsInLine string = name-line name (double_quote ∷ []) none refl in
     let digits = digits-line (decimal n) (decimal-digits n) in
-    let first = space-between (codes "#line") (decimal n ++ space ∷ string) word-whole refl in
-    let second = space-between (decimal n) string (digits-whole (decimal n) (decimal-digits n)) (in-line-taken false (decimal n) digits) in
-    first.lines (second.lines (lines-one string (string-whole (quoted name) (name-quoted name none) in_line)
-    (in-line-taken false string in_line)))
+    (space-between (codes "#line") (decimal n ++ space ∷ string) word-whole refl _
+    (space-between (decimal n) string (digits-whole (decimal n) (decimal-digits n))
+    (in-line-taken false (decimal n) digits) (string ∷ []) (record {
+      read = sym (append-nil (tokens string));
+      lines = lines-one string (string-whole (quoted name) (name-quoted name none) in_line)
+          (in-line-taken false string in_line);
+    }))).lines
 
 pub mark-keeps : (n : ℕ) (name : List ℕ) → KeepsFeed (mark_line n name)
 mark-keeps n name =
@@ -72,7 +77,7 @@ mark-is_line Full n name none =
     inr (
       mark_line n name,
       (search (rules, append_assoc)),
-      line-of (mark_line n name) (mark-lines n name none) (mark-keeps n name),
+      record { lines = mark-lines n name none; kept = mark-keeps n name },
     )
 
 pub mark_end-at : (names : List (List ℕ)) (k : ℕ)

@@ -4,9 +4,9 @@ use Rattle.c_tokens.proofs.ElementLemmas.{keep-other}
 use Rattle.tangle_c_tokens.proofs.TextLemmas.{slash-border}
 use Rattle.std.proofs.Common.{rules}
 use Rattle.tangle_c_tokens.proofs.TextLemmas.{IsMarkText, IsWholeLine}
-use Rattle.std.proofs.Common.{◌≡◌, ℕ, Bool, true, false, if◌then◌else◌, List, [], ◌∷◌}
+use Rattle.std.proofs.Common.{◌≡◌, ℕ, false, List, [], ◌∷◌}
 use Rattle.std.proofs.Common.{◌++◌, map, drop, flat_map}
-use Rattle.std.proofs.Common.{append_assoc, Option, refl, sym, subst, cond, ap, ◌∙◌}
+use Rattle.std.proofs.Common.{append_assoc, Option, refl, sym, subst, ap, ◌∙◌}
 use Rattle.std.proofs.lemmas.List.{map-append}
 use Rattle.std.specs.Prelude.{filter}
 use Rattle.std.specs.List.{AllByRecursion}
@@ -16,16 +16,14 @@ use Rattle.tangle_lines.specs.declared.origin.Origin.{Origin}
 use Rattle.tangle_lines.specs.Reading.{SourceLine, SourceRead, origin_at}
 use Rattle.tangle_lexer.specs.declared.tokens.Token.{Token}
 use Rattle.tangle_scan.specs.Rules.{texts_of, part_tokens, part_items}
-use Rattle.tangle_scan.specs.Web.{PieceRead, Block, blocks, piece_of}
+use Rattle.tangle_scan.specs.Web.{PieceRead, Block, web_of}
 use Rattle.tangle_scan.specs.ReadAsMeant.{all_piece_tokens}
-use Rattle.tangle_lexer.specs.Steps.{all_tokens}
 use Rattle.tangle_c_tokens.specs.LineFeeds.{SourceLinesHaveNoLineFeed}
-use Rattle.tangle_c_tokens.proofs.kind_lemmas.WebTexts.{piece_at, pieces-by, blocks-have}
+use Rattle.tangle_c_tokens.proofs.kind_lemmas.WebTexts.{piece_at, node-by}
 use Rattle.tangle_names.specs.NameTable.{TableRead}
 use Rattle.tangle_bodies.specs.Shapes.{Title, shape_names}
 use Rattle.tangle_bodies.specs.Flat.{Symbol}
 use Rattle.tangle_bodies.specs.WebShapes.{is_piece_of, shape_of}
-use Rattle.tangle_scan.specs.declared.items.Item.{Item}
 use Rattle.tangle_expansion.specs.Numbers.{NumbersRead, mark_bytes}
 use Rattle.tangle_expansion.specs.Numbers.{mark_bytes_at}
 use Rattle.tangle_expansion.specs.Numbers.{opening_bytes, closing_bytes}
@@ -34,7 +32,7 @@ use Rattle.tangle_expansion.specs.PieceBytes.{items_bytes, piece_bytes}
 use Rattle.tangle_c_tokens.specs.Reading.{IsReadAsTexts}
 use Rattle.tangle_c_tokens.specs.Pieces.{Passage, mark_place, passage_text, row_after, row_of_piece}
 use Rattle.tangle_c_tokens.specs.Files.{IsWholePassage, MacrosAreReadAlone, node_row}
-use Rattle.tangle_c_tokens.proofs.TextLemmas.{feed-front, follows-same, with-mark, with-nothing}
+use Rattle.tangle_c_tokens.proofs.TextLemmas.{feed-front, mark-between}
 use Rattle.tangle_c_tokens.proofs.CommentLemmas.{after-opening, after-closing}
 use Rattle.tangle_c_tokens.proofs.PieceLemmas.{piece-by-parts}
 use Rattle.tangle_c_tokens.specs.Kinds.{AreTexts}
@@ -73,46 +71,35 @@ module _ (source : SourceRead) (numbers : NumbersRead) (table : TableRead)
   abbrev AreWhole : List Passage → Type 0
   AreWhole row = AllByRecursion (IsWholePassage source) row
 
-  abbrev AreWholeNames : List Item → Type 0
-  AreWholeNames items = AllByRecursion (IsWholeName lines numbers table used) (names_in lines numbers table used items)
-
-  -- the piece of a C part
-  abbrev part_piece : ℕ → Option ℕ → ℕ → List Token → PieceRead
-  part_piece section occurrence line es = record {
-    section = section;
-    origin = origin_at lines line;
-    occurrence = occurrence;
-    items = part_items lines line es;
-  }
-
   -- a piece, and what is written after it
-  piece-read : (section line : ℕ) (occurrence : Option ℕ) (es : List Token) (rest : List ℕ) (ts : List (List ℕ)) →
-      let piece : PieceRead = part_piece section occurrence line es in
-      let row : List Passage = row_of_piece (texts_of lines) piece (part_tokens (texts_of lines) es) in
-      AreTexts (texts_of lines) (part_tokens (texts_of lines) es)
-      → AreWhole row → AreWholeNames piece.items → IsReadAsTexts ts rest
-      → IsReadAsTexts (texts_in row ++ ts) (bytes_of piece ++ rest)
-  piece-read section line occurrence es rest ts are whole names read =
+  piece-read : (b : Block) (occurrence : Option ℕ) (line : ℕ) (rest : List ℕ) (ts : List (List ℕ)) →
+      let piece : PieceRead = piece_at lines b occurrence line in
+      let row : List Passage = row_of_piece (texts_of lines) piece (part_tokens (texts_of lines) b.tokens) in
+      AreTexts (texts_of lines) (part_tokens (texts_of lines) b.tokens) → AreWhole row
+      → AllByRecursion (IsWholeName lines numbers table used) (names_in lines numbers table used piece.items)
+      → IsReadAsTexts ts rest → IsReadAsTexts (texts_in row ++ ts) (bytes_of piece ++ rest)
+  piece-read b occurrence line rest ts are whole names read =
       let origin = origin_at lines line in
-      let opening = opening_bytes section in
-      let items = items_bytes numbers table used (texts_of lines) (part_items lines line es) in
-      let tail = closing_bytes section ++ rest in
+      let opening = opening_bytes b.section in
+      let items = items_bytes numbers table used (texts_of lines) (part_items lines line b.tokens) in
+      let tail = closing_bytes b.section ++ rest in
       let later = mark origin ++ (items ++ tail) in
-      let tokens = part_tokens (texts_of lines) es in
-      let us = texts_in (row_after (texts_of lines) [] (flat_map mark_place (part_items lines line es)) tokens) ++ ts in
-      let row = row-whole source written numbers.macros macros_whole [] (flat_map mark_place (part_items lines line es)) tokens
+      let tokens = part_tokens (texts_of lines) b.tokens in
+      let us = texts_in (row_after (texts_of lines) [] (flat_map mark_place (part_items lines line b.tokens)) tokens)
+      ++ ts in
+      let row = row-whole source written numbers.macros macros_whole []
+      (flat_map mark_place (part_items lines line b.tokens)) tokens
       (ready source written numbers.macros macros_whole tokens (on_line tokens are))
-      (uses-whole source written numbers.macros macros_whole tokens (part-uses-whole lines numbers table used line es names)) whole.1 in
-      with-nothing (line_feed ∷ later) (bytes_of (part_piece section occurrence line es) ++ rest) (mark origin ∷ us)
-      (follows-same [] (line_feed ∷ later) _ (opening ++ line_feed ∷ later)
-      (grouped opening (mark_bytes_at numbers origin) items (closing_bytes section) rest
-      ∙ ap (λ m. opening ++ (m ++ (items ++ tail))) (line_feed_first numbers.marks _ origin.line))
-      (after-opening section (line_feed ∷ later)))
-      (with-nothing later (line_feed ∷ later) (mark origin ∷ us) (feed-front later)
-      (with-mark (mark origin) (items ++ tail) us (marks origin)
-      (piece-by-parts lines written mark numbers.macros marks tail ts
-      (with-nothing rest tail ts (after-closing section rest) read)
-      (λ a whole one ends. (search (rules, apart-from, keep-other, slash-border))) line es row)))
+      (uses-whole source written numbers.macros macros_whole tokens
+      (part-uses-whole lines numbers table used line b.tokens names)) whole.1 in
+      subst (IsReadAsTexts (mark origin ∷ us))
+      (sym (grouped opening (mark_bytes_at numbers origin) items (closing_bytes b.section) rest
+      ∙ ap (λ m. opening ++ (m ++ (items ++ tail))) (line_feed_first numbers.marks _ origin.line)))
+      (after-opening b.section (line_feed ∷ later) _
+      (feed-front later _ (mark-between (mark origin) (items ++ tail) (marks origin) us
+      (piece-by-parts lines written mark numbers.macros marks tail ts (after-closing b.section rest ts read)
+      (λ a whole one ends. apart-from a tail whole one (search (rules, keep-other))
+      (search (rules, slash-border))) line b.tokens row))))
 
   -- the bytes of pieces do not end in a backslash
   pub pieces-keep : (pieces : List PieceRead) → KeepsFeed (flat_map bytes_of pieces)
@@ -121,58 +108,35 @@ module _ (source : SourceRead) (numbers : NumbersRead) (table : TableRead)
       keeps-more (bytes_of piece) (flat_map bytes_of pieces) (search (rules, closing-keeps)) (pieces-keep pieces)
 
   -- `tail` is written after the node, and read as the texts `us`.
-  module _ (node : Title) (tail : List ℕ) (us : List (List ℕ))
-      (tail_read : IsReadAsTexts us tail) where
-    abbrev pub node_bytes : List PieceRead → List ℕ
-    node_bytes pieces = flat_map bytes_of (filter (is_piece_of table node) pieces) ++ tail
+  module _ (node : Title) (tail : List ℕ) (us : List (List ℕ)) (tail_read : IsReadAsTexts us tail) where
+    -- a row that is whole, and what is written for the uses of its pieces, are read
+    abbrev IsRead : List Passage → List PieceRead → Type 0
+    IsRead row pieces =
+        AreWhole row × AllByRecursion (IsWholeName lines numbers table used)
+        (shape_names (shape_of (texts_of lines) table pieces))
+        → IsReadAsTexts (texts_in row ++ us) (flat_map bytes_of pieces ++ tail)
 
-    abbrev pub row_in : List PieceRead → List (List Token) → List Passage
-    row_in pieces tokens = node_row (texts_of lines) table node pieces tokens
-
-    -- the pieces of the node among these are whole, and so is what is written for their uses
-    abbrev pub AreReady : List PieceRead → List (List Token) → Type 0
-    AreReady pieces tokens =
-        AreWhole (row_in pieces tokens)
-        × AllByRecursion (IsWholeName lines numbers table used)
-        (shape_names (shape_of (texts_of lines) table (filter (is_piece_of table node) pieces)))
-
-    abbrev pub IsRead : List PieceRead → List (List Token) → Type 0
-    IsRead pieces tokens = AreReady pieces tokens → IsReadAsTexts (texts_in (row_in pieces tokens) ++ us) (node_bytes pieces)
-
-    one-more : (b : Block) (occurrence : Option ℕ) (line : ℕ) (all : List PieceRead) (each : List (List Token))
-        → AreTexts (texts_of lines) (part_tokens (texts_of lines) b.tokens) → IsRead all each
-        → IsRead (piece_at lines b occurrence line ∷ all) (part_tokens (texts_of lines) b.tokens ∷ each)
-    one-more b occurrence line all each are next ready = chosen (is_piece_of table node piece) ready.0 ready.1
-      where
-        piece : PieceRead
-        piece = piece_at lines b occurrence line
-
-        row : List Passage
-        row = row_of_piece (texts_of lines) piece (part_tokens (texts_of lines) b.tokens)
-
-        IsName : List ℕ → Type 0
-        IsName = IsWholeName lines numbers table used
-
-        pieces : List PieceRead
-        pieces = filter (is_piece_of table node) all
-
-        chosen : (is : Bool) → AreWhole ((if is then row else []) ++ row_in all each)
-            → AllByRecursion IsName (shape_names (shape_of (texts_of lines) table (cond is (piece ∷ pieces) pieces)))
-            → IsReadAsTexts (texts_in ((if is then row else []) ++ row_in all each) ++ us)
-            (flat_map bytes_of (cond is (piece ∷ pieces) pieces) ++ tail)
-        chosen true whole names =
-            let own = names_in lines numbers table used piece.items in
-            let others = shape_names (shape_of (texts_of lines) table pieces) in
-            let ts = texts_in (row_in all each) in
-            let later = flat_map bytes_of pieces in
-            subst (λ us. IsReadAsTexts us ((bytes_of piece ++ later) ++ tail))
-            (sym (ap (λ ws. ws ++ us) (map-append (passage_text (texts_of lines) written numbers.macros mark) row (row_in all each)) ∙ append_assoc (texts_in row) ts us))
-            (subst (IsReadAsTexts (texts_in row ++ (ts ++ us))) (sym (append_assoc (bytes_of piece) later tail))
-            (piece-read b.section line occurrence b.tokens (later ++ tail) (ts ++ us) are
-            (all-front (IsWholePassage source) row (row_in all each) whole) (all-front IsName own others names)
-            (next (all-back (IsWholePassage source) row (row_in all each) whole, all-back IsName own others names))))
-        chosen false whole names = next (whole, names)
+    one-more : (b : Block) (occurrence : Option ℕ) (line : ℕ) (row : List Passage) (pieces : List PieceRead)
+        → AreTexts (texts_of lines) (part_tokens (texts_of lines) b.tokens) → IsRead row pieces
+        → let piece : PieceRead = piece_at lines b occurrence line in
+        IsRead (row_of_piece (texts_of lines) piece (part_tokens (texts_of lines) b.tokens) ++ row) (piece ∷ pieces)
+    one-more b occurrence line row pieces are next ready =
+        let piece = piece_at lines b occurrence line in
+        let own : List Passage = row_of_piece (texts_of lines) piece (part_tokens (texts_of lines) b.tokens) in
+        let names = names_in lines numbers table used piece.items in
+        let others = shape_names (shape_of (texts_of lines) table pieces) in
+        let later = flat_map bytes_of pieces in
+        subst (λ us. IsReadAsTexts us ((bytes_of piece ++ later) ++ tail))
+        (sym (ap (λ ws. ws ++ us) (map-append (passage_text (texts_of lines) written numbers.macros mark) own row)
+        ∙ append_assoc (texts_in own) (texts_in row) us))
+        (subst (IsReadAsTexts (texts_in own ++ (texts_in row ++ us))) (sym (append_assoc (bytes_of piece) later tail))
+        (piece-read b occurrence line (later ++ tail) (texts_in row ++ us) are
+        (all-front (IsWholePassage source) own row ready.0)
+        (all-front (IsWholeName lines numbers table used) names others ready.1)
+        (next (all-back (IsWholePassage source) own row ready.0, all-back (IsWholeName lines numbers table used) names others ready.1))))
 
     pub node-read : SourceLinesHaveNoLineFeed lines
-        → IsRead (flat_map (piece_of lines) (blocks 0 (all_tokens lines))) (all_piece_tokens lines)
-    node-read none = pieces-by lines IsRead (λ ready. tail_read) one-more (blocks 0 (all_tokens lines)) (blocks-have lines none)
+        → let pieces : List PieceRead = (web_of source).pieces in
+        IsRead (node_row (texts_of lines) table node pieces (all_piece_tokens lines))
+        (filter (is_piece_of table node) pieces)
+    node-read = node-by lines table node IsRead (λ ready. tail_read) one-more

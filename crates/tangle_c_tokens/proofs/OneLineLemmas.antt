@@ -24,11 +24,11 @@ use Rattle.tangle_scan.specs.Rules.{is_continued}
 use Rattle.tangle_scan.specs.ReadAsMeant.{written_tokens}
 use Rattle.c_tokens.specs.Bytes.{line_feed}
 use Rattle.c_lines.proofs.JoinedLemmas.{ends_back, feeds_taken, IsOneLine, back-append, taken-append, taken-more, back-more}
-use Rattle.c_lines.proofs.JoinedLemmas.{no-feed-taken, in-line-taken, spliced-taken}
+use Rattle.c_lines.proofs.JoinedLemmas.{in-line-taken, spliced-taken}
 use Rattle.c_lines.proofs.LineDirectiveLemmas.{digits-line}
 use Rattle.tangle_c_tokens.specs.Kinds.{HasItsKind, is_range, AreTexts}
 use Rattle.tangle_c_tokens.specs.LineFeeds.{TextHasNoLineFeed, SourceLinesHaveNoLineFeed}
-use Rattle.tangle_c_tokens.specs.Groups.{Group, group_before, groups_after, group_text}
+use Rattle.tangle_c_tokens.specs.Groups.{Group, groups_after, group_text}
 use Rattle.tangle_c_tokens.specs.Macros.{text_of}
 use Rattle.tangle_c_tokens.proofs.DecimalLemmas.{decimal-digits}
 use Rattle.tangle_c_tokens.proofs.kind_lemmas.Texts.{texts-by}
@@ -113,10 +113,6 @@ module _ (texts : List (List ℕ)) where
   abbrev pub IsGroupOnLine : Group → Type 0
   IsGroupOnLine group = IsOneLine (group_text texts group.items)
 
-  before-on_line : (items rest : List Token) (gs : List Group) → IsOneLine (group_text texts items)
-      → AllByRecursion IsGroupOnLine gs → AllByRecursion IsGroupOnLine (group_before rest items ++ gs)
-  before-on_line items rest gs one all = search rules
-
   more-one : (items : List Token) (e : Token) → IsOneLine (group_text texts items)
       → IsOnLine (ends_back false (group_text texts items)) e → IsOneLine (group_text texts (items ++ e ∷ []))
   more-one items e one of_e =
@@ -140,30 +136,15 @@ module _ (texts : List (List ℕ)) where
       → AreOnLine (ends_back false (group_text texts items)) es → AllByRecursion IsGroupOnLine (groups_after items es)
   groups-on_line [] [] one all = tt
   groups-on_line (e ∷ items) [] one all = (one, tt)
-  groups-on_line items (token.White ∷ es) one all =
-      before-on_line items (token.White ∷ es) (groups_after [] es) one (groups-on_line [] es refl all)
-  groups-on_line items (token.LineEnd line ∷ es) one all =
-      before-on_line items (token.LineEnd line ∷ es) (groups_after [] es) one (groups-on_line [] es refl all)
-  groups-on_line items (token.UseOf line occurrence ∷ es) one all =
-      groups-on_line (items ++ token.UseOf line occurrence ∷ []) es (no-bytes items (token.UseOf line occurrence) refl one)
-      (more-on_line es _ all)
-  groups-on_line items (token.AllMacros line ∷ es) one all =
-      groups-on_line (items ++ token.AllMacros line ∷ []) es (no-bytes items (token.AllMacros line) refl one)
-      (more-on_line es _ all)
   groups-on_line items (e ∷ es) one all =
-      groups-on_line (items ++ e ∷ []) es (more-one items e one all.0) (more-back items e es all.1)
+      search (rules, more-one, more-back, no-bytes, more-on_line, groups-on_line [] es, groups-on_line (items ++ e ∷ []) es)
 
   -- the tokens that are written of a macro are the first ones
-
-  with-on_line : (after : Bool) (e : Token) (es fs : List Token)
-      → ((after : Bool) → AreOnLine after es → AreOnLine after fs)
-      → AreOnLine after (e ∷ es) → AreOnLine after (e ∷ fs)
-  with-on_line after e es fs next all = search rules
 
   pub written-on_line : (es : List Token) (after : Bool) → AreOnLine after es → AreOnLine after (written_tokens texts es)
   written-on_line [] after all = tt
   written-on_line (e ∷ es) after all =
-      search (rules, with-on_line after e es (written_tokens texts es) (written-on_line es))
+      search (rules, written-on_line es)
 
 -- tokens that are texts, one after another
 module _ (lines : List SourceLine) (none : SourceLinesHaveNoLineFeed lines) where
@@ -171,7 +152,7 @@ module _ (lines : List SourceLine) (none : SourceLinesHaveNoLineFeed lines) wher
   texts = texts_of lines
 
   span-taken : (after : Bool) (s : Span) → feeds_taken after (span_text texts s) ≡ true
-  span-taken after s = no-feed-taken after (span_text texts s) (span-clear lines none s)
+  span-taken after s = in-line-taken after (span_text texts s) (span-clear lines none s)
 
   -- a sign or a verbatim text that continues its line
 

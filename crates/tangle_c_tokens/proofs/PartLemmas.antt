@@ -98,9 +98,6 @@ module _ (source : SourceRead) (used : ℕ → List ℕ) (macros : List ℕ)
   whole-marks [] row next bare = next bare
   whole-marks (origin ∷ origins) row next bare = (tt, whole-marks origins row next bare.1)
 
-  use-line : (t : List ℕ) → IsWholeLine t → IsWholeLine (t ++ [])
-  use-line t line = subst IsWholeLine (sym (append-nil t)) line
-
   -- what is written for a use or @h by itself
   use-whole : (e : Token) (rest : List Token) → is_use e ≡ true → IsWholeLine (text (e ∷ []))
       → IsWholeWritten texts used macros (record { items = e ∷ []; rest = rest })
@@ -170,23 +167,21 @@ module _ (source : SourceRead) (used : ℕ → List ℕ) (macros : List ℕ)
       subst (λ row. AreBare row → AreWhole row) (append-nil (map OfPart (group_before [] items)))
       (λ bare. whole-groups items [] [] before.are before.one bare (λ none. tt))
   row-whole items places (token.White ∷ es) before uses =
-      cond_both (is_continued texts (last_or None items) && ends_line es) (row_after texts items places es) (map OfPart
-      (group_before (token.White ∷ es) items) ++ row_after texts [] places es) (λ row. AreBare row → AreWhole row)
+      cond_both (is_continued texts (last_or None items) && ends_line es) _ _ (λ row. AreBare row → AreWhole row)
       (λ is. row-whole items places es
       (record { are = before.are; one = before.one; back = before.back; later = more-on_line texts es _ before.later }) uses.1)
       (λ is bare. whole-groups items (token.White ∷ es) _ before.are before.one bare (row-whole [] places es (ready es before.later) uses.1))
   row-whole items places (token.LineEnd line ∷ es) before uses =
-      cond_both (is_continued texts (last_or None items)) (row_after texts (items ++ token.LineEnd line ∷ []) (drop 1 places) es) (map OfPart
-      (group_before (token.LineEnd line ∷ es) items) ++ (map OfMark (get_or places 0 []) ++ row_after texts [] (drop 1 places) es))
-      (λ row. AreBare row → AreWhole row)
+      cond_both (is_continued texts (last_or None items)) _ _ (λ row. AreBare row → AreWhole row)
       (λ is. row-whole (items ++ token.LineEnd line ∷ []) (drop 1 places) es (end-ready items line es before is) uses.1)
       (λ is bare. whole-groups items (token.LineEnd line ∷ es) _ before.are before.one bare
       (whole-marks (get_or places 0 []) _ (row-whole [] (drop 1 places) es (ready es before.later) uses.1)))
   row-whole items places (token.UseOf line occurrence ∷ es) before uses =
-      alone-use items places (token.UseOf line occurrence) es before refl (λ of_use. use-line (used occurrence) uses.0)
+      alone-use items places (token.UseOf line occurrence) es before refl (λ of_use. rw append-nil uses.0)
       (row-whole [] (drop 1 places) es (ready es before.later) uses.1)
   row-whole items places (token.AllMacros line ∷ es) before uses =
-      alone-use items places (token.AllMacros line) es before refl (λ of_macros. use-line macros (macros_whole (of_macros.1 refl)))
+      alone-use items places (token.AllMacros line) es before refl
+      (λ of_macros. rw append-nil (macros_whole (of_macros.1 refl)))
       (row-whole [] (drop 1 places) es (ready es before.later) uses.1)
   row-whole items places (e ∷ es) before uses =
       row-whole (items ++ e ∷ []) places es

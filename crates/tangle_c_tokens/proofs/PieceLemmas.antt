@@ -1,5 +1,5 @@
 -- The tokens of the bytes of a piece are those of its row.
-use Rattle.std.proofs.Common.{◌≡◌, ℕ, Bool, true, false, ◌==◌, List, [], ◌∷◌, ◌++◌, map, flat_map}
+use Rattle.std.proofs.Common.{◌≡◌, ℕ, true, false, ◌==◌, List, [], ◌∷◌, ◌++◌, map, flat_map}
 use Rattle.std.proofs.Common.{append_assoc, refl, ap, sym, ◌∙◌, subst}
 use Rattle.std.specs.List.{AllByRecursion}
 use Rattle.std.proofs.lemmas.List.Concat.{flat_map-append}
@@ -19,19 +19,15 @@ use Rattle.tangle_c_tokens.specs.Reading.{IsReadAsTexts}
 use Rattle.tangle_c_tokens.specs.Pieces.{Passage, OfPart, OfMark, mark_place, row_after, part_text, passage_text}
 use Rattle.tangle_c_tokens.proofs.LayoutLemmas.{IsUseItem, OfUse, OfMacros, Meets, piece-lays}
 use Rattle.tangle_c_tokens.proofs.PartLemmas.{IsWholeText, IsWholeWritten}
-use Rattle.tangle_c_tokens.proofs.TextLemmas.{IsMarkText, Follows, space-apart, space-front, feed-apart, feed-front, with-text, with-mark, with-nothing}
+use Rattle.tangle_c_tokens.proofs.TextLemmas.{IsMarkText, Follows, space-apart, space-front, feed-apart, feed-front, mark-between}
 use Rattle.c_lines.proofs.JoinedLemmas.{IsOneLine}
-
--- the last byte of a text is a slash
-abbrev pub has_slash : List ℕ → Bool
-has_slash t = last_byte_passes (λ b. b == slash) (spliced t)
 
 -- `tail` is written after the piece, and read as the texts `ts`.
 module _ (lines : List SourceLine) (used : ℕ → List ℕ) (mark : Origin → List ℕ) (macros : List ℕ)
     (marks : (origin : Origin) → IsMarkText (mark origin))
     (tail : List ℕ) (ts : List (List ℕ)) (tail_read : IsReadAsTexts ts tail)
-    (closes : (t : List ℕ) → is_whole t ≡ true → IsOneLine t → has_slash t ≡ false
-    → Follows t tail (t ++ tail)) where
+    (closes : (t : List ℕ) → is_whole t ≡ true → IsOneLine t → last_byte_passes (λ b. b == slash) (spliced t) ≡ false
+    → Follows (t ∷ []) tail (t ++ tail)) where
   abbrev texts : List (List ℕ)
   texts = texts_of lines
 
@@ -59,11 +55,11 @@ module _ (lines : List SourceLine) (used : ℕ → List ℕ) (mark : Origin → 
       → Reads (OfMark origin ∷ row) (item.LineMark origin ∷ xs)
   mark-reads origin row xs read whole =
       subst (IsReadAsTexts (mark origin ∷ texts_in row)) (sym (append_assoc (line_feed ∷ mark origin) (flat_map item_bytes xs) tail))
-      (with-nothing _ _ (mark origin ∷ texts_in row) (feed-front (mark origin ++ bytes_of xs))
-      (with-mark (mark origin) (bytes_of xs) (texts_in row) (marks origin) (read whole.1)))
+      (feed-front (mark origin ++ bytes_of xs) _ (mark-between (mark origin) (bytes_of xs) (marks origin)
+      (texts_in row) (read whole.1)))
 
   follows : (part : Group) (xs : List Item) → IsWholeWritten texts used macros part → Meets lines used mark macros part xs
-      → Follows (text part.items) (bytes_of xs) (text part.items ++ bytes_of xs)
+      → Follows (text part.items ∷ []) (bytes_of xs) (text part.items ++ bytes_of xs)
   follows part [] whole meets = closes _ whole.all.whole (whole.one meets.0) (whole.all.ended meets.1 meets.2)
   follows part (item.Blank ∷ xs) whole meets = space-apart _ _ whole.all.whole (whole.one meets)
   follows part (item.UseOf occurrence ∷ xs) whole meets = space-apart _ _ whole.all.whole (whole.one meets)
@@ -80,8 +76,7 @@ module _ (lines : List SourceLine) (used : ℕ → List ℕ) (mark : Origin → 
       subst (IsReadAsTexts (texts_in (OfPart part ∷ row)))
       (sym (ap (λ t. t ++ tail) (flat_map-append item_bytes own xs ∙ ap (λ t. t ++ flat_map item_bytes xs) same)
       ∙ append_assoc (white ++ text part.items) (flat_map item_bytes xs) tail ∙ append_assoc white (text part.items) (bytes_of xs)))
-      (with-nothing _ _ (texts_in (OfPart part ∷ row)) (front (text part.items ++ bytes_of xs))
-      (with-text (text part.items) (bytes_of xs) _ (texts_in row) (follows part xs whole.0 meets) (read whole.1)))
+      (front (text part.items ++ bytes_of xs) _ (follows part xs whole.0 meets (texts_in row) (read whole.1)))
 
   use-reads : (e : Token) (x : Item) (es : List Token) (origin : Origin) (row : List Passage) (xs : List Item)
       → IsUseItem e x → Reads row (item.LineMark origin ∷ xs)
@@ -97,7 +92,7 @@ module _ (lines : List SourceLine) (used : ℕ → List ℕ) (mark : Origin → 
       (bytes_of (part_items lines line es))
   piece-by-parts =
       piece-lays lines used mark macros Reads (λ whole. tail_read)
-      (λ row xs read whole. with-nothing _ _ (texts_in row) (space-front (bytes_of xs)) (read whole))
-      (λ row xs read whole. with-nothing _ _ (texts_in row) (feed-front (bytes_of xs)) (read whole))
+      (λ row xs read whole. space-front (bytes_of xs) _ (read whole))
+      (λ row xs read whole. feed-front (bytes_of xs) _ (read whole))
       mark-reads use-reads
-      (λ part own row xs is. part-reads [] part own row xs (λ rest. record { read = refl; lines = λ lines. lines }) is.bytes is.meets)
+      (λ part own row xs is. part-reads [] part own row xs (λ rest ts read. read) is.bytes is.meets)

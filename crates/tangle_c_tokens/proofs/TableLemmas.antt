@@ -7,7 +7,7 @@ use Rattle.std.specs.List.{AllByRecursion}
 use Rattle.std.specs.Map.{remove_entry, set_value}
 use Rattle.std.specs.Str.{bytes_eq}
 use Rattle.tangle_files.specs.Adding.{add_refusal, name_refusal, with_file}
-use Rattle.tangle_files.specs.Edited.{edited, spliced, with_lines_edited}
+use Rattle.tangle_files.specs.Edited.{edited, with_replaced, with_lines_edited}
 use Rattle.tangle_files.specs.Edits.{edit_refusal, refusal_in, text_refusal}
 use Rattle.tangle_files.specs.Lines.{FileTable, cut, lines_of}
 use Rattle.tangle_files.specs.Roles.{RolesRead}
@@ -32,10 +32,10 @@ pub added-have : (files : FileTable) (name bytes : List ℕ) → add_refusal fil
 added-have files name bytes none h =
     file-more files name (cut bytes) (new-name files name (grind (arith, nat_tests))) (cut-have bytes) h
 
-spliced-have : (lines : List (List ℕ)) (start end : ℕ) (new_lines : List (List ℕ))
+replaced-have : (lines : List (List ℕ)) (start end : ℕ) (new_lines : List (List ℕ))
     → AllByRecursion TextHasNoLineFeed new_lines → AllByRecursion TextHasNoLineFeed lines
-    → AllByRecursion TextHasNoLineFeed (spliced lines start new_lines end)
-spliced-have lines start end new_lines new h = search (rules, all-append, all-take, all-drop)
+    → AllByRecursion TextHasNoLineFeed (with_replaced lines start new_lines end)
+replaced-have lines start end new_lines new h = search (rules, all-append, all-take, all-drop)
 
 -- the lines of one file are replaced
 value-set : (name : List ℕ) (files : FileTable) (lines : List (List ℕ)) → AllByRecursion TextHasNoLineFeed lines
@@ -66,11 +66,11 @@ text-has text none = grind (arith, nat_tests)
 
 pub edited-have : (files : FileTable) (edit : Edit) → edit_refusal files edit ≡ None
     → FilesHaveNoLineFeed files → FilesHaveNoLineFeed (edited files edit)
+edited-have files (edits.Remove file at) none h = search (rules, lines-edited, replaced-have)
 edited-have files (edits.Insert file at text) none h =
-    search (rules, lines-edited, spliced-have, trimmed-has, text-has, nat_tests)
-edited-have files (edits.Remove file at) none h = search (rules, lines-edited, spliced-have)
+    search (rules, lines-edited, replaced-have, trimmed-has, text-has, nat_tests)
 edited-have files (edits.Replace file at text) none h =
-    search (rules, lines-edited, spliced-have, trimmed-has, text-has, nat_tests)
+    search (rules, lines-edited, replaced-have, trimmed-has, text-has, nat_tests)
 edited-have files (edits.Create file) none h = file-more files file.items [] (new-name files file.items none) tt h
 edited-have files (edits.Discard file) none h = entry-removed file.items files h
 edited-have files (edits.Marks mode) none h = h

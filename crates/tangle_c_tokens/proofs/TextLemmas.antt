@@ -4,7 +4,7 @@ use Rattle.std.proofs.Common.{arith}
 use Rattle.std.proofs.Common.{◌⊎◌}
 use Rattle.std.proofs.Common.{◌≡◌, ℕ, Bool, true, false, List, [], ◌∷◌, ◌++◌, refl, ap, sym, subst}
 use Rattle.std.proofs.Common.{inl, inr, ◌∙◌, append-nil, append_assoc}
-use Rattle.std.specs.Prelude.{◌&&◌, ◌==◌, not, filter}
+use Rattle.std.specs.Prelude.{◌&&◌, ◌==◌, not, filter, flat_map}
 use Rattle.std.specs.List.{list_any}
 use Rattle.std.proofs.lemmas.Bool.{or_right}
 use Rattle.std.proofs.lemmas.Bool.{false≢true, not-true}
@@ -13,7 +13,6 @@ use Rattle.c_tokens.specs.Bytes.{line_feed, space, slash, backslash}
 use Rattle.c_tokens.specs.Grammar.{is_token, is_element, is_punctuator}
 use Rattle.c_tokens.specs.Reading.{spliced, tokens, elements_from}
 use Rattle.c_tokens.specs.Touching.{TextKind, kinds_may_touch, is_separator, is_operator}
-use Rattle.c_tokens.specs.Touching.TextKind.{Separator, Operator, Plain}
 use Rattle.c_tokens.specs.Borders.{is_whole, is_unfinished}
 use Rattle.c_tokens.specs.Borders.{have_border, keep_lines}
 use Rattle.c_tokens.specs.Borders.{is_plain_byte}
@@ -26,31 +25,22 @@ use Rattle.tangle_c_tokens.specs.Reading.{IsReadAsTexts}
 use Rattle.tangle_c_tokens.specs.Edges.{first_byte_passes, last_byte_passes, begins_as, ends_as, last_number_goes_on}
 use Rattle.std.proofs.lemmas.Bool.Decides.{nat_tests}
 
--- the bytes are read as a text and the rest
-pub record Follows (text rest bytes : List ℕ) : Type 0 where
-  pub read : tokens bytes ≡ tokens text ++ tokens rest
-  pub lines : LinesAreWhole rest → LinesAreWhole bytes
+-- the bytes are read as these texts, and then as the rest is
+abbrev pub Follows : List (List ℕ) → List ℕ → List ℕ → Type 0
+Follows texts rest bytes = (ts : List (List ℕ)) → IsReadAsTexts ts rest → IsReadAsTexts (texts ++ ts) bytes
 
-pub follows-more : (a b c bytes : List ℕ) → Follows a b bytes → Follows [] c b → Follows a c bytes
-follows-more a b c bytes first more = record {
-  read = first.read ∙ ap (λ ts. tokens a ++ ts) more.read;
-  lines = λ lines. first.lines (more.lines lines);
-}
-
-pub follows-same : (text rest bytes other : List ℕ) → bytes ≡ other → Follows text rest other
-    → Follows text rest bytes
-follows-same text rest bytes other same follows = subst (Follows text rest) (sym same) follows
+pub no-text : IsReadAsTexts [] []
+no-text = record { read = refl; lines = (refl, tt) }
 
 tokens-apart : (a b : List ℕ) → is_whole a ≡ true → keep_lines a b ≡ true
     → have_border (spliced a) (spliced b) ≡ true → tokens (a ++ b) ≡ tokens a ++ tokens b
 tokens-apart a b whole kept border = search (rules, not-true, spliced-both, border-elements, filter-append)
 
 pub apart-from : (a b : List ℕ) → is_whole a ≡ true → IsOneLine a → keep_lines a b ≡ true
-    → have_border (spliced a) (spliced b) ≡ true →
-    Follows a b (a ++ b)
-apart-from a b whole one kept border = record {
-  read = tokens-apart a b whole kept border;
-  lines = lines-apart a b whole one kept border;
+    → have_border (spliced a) (spliced b) ≡ true → Follows (a ∷ []) b (a ++ b)
+apart-from a b whole one kept border ts read = record {
+  read = tokens-apart a b whole kept border ∙ ap (λ us. tokens a ++ us) read.read;
+  lines = lines-apart a b whole one kept border read.lines;
 }
 
 -- borders
@@ -113,53 +103,51 @@ kinds-border k g a t more may ends begins none = by k g may ends begins (search 
 
     by : (k g : TextKind) → kinds_may_touch k g ≡ true → ends_as k a ≡ true → begins_as g t ≡ true
         → begins_as g b ≡ true → have_border a b ≡ true
-    by Separator g may ends begins next = separator-before a b ends
-    by k Separator may ends begins next = separator-next a b next
-    by Operator Plain may ends begins next =
-        operator-before a b (same-next is_plain_byte refl a t more begins ∙ none) ends next
-    by Plain Operator may ends begins next =
-        operator-next a b (same-next is_operator refl a t more begins ∙ none) ends next
-    by k g may ends begins next = absurd (false≢true may)
+    by k g may ends begins next =
+        search (rules, false≢true, separator-before, separator-next, operator-before, operator-next, same-next)
 
 -- white space, and texts before it
 
 pub space-front : (rest : List ℕ) → Follows [] rest (space ∷ rest)
 unfolding is_element is_token is_punctuator
-space-front rest =
-    let apart =
-    apart-from (space ∷ []) rest refl refl (keep-is (space ∷ []) rest) (white-before space (spliced rest) refl) in
+space-front rest ts read =
+    let apart = apart-from (space ∷ []) rest refl refl (keep-is (space ∷ []) rest)
+    (white-before space (spliced rest) refl) ts read in
     record { read = apart.read; lines = apart.lines }
 
 pub feed-front : (rest : List ℕ) → Follows [] rest (line_feed ∷ rest)
 unfolding is_element is_token is_punctuator
-feed-front rest =
-    record {
-      read = tokens-apart (line_feed ∷ []) rest refl (keep-is (line_feed ∷ []) rest)
-          (white-before line_feed (spliced rest) refl);
-      lines = λ lines. (refl, lines);
-    }
+feed-front rest ts read = record {
+  read = tokens-apart (line_feed ∷ []) rest refl (keep-is (line_feed ∷ []) rest)
+      (white-before line_feed (spliced rest) refl) ∙ read.read;
+  lines = (refl, read.lines);
+}
 
-pub space-apart : (a rest : List ℕ) → is_whole a ≡ true → IsOneLine a → Follows a (space ∷ rest) (a ++ space ∷ rest)
-space-apart a rest whole one = search (rules, apart-from, keep-other, spliced-other, white-next)
+pub space-apart : (a rest : List ℕ) → is_whole a ≡ true → IsOneLine a → Follows (a ∷ []) (space ∷ rest)
+    (a ++ space ∷ rest)
+space-apart a rest whole one =
+    apart-from a (space ∷ rest) whole one (keep-other a space rest refl) (search (rules, spliced-other, white-next))
 
-pub space-between : (a rest : List ℕ) → is_whole a ≡ true → IsOneLine a → Follows a rest (a ++ space ∷ rest)
-space-between a rest whole one = follows-more a (space ∷ rest) rest _ (space-apart a rest whole one) (space-front rest)
+pub space-between : (a rest : List ℕ) → is_whole a ≡ true → IsOneLine a → Follows (a ∷ []) rest (a ++ space ∷ rest)
+space-between a rest whole one ts read = space-apart a rest whole one ts (space-front rest ts read)
 
 -- the last byte takes out no line feed after it
-abbrev pub keeps_line_feed : List ℕ → Bool
-keeps_line_feed text = keep_lines text (line_feed ∷ [])
+abbrev pub is_kept : List ℕ → Bool
+is_kept text = keep_lines text (line_feed ∷ [])
 
 -- a line feed after a text that may have more than one line
 
-pub feed-apart : (a rest : List ℕ) → LinesAreWhole a → keeps_line_feed a ≡ true → Follows a (line_feed ∷ rest) (a ++ line_feed ∷ rest)
-feed-apart a rest lines kept =
-    record {
-      read = search (rules, tokens-apart, lines-whole, keep-feed, spliced-other, white-next);
-      lines = λ more. lines-feed a rest kept lines more.1;
-    }
+pub feed-apart : (a rest : List ℕ) → LinesAreWhole a → is_kept a ≡ true → Follows (a ∷ []) (line_feed ∷ rest)
+    (a ++ line_feed ∷ rest)
+feed-apart a rest lines kept ts read = record {
+  read = tokens-apart a (line_feed ∷ rest) (lines-whole a lines) (keep-feed a rest kept)
+      (search (rules, spliced-other, white-next)) ∙ ap (λ us. tokens a ++ us) read.read;
+  lines = lines-feed a rest kept lines read.lines.1;
+}
 
-pub feed-between : (a rest : List ℕ) → LinesAreWhole a → keeps_line_feed a ≡ true → Follows a rest (a ++ line_feed ∷ rest)
-feed-between a rest lines kept = follows-more a (line_feed ∷ rest) rest _ (feed-apart a rest lines kept) (feed-front rest)
+pub feed-between : (a rest : List ℕ) → LinesAreWhole a → is_kept a ≡ true → Follows (a ∷ []) rest
+    (a ++ line_feed ∷ rest)
+feed-between a rest lines kept ts read = feed-apart a rest lines kept ts (feed-front rest ts read)
 
 -- a line end that is taken out
 
@@ -168,64 +156,41 @@ keep-taken a rest =
     keep-is (a ++ backslash ∷ line_feed ∷ []) rest
     ∙ ap (λ back. not (back && begins_feed rest)) (back-append false a (backslash ∷ line_feed ∷ []))
 
-pub taken-between : (a rest : List ℕ) → is_whole a ≡ true → IsOneLine a
-    → have_border (spliced a) (spliced rest) ≡ true →
-    Follows a rest (a ++ backslash ∷ line_feed ∷ rest)
-taken-between a rest whole one border =
+pub taken-between : (a rest : List ℕ) → is_whole a ≡ true → IsOneLine a → have_border (spliced a)
+    (spliced rest) ≡ true → Follows (a ∷ []) rest (a ++ backslash ∷ line_feed ∷ rest)
+taken-between a rest whole one border ts read =
     let all = a ++ backslash ∷ line_feed ∷ [] in
     let same : spliced all ≡ spliced a = (search (rules, spliced-both, keep-other)) ∙ append-nil (spliced a) in
-    let apart : Follows all rest (all ++ rest) =
-    apart-from all rest (ap (λ t. not (list_any is_unfinished (elements_from 0 t))) same ∙ whole) (grind (arith, nat_tests, taken-append false a (backslash ∷ line_feed ∷ [])))
-    (keep-taken a rest) (ap (λ t. have_border t (spliced rest)) same ∙ border) in
-    follows-same a rest (a ++ backslash ∷ line_feed ∷ rest) (all ++ rest)
-    (sym (append_assoc a (backslash ∷ line_feed ∷ []) rest)) (record {
-      read = apart.read ∙ ap (λ t. filter is_token (elements_from 0 t) ++ tokens rest) same;
+    let apart = apart-from all rest (ap (λ t. not (list_any is_unfinished (elements_from 0 t))) same ∙ whole)
+    (grind (arith, nat_tests, taken-append false a (backslash ∷ line_feed ∷ [])))
+    (keep-taken a rest) (ap (λ t. have_border t (spliced rest)) same ∙ border) ts read in
+    subst (IsReadAsTexts (a ∷ ts)) (append_assoc a (backslash ∷ line_feed ∷ []) rest) (record {
+      read = apart.read ∙ ap (λ t. filter is_token (elements_from 0 t) ++ flat_map tokens ts) same;
       lines = apart.lines;
     })
+
+pub taken-front : (rest : List ℕ) → Follows [] rest (backslash ∷ line_feed ∷ rest)
+taken-front rest ts read =
+    let taken = taken-between [] rest refl refl refl ts read in record { read = taken.read; lines = taken.lines }
 
 -- Texts that a line feed may follow: whole ones, of which it takes out no backslash at their end. A
 -- line mark is such a text with its line feed, or empty.
 
 pub record IsWholeLine (text : List ℕ) : Type 0 where
   pub lines : LinesAreWhole text
-  pub kept : keep_lines text (line_feed ∷ []) ≡ true
+  pub kept : is_kept text ≡ true
 
 abbrev pub IsMarkText : List ℕ → Type 0
 IsMarkText text = (text ≡ []) ⊎ ((line : List ℕ) × (text ≡ line ++ line_feed ∷ []) × IsWholeLine line)
 
-pub mark-between : (m rest : List ℕ) → IsMarkText m → Follows m rest (m ++ rest)
-mark-between m rest (inl none) = rw none (record { read = refl; lines = λ lines. lines })
-mark-between m rest (inr some) =
+pub mark-between : (m rest : List ℕ) → IsMarkText m → Follows (m ∷ []) rest (m ++ rest)
+mark-between m rest (inl none) = rw none (λ ts read. record { read = read.read; lines = read.lines })
+mark-between m rest (inr some) = λ ts read.
     let line = some.0 in
-    let first = feed-between line rest some.2.lines some.2.kept in
-    let alone = feed-between line [] some.2.lines some.2.kept in
-    let same : m ++ rest ≡ line ++ line_feed ∷ rest =
-    ap (λ t. t ++ rest) some.1 ∙ append_assoc line (line_feed ∷ []) rest in
-    record {
-      read = ap tokens same ∙ first.read
-          ∙ ap (λ ts. ts ++ tokens rest) (sym (ap tokens some.1 ∙ alone.read ∙ append-nil (tokens line)));
-      lines = λ lines. subst LinesAreWhole (sym same) (first.lines lines);
-    }
-
--- texts, one after another
-
-pub with-text : (t rest bytes : List ℕ) (ts : List (List ℕ)) → Follows t rest bytes
-    → IsReadAsTexts ts rest → IsReadAsTexts (t ∷ ts) bytes
-with-text t rest bytes ts follows read = record {
-  read = follows.read ∙ ap (λ us. tokens t ++ us) read.read;
-  lines = follows.lines read.lines;
-}
-
-pub with-nothing : (rest bytes : List ℕ) (ts : List (List ℕ)) → Follows [] rest bytes
-    → IsReadAsTexts ts rest → IsReadAsTexts ts bytes
-with-nothing rest bytes ts follows read = record {
-  read = follows.read ∙ read.read;
-  lines = follows.lines read.lines;
-}
-
-pub with-mark : (m rest : List ℕ) (ts : List (List ℕ)) → IsMarkText m → IsReadAsTexts ts rest
-    → IsReadAsTexts (m ∷ ts) (m ++ rest)
-with-mark m rest ts is read = with-text m rest (m ++ rest) ts (mark-between m rest is) read
-
-pub no-text : IsReadAsTexts [] []
-no-text = record { read = refl; lines = (refl, tt) }
+    let first = feed-between line rest some.2.lines some.2.kept ts read in
+    let alone = feed-between line [] some.2.lines some.2.kept [] no-text in
+    subst (λ t. IsReadAsTexts (t ∷ ts) (t ++ rest)) (sym some.1) (record {
+      read = ap tokens (append_assoc line (line_feed ∷ []) rest) ∙ first.read
+          ∙ ap (λ us. us ++ flat_map tokens ts) (sym (alone.read ∙ append-nil (tokens line)));
+      lines = subst LinesAreWhole (sym (append_assoc line (line_feed ∷ []) rest)) first.lines;
+    })

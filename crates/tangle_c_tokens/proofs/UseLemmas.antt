@@ -1,6 +1,6 @@
 -- The uses of a piece are those of its node's shape.
 use Rattle.std.proofs.Common.{arith, rules}
-use Rattle.std.proofs.Common.{◌≡◌, ◌∙◌, ℕ, Bool, true, false, List, [], ◌∷◌, ◌++◌, map, flat_map, Option, Some, refl, subst}
+use Rattle.std.proofs.Common.{◌≡◌, ◌∙◌, ℕ, Bool, true, false, List, [], ◌∷◌, map, flat_map, Option, Some, refl, subst}
 use Rattle.std.specs.List.{AllByRecursion}
 use Rattle.std.proofs.lemmas.List.Concat.{flat_map-append}
 use Rattle.tangle_lines.specs.declared.origin.Origin.{Origin}
@@ -14,13 +14,12 @@ use Rattle.tangle_scan.specs.LineTruth.{counted_after_line_end}
 use Rattle.tangle_scan.specs.Passes.{is_whole}
 use Rattle.tangle_scan.specs.Texts.{item_uses}
 use Rattle.tangle_scan.proofs.lemmas.ItemsByOrigin.{by-line_item, part_items-by_origin}
-use Rattle.tangle_names.specs.declared.Resolved.{Resolved}
 use Rattle.tangle_names.specs.NameTable.{TableRead}
 use Rattle.tangle_bodies.specs.Flat.{Symbol}
 use Rattle.tangle_bodies.specs.Shapes.{item_names}
-use Rattle.tangle_bodies.specs.WebShapes.{shape_item, use_of}
+use Rattle.tangle_bodies.specs.WebShapes.{shape_item}
 use Rattle.tangle_expansion.specs.Numbers.{NumbersRead, expansion_bytes}
-use Rattle.tangle_expansion.specs.PieceBytes.{resolved_bytes, used_bytes}
+use Rattle.tangle_expansion.specs.PieceBytes.{used_bytes}
 use Rattle.tangle_c_tokens.proofs.TextLemmas.{IsWholeLine}
 use Rattle.tangle_c_tokens.proofs.PartLemmas.{token_uses}
 
@@ -43,9 +42,9 @@ module _ (lines : List SourceLine) where
   of-blanks : (before : Option Token) (white : Bool) (es : List Token)
       → flat_map token_uses (blanks (texts_of lines) before white es) ≡ flat_map token_uses es
   of-blanks before white [] = grind arith
-  of-blanks before white (token.White ∷ es) = of-blanks before true es
-  of-blanks before white (token.LineEnd line ∷ es) = of-blanks (at_line_front (texts_of lines) before line) false es
-  of-blanks before white (e ∷ es) = grind (arith, of-blanks (Some e) false es)
+  of-blanks before white (e ∷ es) =
+      let at_end = λ (line : ℕ). of-blanks (at_line_front (texts_of lines) before line) false es in
+      search (rules, of-blanks before true es, of-blanks (Some e) false es, at_end)
 
   -- the items of a part have the uses of its tokens
   part-uses : (line : ℕ) (es : List Token)
@@ -62,14 +61,10 @@ module _ (lines : List SourceLine) where
     abbrev pub names_in : List Item → List (List ℕ)
     names_in items = flat_map item_names (map (shape_item (texts_of lines) table) items)
 
-    use-whole : (rest : List (List ℕ)) (r : Resolved) → AllByRecursion IsWholeName (item_names (use_of table r) ++ rest)
-        → IsWholeLine (resolved_bytes numbers table used r) × AllByRecursion IsWholeName rest
-    use-whole rest r names = search rules
-
     names-whole : (items : List Item) → AllByRecursion IsWholeName (names_in items)
         → AllByRecursion IsWholeUse (flat_map item_uses items)
     names-whole [] names = tt
-    names-whole (x ∷ items) names = search (rules, use-whole, names-whole items)
+    names-whole (x ∷ items) names = search (rules, names-whole items)
 
     -- what is written for the uses of a part is whole, if that of the names of its shape is
     pub part-uses-whole : (line : ℕ) (es : List Token) → AllByRecursion IsWholeName (names_in (part_items lines line es))

@@ -64,22 +64,15 @@ reaches other (on {b = Named name} uses onward) =
     let same : codes "Use" ≡ name = grind (arith, one.1, one.2) in
     name_reaches other (subst (λ (name : List ℕ). Reaches (Uses (shapes_in source)) (Named name) other) (sym same) onward)
 
--- the third piece is not whole
-piece_open : IsWhole (Named (codes "Other")) → ⊥
+worked :
+    -- The third piece is not whole.
+    (IsWhole (Named (codes "Other")) → ⊥) ×
+    -- A slash at the end of a piece, directly before the closing mark.
+    (tokens (codes "x/" ++ codes "/*:1*/") ≡ codes "x" ∷ []) ×
+    (tokens (codes "x/") ≡ codes "x" ∷ codes "/" ∷ []) ×
+    -- A file whose name has a line feed in it, and then a comment that is open.
+    (tokens (codes "#line 5 \"a\n/*\"\n" ++ codes "x")
+    ≡ codes "#" ∷ codes "line" ∷ codes "5" ∷ codes "\"" ∷ codes "a" ∷ []) ×
+    (tokens (codes "x") ≡ codes "x" ∷ [])
 unfolding lexeme tokens_from occurrences_from is_element is_token is_punctuator
-piece_open h = grind (arith, nat_tests)
-
--- a slash at the end of a piece, directly before the closing mark
-slash_read :
-    (tokens (codes "x/" ++ codes "/*:1*/") ≡ codes "x" ∷ [])
-    × (tokens (codes "x/") ≡ codes "x" ∷ codes "/" ∷ [])
-unfolding is_element is_token is_punctuator
-slash_read = (refl, refl)
-
--- a file whose name has a line feed in it, and then a comment that is open
-name_read :
-    (tokens (codes "#line 5 \"a\n/*\"\n" ++ codes "x") ≡ codes "#" ∷ codes "line" ∷ codes "5"
-    ∷ codes "\"" ∷ codes "a" ∷ [])
-    × (tokens (codes "x") ≡ codes "x" ∷ [])
-unfolding is_element is_token is_punctuator
-name_read = (refl, refl)
+worked = (λ whole. grind (arith, nat_tests), refl, refl, refl, refl)

@@ -1,6 +1,6 @@
 -- Pieces of which C reads the tokens of the row, and one for each premise that reads otherwise
 -- without it.
-use Rattle.std.proofs.Common.{◌≡◌, ℕ, ◌+◌, true, false, List, [], ◌∷◌, ◌++◌, map, flat_map, codes, refl}
+use Rattle.std.proofs.Common.{◌≡◌, ℕ, ◌+◌, true, false, List, [], ◌∷◌, ◌++◌, map, flat_map, codes, rules}
 use Prim.Native.String.{String}
 use Rattle.c_tokens.specs.Grammar.{is_element, is_token, is_punctuator}
 use Rattle.c_tokens.specs.Reading.{tokens}
@@ -10,49 +10,16 @@ use Rattle.tangle_lines.specs.declared.origin.Origin.{Origin}
 use Rattle.tangle_lines.specs.Reading.{SourceLine}
 use Rattle.tangle_lexer.specs.declared.tokens.Token.{Token}
 use Rattle.tangle_lexer.specs.declared.tokens.Token.TheVariants as token
-use Rattle.tangle_lexer.specs.declared.tokens.SpanKind.{SpanKind}
-use Rattle.tangle_lexer.specs.declared.tokens.SpanKind.TheVariants as span_kind
 use Rattle.tangle_scan.specs.Rules.{texts_of, part_tokens, part_items}
 use Rattle.tangle_scan.specs.ItemBytes.{piece_item_bytes}
 use Rattle.tangle_c_tokens.specs.Pieces.{mark_place, passage_text, row_after}
-use Rattle.tangle_c_tokens.proofs.WorkedMacros.{words}
+use Rattle.tangle_c_tokens.proofs.WorkedMacros.{text, word, sign, line_end, words}
 
--- The items of the examples. The second line has another origin than a compiler counts, so a mark
--- is before it.
-
+-- The second line has another origin than a compiler counts, so a mark is before it.
 abbrev lines : List SourceLine
 lines =
-    record {
-      bytes =
-          codes "els e x / * \\";
-      origin = record { file = 0; line = 1 };
-      changed = false;
-    }
+    record { bytes = text; origin = record { file = 0; line = 1 }; changed = false }
     ∷ record { bytes = []; origin = record { file = 0; line = 5 }; changed = true } ∷ []
-
-abbrev span : SpanKind → ℕ → ℕ → Token
-span kind start end = token.Span kind (record { line = 0; start = start; end = end })
-
-abbrev els : Token
-els = span span_kind.Word 0 3
-
-abbrev letter : Token
-letter = span span_kind.Word 4 5
-
-abbrev name : Token
-name = span span_kind.Word 6 7
-
-abbrev slash : Token
-slash = span span_kind.Sign 8 9
-
-abbrev asterisk : Token
-asterisk = span span_kind.Sign 10 11
-
-abbrev backslash_sign : Token
-backslash_sign = span span_kind.Sign 12 13
-
-abbrev line_end : Token
-line_end = token.LineEnd 0
 
 abbrev use_of_name : Token
 use_of_name = token.UseOf 0 0
@@ -81,46 +48,26 @@ line_mark origin = codes "#line " ++ (origin.line + 48) ∷ codes " \"a.w\"\n"
 abbrev no_mark : Origin → List ℕ
 no_mark origin = []
 
--- A word over two lines of which the first is continued, a use, and a word after a line end.
-
 abbrev whole : List Token
-whole = els ∷ backslash_sign ∷ token.White ∷ line_end ∷ letter ∷ use_of_name ∷ line_end ∷ name ∷ []
-
-whole_written : bytes
-    (codes "y+z") line_mark whole ≡ codes "els\\\ne y+z\n#line 1 \"a.w\"\n\n#line 5 \"a.w\"\nx"
-whole_written = refl
-
-whole_row : texts (codes "y+z") line_mark whole
-    ≡ codes "els\\\ne" ∷ codes "y+z" ∷ codes "#line 1 \"a.w\"\n" ∷ codes "#line 5 \"a.w\"\n" ∷ codes "x" ∷ []
-whole_row = refl
-
-whole_read : AreRead (codes "y+z") line_mark whole
-    "else y + z # line 1 \"a.w\" # line 5 \"a.w\" x" "else y + z # line 1 \"a.w\" # line 5 \"a.w\" x"
-unfolding is_element is_token is_punctuator
-whole_read = (refl, refl)
-
--- A group that opens a comment.
+whole =
+    word "els" ∷ sign "\\" ∷ token.White ∷ line_end ∷ word "e" ∷ use_of_name ∷ line_end ∷ word "x" ∷ []
 
 abbrev comment : List Token
-comment = slash ∷ asterisk ∷ line_end ∷ name ∷ []
+comment = sign "/" ∷ sign "*" ∷ line_end ∷ word "x" ∷ []
 
-comment_read :
-    (tokens (bytes [] no_mark comment) ≡ []) × (flat_map tokens (texts [] no_mark comment) ≡ words "x")
+worked :
+    -- A word over two lines of which the first is continued, a use, and a word after a line end.
+    (bytes (codes "y+z") line_mark whole ≡ codes "els\\\ne y+z\n#line 1 \"a.w\"\n\n#line 5 \"a.w\"\nx") ×
+    (texts (codes "y+z") line_mark whole
+    ≡ codes "els\\\ne" ∷ codes "y+z" ∷ codes "#line 1 \"a.w\"\n" ∷ codes "#line 5 \"a.w\"\n" ∷ codes "x" ∷ []) ×
+    AreRead (codes "y+z") line_mark whole
+    "else y + z # line 1 \"a.w\" # line 5 \"a.w\" x" "else y + z # line 1 \"a.w\" # line 5 \"a.w\" x" ×
+    -- A group that opens a comment.
+    (tokens (bytes [] no_mark comment) ≡ []) ×
+    (flat_map tokens (texts [] no_mark comment) ≡ words "x") ×
+    (is_whole (codes "/*") ≡ false) ×
+    -- What is written for a use ends in a backslash.
+    AreRead (codes "y\\") no_mark (use_of_name ∷ word "x" ∷ []) "yx" "y \\ x" ×
+    (keep_lines (codes "y\\") (line_feed ∷ []) ≡ false)
 unfolding is_element is_token is_punctuator
-comment_read = (refl, refl)
-
-comment_refused : is_whole (codes "/*") ≡ false
-unfolding is_element is_token is_punctuator
-comment_refused = refl
-
--- What is written for a use ends in a backslash.
-
-abbrev use_before : List Token
-use_before = use_of_name ∷ name ∷ []
-
-use_before_read : AreRead (codes "y\\") no_mark use_before "yx" "y \\ x"
-unfolding is_element is_token is_punctuator
-use_before_read = (refl, refl)
-
-use_before_refused : keep_lines (codes "y\\") (line_feed ∷ []) ≡ false
-use_before_refused = refl
+worked = search rules

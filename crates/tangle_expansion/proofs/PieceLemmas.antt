@@ -51,13 +51,9 @@ module _ (numbers : NumbersRead) where
         let next =
         next_of no_origin (numbers_at numbers node piece).origins (marks + 1) origin (flat_map item_origins items) origins in
         grind (arith, nat_tests, append_assoc, mark_then node piece (marks + 1) origin, next.0, items_written piece (marks + 1) items next.1)
-    items_written piece marks (item.UseOf occurrence ∷ items) origins =
-        grind (arith, nat_tests, append_assoc, use_then piece marks, items_written piece marks items origins)
-    items_written piece marks (item.AllMacros ∷ items) origins =
-        grind (arith, nat_tests, append_assoc, items_written piece marks items origins)
-    -- an item that is bytes
     items_written piece marks (x ∷ items) origins =
-        grind (arith, nat_tests, append_assoc, bytes_then numbers (bytes_in texts x), items_written piece marks items origins)
+        let bytes = bytes_then numbers (bytes_in texts x) in
+        grind (arith, nat_tests, append_assoc, bytes, use_then piece marks, items_written piece marks items origins)
 
     -- the pieces of a node, from the one with this number on
     pub pieces_written : (piece : ℕ) (pieces : List PieceRead)

@@ -1,6 +1,6 @@
 -- Few bytes are written for each symbol.
 use Rattle.std.proofs.Common.{rules}
-use Rattle.std.proofs.Common.{ℕ, ◌^◌, ◌<◌, ◌≤◌, Bool, true, false, List, [], ◌∷◌, ◌++◌}
+use Rattle.std.proofs.Common.{ℕ, ◌^◌, ◌<◌, ◌≤◌, Bool, List, [], ◌∷◌, ◌++◌}
 use Rattle.std.proofs.Common.{length, arith, length-append, get_or, All, map, ◌≡◌, ◌+◌}
 use Rattle.std.specs.Prelude.{decimal}
 use Rattle.std.proofs.lemmas.List.Elements.{All-map, All-nil}
@@ -83,8 +83,7 @@ light_fits numbers h symbols light =
 pub front_fits : (numbers : NumbersRead) → SymbolsAreShort numbers → (has_macros : Bool)
     → length (front_bytes numbers has_macros) ≤ 2 ^ 66
 unfolding longest_symbol
-front_fits numbers h true = omega (arith, h AllMacros)
-front_fits numbers h false = omega arith
+front_fits numbers h x = grind (arith, h AllMacros)
 
 -- a file whose node has a piece is short enough
 pub file_fits : (numbers : NumbersRead) → SymbolsAreShort numbers

@@ -10,8 +10,8 @@ use Rattle.tangle_files.specs.Lines.{FileTable, lines_of, trimmed}
 use Rattle.tangle_files.specs.Roles.{RolesRead}
 
 -- the lines, with those between two positions replaced by new ones
-abbrev pub spliced : List (List ℕ) → ℕ → List (List ℕ) → ℕ → List (List ℕ)
-spliced lines start new_lines end = take start lines ++ new_lines ++ drop end lines
+abbrev pub with_replaced : List (List ℕ) → ℕ → List (List ℕ) → ℕ → List (List ℕ)
+with_replaced lines start new_lines end = take start lines ++ new_lines ++ drop end lines
 
 -- the files, with `splice` applied to the lines of the file of this name
 abbrev pub with_lines_edited : FileTable → List ℕ → (List (List ℕ) → List (List ℕ)) → FileTable
@@ -23,11 +23,11 @@ with_lines_edited files name splice =
 -- is the last; the number of each file after a discarded one decreases by one
 abbrev pub edited : FileTable → Edit → FileTable
 edited files (Insert file at text) = with_lines_edited files file.items
-    (λ lines. spliced lines (at - 1) (trimmed text.items ∷ []) (at - 1))
+    (λ lines. with_replaced lines (at - 1) (trimmed text.items ∷ []) (at - 1))
 edited files (Remove file at) =
-    with_lines_edited files file.items (λ lines. spliced lines (at - 1) [] at)
+    with_lines_edited files file.items (λ lines. with_replaced lines (at - 1) [] at)
 edited files (Replace file at text) = with_lines_edited files file.items
-    (λ lines. spliced lines (at - 1) (trimmed text.items ∷ []) at)
+    (λ lines. with_replaced lines (at - 1) (trimmed text.items ∷ []) at)
 edited files (Create file) = files ++ (file.items, []) ∷ []
 edited files (Discard file) = remove_entry (bytes_eq file.items) files
 edited files (Marks mode) = files

@@ -7,7 +7,7 @@ ghost use Rattle.std.specs.Str.{bytes_eq};
 ghost use Rattle.tangle_files.specs.Lines.{lines_of, trimmed};
 ghost use Rattle.tangle_files.specs.Adding.{is_too_long};
 ghost use Rattle.tangle_files.specs.Edits.{edit_refusal};
-ghost use Rattle.tangle_files.specs.Edited.{edited, spliced, with_lines_edited};
+ghost use Rattle.tangle_files.specs.Edited.{edited, with_replaced, with_lines_edited};
 ghost use Rattle.tangle_files.specs.Table.{files_of};
 
 use crate::cutting::without_trailing_spaces;
@@ -70,7 +70,7 @@ fn splice_lines(
         (λ lines. end ≤ length lines) }
     ensures ok { OnOk result (files_of table.new
         ≡ with_lines_edited (files_of table.old) file.now
-        (λ lines. spliced lines start (option_to_list line) end)) }
+        (λ lines. with_replaced lines start (option_to_list line) end)) }
     ensures err { OnErr result (files_of table.new ≡ files_of table.old) }
 {
     match table.get_mut(file) {
@@ -90,7 +90,7 @@ fn splice_shared(
     requires positions { (start ≤ end) × (end ≤ start + 1) }
     requires within { end ≤ length shared.old.value.items }
     ensures ok { OnOk result (shared.new.value.items
-        ≡ spliced shared.old.value.items start (option_to_list line) end) }
+        ≡ with_replaced shared.old.value.items start (option_to_list line) end) }
     ensures err { OnErr result (shared.new.value.items ≡ shared.old.value.items) }
 {
     let alloc = *shared.allocator();
@@ -114,7 +114,7 @@ fn splice_in_place(
     requires positions { (start ≤ end) × (end ≤ start + 1) }
     requires within { end ≤ length lines.old.items }
     ensures ok { OnOk result (lines.new.items
-        ≡ spliced lines.old.items start (option_to_list line) end) }
+        ≡ with_replaced lines.old.items start (option_to_list line) end) }
     ensures err { OnErr result (lines.new.items ≡ lines.old.items) }
 {
     match line {
@@ -144,7 +144,8 @@ fn splice(
 ) -> Result<Vec<Line>, AllocError>
     requires start { start ≤ length lines.now }
     requires end { end ≤ length lines.now }
-    ensures { IfOk result (λ made. made.items ≡ spliced lines.now start (option_to_list line) end) }
+    ensures { IfOk result
+        (λ made. made.items ≡ with_replaced lines.now start (option_to_list line) end) }
 {
     let mut made = Vec::with_capacity(alloc, start + 1 + (lines.len() - end))?;
     append_shares(&mut made, &lines[..start])?;

@@ -1,11 +1,10 @@
 -- The first uses of names, the faults of names one by one, and the flags of nodes.
 use Rattle.std.proofs.Common.{rules}
-use Rattle.std.proofs.Common.{◌≡◌, ◌∙◌, ◌<◌, ◌≤◌, ◌+◌, ℕ, zero, suc, Bool, true, false, cond}
-use Rattle.std.proofs.Common.{List, [], ◌∷◌, ◌++◌, length, flat_map, refl, ap, sym, arith}
+use Rattle.std.proofs.Common.{◌≡◌, ◌∙◌, ◌<◌, ◌≤◌, ◌+◌, ℕ, zero, suc, Bool}
+use Rattle.std.proofs.Common.{List, ◌++◌, length, flat_map, refl, sym, arith}
 use Rattle.std.proofs.Common.{append_assoc}
 use Rattle.std.specs.List.{range_with_len}
 use Rattle.std.proofs.lemmas.Bool.Decides.{same_from_decides}
-use Rattle.std.proofs.lemmas.List.{flat_map_more}
 use Rattle.tangle_faults.specs.declared.faults.FaultKind.{FaultKind}
 use Rattle.tangle_faults.specs.Faults.{FaultRead}
 use Rattle.tangle_scan.specs.Web.{WebRead}
@@ -13,16 +12,6 @@ use Rattle.tangle_names.specs.NameTable.{TableRead}
 use Rattle.digraph.specs.Nodes.{Node}
 use Rattle.tangle_graph.specs.Faults.{AreGraphFaults}
 use Rattle.tangle_graph.specs.Faults.{faults_of_names, graph_faults}
-use Rattle.tangle_graph.proofs.ListLemmas.{range_more}
-
--- one more number of a list, from which numbers without a fault may be left out
-pub candidates_step : (g : ℕ → List FaultRead) (n : ℕ) (names : List ℕ) (needed : Bool)
-    → (needed ≡ false → g n ≡ []) → flat_map g names ≡ flat_map g (range_with_len 0 n)
-    → flat_map g (names ++ cond needed (n ∷ []) []) ≡ flat_map g (range_with_len 0 (n + 1))
-candidates_step g n names true none sofar =
-    sym (flat_map_more g [] names n) ∙ ap (λ l. l ++ g n) sofar ∙ sym (range_more g n)
-candidates_step g n names false none sofar =
-    search (rules, range_more)
 
 pub one_after_another : {X : Type 0} (a b c d e f g h : List X)
     → ((((((a ++ b) ++ c) ++ d) ++ e) ++ f) ++ g) ++ h ≡ a ++ (b ++ (c ++ (d ++ (e ++ (f ++ (g ++ h))))))

@@ -7,7 +7,7 @@ use Rattle.std.specs.Str.{bytes_eq}
 use Rattle.std.specs.Prelude.{Some, slice_get}
 use Rattle.std.proofs.lemmas.List.{length-map}
 use Rattle.std.proofs.lemmas.Option.{slice_get_within}
-use Rattle.std.proofs.lemmas.List.Elements.{All-contains, All-from_get_or}
+use Rattle.std.proofs.lemmas.List.Elements.{All-from_get_or}
 use Rattle.tangle_scan.specs.Web.{WebRead}
 use Rattle.tangle_names.specs.NameTable.{TableRead, table_of}
 use Rattle.tangle_names.proofs.ContainsLemmas.{into_map, out_of_map}
@@ -27,7 +27,6 @@ use Rattle.tangle_graph.specs.Bodies.{AreBodiesOf}
 use Rattle.tangle_graph.specs.Grouping.{positions_of}
 use Rattle.tangle_graph.specs.NameGraphs.{AreUsesOf}
 use Rattle.tangle_graph.proofs.BodyLemmas.{name_used, part_read, some_at, used_name}
-use Rattle.tangle_graph.proofs.NodeLemmas.{title_inside}
 use Rattle.tangle_graph.proofs.RowLemmas.{numbers_below, positions_read}
 
 module _ (web : WebRead) (table : TableRead) (ours : table ≡ table_of web) where
@@ -72,9 +71,7 @@ module _ (shapes : Shapes) (names : List (List ℕ)) (bodies : List NodeBody) (u
       let found = out_of_map suc (row_at (map body_uses bodies) n) m
       (((used.once n (omega arith)).same m).0 u) in
       let c = subst (λ r. Contains r found.0) (part_read body_uses bodies n body own.1) found.1 in
-      let within = All-contains (λ id. id < length names) (body_uses body) found.0 is.inside c in
-      subst (Uses shapes (title_at names n))
-      (sym (title_inside names found.0 within) ∙ ap (title_at names) found.2)
+      subst (Uses shapes (title_at names n)) (ap (title_at names) found.2)
       (used_name shapes names n body is found.0 c)
 
   pub complete : (n : ℕ) (t : Title) → n < length uses → Uses shapes (title_at names n) t
@@ -83,4 +80,4 @@ module _ (shapes : Shapes) (names : List (List ℕ)) (bodies : List NodeBody) (u
   complete n (Named name) h u =
       let own = some_at bodies n (omega (arith, uses_count)) in
       let found = name_used shapes names n own.0 (are.each n own.0 own.1) name u in
-      grind (arith, nat_tests, use_up n found.0 own.0 own.1 found.1, uses_count, title_inside names found.0 found.2)
+      grind (arith, nat_tests, use_up n found.0 own.0 own.1 found.1, uses_count)

@@ -17,7 +17,7 @@ use Rattle.tangle_bodies.specs.WebShapes.{node_of_occurrence, is_node}
 use Rattle.tangle_bodies.specs.WebShapes.{ResolvesInside}
 use Rattle.tangle_graph.specs.Grouping.{node_of_piece, has_number_in}
 use Rattle.tangle_graph.proofs.ListLemmas.{all_flat}
-use Rattle.tangle_graph.proofs.NodeLemmas.{title_inside, once_titled}
+use Rattle.tangle_graph.proofs.NodeLemmas.{once_titled}
 
 module _ (table : TableRead) (distinct : IsDistinct bytes_eq table.names) (inside : ResolvesInside table)
     (n : ℕ) (low : n ≤ length table.names) where
@@ -28,7 +28,7 @@ module _ (table : TableRead) (distinct : IsDistinct bytes_eq table.names) (insid
   pub piece_is : (occurrence : Option ℕ)
       → has_number_in n (node_of_piece table occurrence)
       ≡ is_node table (title_at table.names n) (node_of_occurrence table occurrence)
-  piece_is occurrence = search (rules, same_node, title_inside)
+  piece_is occurrence = search (rules, same_node)
 
 item_below : (table : TableRead) → ResolvesInside table → (x : Item)
     → All (λ id. id < length table.names) (uses_in table x)

@@ -11,14 +11,13 @@ use Rattle.tangle_expansion.proofs.SameShapes.{used_expandable}
 use Rattle.tangle_expansion.specs.Kept.{kept_at, used_symbols, PutsKept}
 use Rattle.tangle_expansion.specs.Limits.{levels, heaviest, flat_of, IsExpandableNode}
 use Rattle.tangle_bodies.specs.Flat.{flat, pieces_flat}
-use Rattle.tangle_bodies.specs.Shapes.{Title, Named, Shape, Shapes, Uses}
+use Rattle.tangle_bodies.specs.Shapes.{Title, Named, Shape, Shapes}
 use Rattle.tangle_expansion.specs.declared.kept.Kept.{Kept}
 use Rattle.digraph.specs.Nodes.{Node}
 use Rattle.tangle_graph.specs.Ordering.{IsOrderIn}
 use Rattle.tangle_graph.specs.Stores.{StoreRead, IsStoreOf, KeepsUsed, IsNodeIn, is_expandable_at}
 use Rattle.tangle_graph.specs.Stores.{title_in_store, uses_at}
 use Rattle.tangle_graph.proofs.ExpandLemmas.{expandable_at, expandable_in}
-use Rattle.tangle_graph.proofs.NodeLemmas.{title_inside}
 use Rattle.tangle_graph.specs.Keeping.{IsKeptRight, KeepsJust}
 use Rattle.tangle_graph.proofs.FlagLemmas.{after_used, at_position, value_more}
 
@@ -43,9 +42,6 @@ module _ {shapes : Shapes} {store : StoreRead} {order : List Node}
         name : Title
         name = Named (get_or store.names id [])
 
-        title : title_in_store store (suc id) ≡ name
-        title = title_inside store.names id u.inside
-
         here : IsNodeIn store node
         here = at_position store order ordered i h node at
 
@@ -58,15 +54,12 @@ module _ {shapes : Shapes} {store : StoreRead} {order : List Node}
             used_expandable levels heaviest shapes (title_in_store store node) (get_or store.names id [])
             ((expandable_at shapes store is node here).0 flag) u.uses
             (λ none. let both : x ∷ s ≡ [] = sym e ∙ none in cc) in
-            let next : Contains (uses_at store node) (suc id) =
-            (is.uses node (suc id) here).1
-            (inside, subst (Uses shapes (title_in_store store node)) (sym title) u.uses) in
+            let next : Contains (uses_at store node) (suc id) = (is.uses node (suc id) here).1 (inside, u.uses) in
             ap (λ o. unwrap_or o []) (keeps.expandable (suc id) (after_used store order ordered i h node at (suc id) next)
-            ((expandable_at shapes store is (suc id) inside).1 (subst (IsExpandableNode shapes) (sym title) used)))
-            ∙ ap (flat_of shapes) title
+            ((expandable_at shapes store is (suc id) inside).1 used))
         by [] none =
             let not = false_from_ne_true (is_expandable_at store (suc id))
-            (λ on. ((expandable_at shapes store is (suc id) inside).0 on).has_piece (ap shapes title ∙ none)) in
+            (λ on. ((expandable_at shapes store is (suc id) inside).0 on).has_piece none) in
             ap (λ o. unwrap_or o []) (keeps.others (suc id) not) ∙ sym (flat_empty shapes name none)
 
     pub kept_more : (before after : Kept) → is_expandable_at store node ≡ true

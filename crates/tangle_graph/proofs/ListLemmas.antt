@@ -7,7 +7,7 @@ use Rattle.std.proofs.Math.Bool.{or-false}
 use Rattle.digraph.proofs.UserLemmas.{range_push}
 use Rattle.std.proofs.lemmas.List.Folds.{list_any-append}
 use Rattle.std.proofs.lemmas.List.{flat_map_more, map-append}
-use Rattle.std.proofs.lemmas.List.Elements.{All-append, All-cons, All-nil, filter_more}
+use Rattle.std.proofs.lemmas.List.Elements.{All-append, All-nil, filter_more}
 
 -- one more number of a range
 
@@ -20,11 +20,6 @@ pub any_more : (p : ℕ → Bool) (n : ℕ)
 any_more p n =
     ap (list_any p) (range_push n) ∙ list_any-append p (range_with_len 0 n) (n ∷ [])
     ∙ ap (λ b. list_any p (range_with_len 0 n) || b) (or-false (p n))
-
--- numbers that are pushed where a flag says so are in range if they are then
-pub all_where : (count n : ℕ) (b : Bool) → n < count → All (λ m. m < count) (if b then n ∷ [] else [])
-all_where count n true h = All-cons (λ m. m < count) n [] h (All-nil (λ m. m < count))
-all_where count n false h = All-nil (λ m. m < count)
 
 pub all_flat : {X : Type 0} (P : ℕ → Type 0) (f : X → List ℕ)
     → ((x : X) → All P (f x)) → (xs : List X) → All P (flat_map f xs)

@@ -1,6 +1,6 @@
 -- Nodes found by name, and their shapes.
 use Rattle.std.proofs.Common.{rules}
-use Rattle.std.proofs.Common.{◌≡◌, ◌≢◌, ◌∙◌, ℕ, suc, Bool, List, [], ◌∷◌, None, ap, refl, arith}
+use Rattle.std.proofs.Common.{◌≡◌, ◌≢◌, ℕ, suc, Bool, List, [], ◌∷◌, None, ap, refl, arith}
 use Rattle.std.specs.Prelude.{Option, IsSome}
 use Rattle.digraph.specs.Nodes.{Node, program}
 use Rattle.tangle_bodies.specs.Shapes.{Title, Named, Shape, Shapes, Uses}
@@ -9,7 +9,6 @@ use Rattle.tangle_bodies.specs.declared.nodes.NodeBody.{NodeBody}
 use Rattle.tangle_graph.specs.NewBodies.{AreNewBodies}
 use Rattle.tangle_graph.specs.Stores.{AreNewShapes, StoreRead, IsStoreOf, IsNodeIn, title_in_store}
 use Rattle.tangle_graph.proofs.BodyLemmas.{name_used, some_at}
-use Rattle.tangle_graph.proofs.NodeLemmas.{title_inside}
 
 -- a title with a piece is the title of a node
 pub node_with_piece : (shapes : Shapes) (store : StoreRead) (node : Title)
@@ -34,7 +33,7 @@ pub used_node : (shapes : Shapes) (store : StoreRead) (node : Node) (name : List
 used_node shapes store node name is inside u =
     let own = some_at store.bodies node (omega arith) in
     let found = name_used shapes store.names node own.0 (is.bodies.each node own.0 own.1) name u in
-    (suc found.0, omega arith, title_inside store.names found.0 found.2 ∙ ap Named found.3)
+    (suc found.0, omega arith, ap Named found.3)
 
 -- the flags of the bodies of a store are those of its new shapes
 pub new_shapes_of : (old store : StoreRead) (names : List (List ℕ)) (bodies : List NodeBody) (flags : List Bool)

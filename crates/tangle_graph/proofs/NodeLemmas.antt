@@ -6,18 +6,17 @@ use Rattle.std.specs.List.{position}
 use Rattle.std.specs.List.{IsDistinct}
 use Rattle.std.specs.Str.{bytes_eq}
 use Rattle.std.proofs.Math.Decide.{dec_lt, ℕ_discrete}
-use Rattle.std.proofs.lemmas.Option.{slice_get-get_or}
 use Rattle.std.proofs.lemmas.List.Sums.{fails_before_first}
 use Rattle.std.proofs.lemmas.Map.Made.{AllPairs-from_IsDistinct}
 use Rattle.std.proofs.lemmas.Slice.Eq.{bytes_eq-Decides}
 use Rattle.digraph.specs.Nodes.{name_of_node}
-use Rattle.tangle_bodies.specs.Nodes.{title_of_name, title_at}
+use Rattle.tangle_bodies.specs.Nodes.{title_at}
 use Rattle.tangle_bodies.specs.Shapes.{Named}
 use Rattle.tangle_bodies.specs.Shapes as title
 
 pub title_inside : (names : List (List ℕ)) (id : ℕ)
     → id < length names → title_at names (suc id) ≡ Named (get_or names id [])
-title_inside names id h = ap title_of_name (slice_get-get_or names id [] h)
+title_inside names id h = refl
 
 -- each name has one number
 pub once_named : (names : List (List ℕ)) (n m : ℕ)
@@ -36,12 +35,9 @@ once_named names n m distinct hn hm e =
 pub once_titled : (names : List (List ℕ)) (n m : ℕ)
     → IsDistinct bytes_eq names → n ≤ length names → m ≤ length names → title_at names n ≡ title_at names m → n ≡ m
 once_titled names zero zero distinct hn hm e = refl
-once_titled names zero (suc m) distinct hn hm e =
-    search (rules, title_inside)
-once_titled names (suc n) zero distinct hn hm e =
-    search (rules, title_inside)
-once_titled names (suc n) (suc m) distinct hn hm e =
-    search (rules, title_inside, once_named)
+once_titled names zero (suc m) distinct hn hm e = search rules
+once_titled names (suc n) zero distinct hn hm e = search rules
+once_titled names (suc n) (suc m) distinct hn hm e = search (rules, once_named)
 
 pub name_only : (n id : ℕ) → name_of_node n ≡ Some id → n ≡ suc id
 name_only zero id e = absurd (let both : None ≡ Some id = e in cc)
@@ -51,5 +47,4 @@ name_only (suc n) id e = (let both : Some n ≡ Some id = e in let same : n ≡ 
 pub title_absent : (names : List (List ℕ)) (text : List ℕ) (n : ℕ)
     → position (bytes_eq text) names ≡ None → n ≤ length names → title_at names n ≡ Named text → ⊥
 title_absent names text zero none h e = absurd (let both : title.Program ≡ Named text = e in cc)
-title_absent names text (suc id) none h e =
-    search (rules, title_inside, fails_before_first)
+title_absent names text (suc id) none h e = search (rules, fails_before_first)

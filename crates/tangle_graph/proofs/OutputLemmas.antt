@@ -2,7 +2,7 @@
 use Rattle.std.proofs.lemmas.Bool.Decides.{nat_tests}
 use Rattle.std.proofs.Common.{rules}
 use Rattle.std.proofs.Common.{◌≡◌, ◌<◌, ◌≤◌, ◌||◌, ℕ, Bool, true, false, List, [], ◌∷◌, length, map, filter}
-use Rattle.std.proofs.Common.{sym, subst, inl, inr, arith}
+use Rattle.std.proofs.Common.{subst, inl, inr, arith}
 use Rattle.std.specs.Prelude.{not, if◌then◌else◌, Contains, All}
 use Rattle.std.specs.List.{range_with_len}
 use Rattle.std.proofs.lemmas.Bool.{and_parts}
@@ -22,10 +22,8 @@ use Rattle.tangle_graph.specs.Keeping.{KeepsJust}
 use Rattle.tangle_graph.specs.Nodes.{IsNodeOf}
 use Rattle.tangle_graph.specs.Outputs.{shape_has_piece, is_expandable, file_names, first_file_name}
 use Rattle.tangle_graph.specs.Outputs.{main_output, named_file, main_file, is_written, outputs}
-use Rattle.tangle_graph.specs.Outputs.{is_earlier_file, is_main_file}
 use Rattle.tangle_graph.specs.Stores.{StoreRead, IsStoreOf}
 use Rattle.tangle_graph.proofs.ListLemmas.{all_flat}
-use Rattle.tangle_graph.proofs.NodeLemmas.{title_inside}
 use Rattle.tangle_graph.proofs.NodeMeasureLemmas.{expandable_is, no_pieces}
 
 -- of each output file: its node is the program or a name, and is expandable if it has a piece
@@ -58,11 +56,7 @@ module _ (web : WebRead) (table : TableRead) (resolves : ResolvesInside table) w
         → IsFit (shapes web table) table.names (named_file table id)
     named_fits id h is = record {
       inside = h;
-      there = λ t. subst (IsExpandableNode (shapes web table)) (sym (title_inside table.names id h))
-          ((expandable_is (shapes web table) (Named (name_at table id))).0
-          (and_parts (is_expandable (shapes web table) (Named (name_at table id)))
-          (not (is_main_file (shapes web table) table out id
-          || is_earlier_file (shapes web table) table out id)) is).0);
+      there = λ t. (expandable_is (shapes web table) (Named (name_at table id))).0 (and_parts _ _ is).0;
       none = λ f. absurd (let no : true ≡ false = f in cc);
     }
 

@@ -32,9 +32,10 @@ use Rattle.tangle_graph.specs.Stores.{StoreRead, IsStoreOf, flag_at}
 use Rattle.tangle_graph.specs.declared.measures.Measure.{Measure}
 use Rattle.tangle_graph.specs.declared.name_graph.NameGraph.{NameGraph}
 use Rattle.tangle_graph.proofs.GraphLemmas.{complete, distinct_names, resolves_inside, sound, uses_count}
-use Rattle.tangle_graph.proofs.NodeLemmas.{once_titled, title_inside}
+use Rattle.tangle_graph.proofs.NodeLemmas.{once_titled}
 use Rattle.digraph.proofs.UserLemmas.{among}
 use Rattle.tangle_graph.proofs.NodeMeasureLemmas.{expandable_is, there}
+use Rattle.std.proofs.Common.{not}
 
 apart : (row : List ℕ) → IsStrictlyIncreasing row → AllPairs (λ b c. b ≢ c) row
 apart row rising i j d low high e = absurd (omega (arith, AllPairs-from_increasing row rising i j d low high))
@@ -49,7 +50,7 @@ module _ (web : WebRead) (table : TableRead) (stored : List NodeBody) (name_grap
   names = table.names
 
   abbrev order : List ℕ
-  order = name_graph.order.items
+  order = name_graph.order.nodes.items
 
   abbrev title : ℕ → Title
   title n = title_at names n
@@ -85,7 +86,7 @@ module _ (web : WebRead) (table : TableRead) (stored : List NodeBody) (name_grap
 
   -- a node reaches a name that contains itself, if it does so in the graph of numbers
   pub reaching_is : (n : ℕ) → n ≤ length names
-      → (flag_at name_graph.reaching_cycles.items n ≡ true) ↔ ReachesCycle (Uses all) (title n)
+      → (not (flag_at name_graph.order.acyclic.items n) ≡ true) ↔ ReachesCycle (Uses all) (title n)
   reaching_is n low =
       let alike = cycle_alike name_graph.uses (Uses all) (title_at names) titled n (here n low) in
       grind (arith, nat_tests, here n low)
@@ -99,7 +100,7 @@ module _ (web : WebRead) (table : TableRead) (stored : List NodeBody) (name_grap
       uses = name_graph.uses;
       users = name_graph.users;
       self_containing = name_graph.self_containing.items;
-      reaching_cycles = name_graph.reaching_cycles.items;
+      acyclic = name_graph.order.acyclic.items;
       measures = measures;
       outputs = outputs;
       bodies = stored;
@@ -114,7 +115,7 @@ module _ (web : WebRead) (table : TableRead) (stored : List NodeBody) (name_grap
       known = λ name has. (
           let found = there table (resolves_inside web table of_web) name web.pieces
           (λ none. has (ap (map (λ (p : PieceRead). map (shape_item web.texts table) p.items)) none)) in
-          (suc found.0, omega arith, title_inside table.names found.0 found.1 ∙ ap Named found.2));
+          (suc found.0, omega arith, ap Named found.2));
       uses = uses_are;
       users = users_are;
       uses_once = λ a ha. apart (row_at name_graph.uses a)

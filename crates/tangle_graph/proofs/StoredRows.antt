@@ -1,5 +1,5 @@
 -- The rows of a store have the pieces of each node.
-use Rattle.std.proofs.Common.{◌≡◌, ◌∙◌, ◌<◌, ◌+◌, ℕ, zero, suc, List, [], ◌∷◌, length, map, get_or, ap, sym, arith}
+use Rattle.std.proofs.Common.{◌≡◌, ◌∙◌, ◌<◌, ◌+◌, ℕ, zero, suc, List, [], ◌∷◌, length, map, get_or, sym, arith}
 use Rattle.std.proofs.lemmas.List.{get_or-map, length-map, same_lists}
 use Rattle.tangle_scan.specs.Web.{WebRead, PieceRead}
 use Rattle.tangle_names.specs.NameTable.{TableRead, table_of}
@@ -9,7 +9,6 @@ use Rattle.tangle_bodies.specs.WebShapes.{pieces_of}
 use Rattle.digraph.specs.Rows.{IsRowsOf}
 use Rattle.tangle_graph.specs.Grouping.{positions_of}
 use Rattle.tangle_graph.proofs.GraphLemmas.{pieces_are, pieces_inside}
-use Rattle.tangle_graph.proofs.NodeLemmas.{title_inside}
 
 module _ (web : WebRead) (table : TableRead) where
   -- what the rows are to be made of, for the program and each name
@@ -19,8 +18,7 @@ module _ (web : WebRead) (table : TableRead) where
   of_node : (n : ℕ) (d : List PieceRead)
       → n < length table.names + 1 → pieces_of web table (title_at table.names n) ≡ get_or all n d
   of_node zero d h = λ i. pieces_of web table Program
-  of_node (suc n) d h = ap (pieces_of web table) (title_inside table.names n (omega arith))
-      ∙ sym (get_or-map (λ name. pieces_of web table (Named name)) table.names n [] d (omega arith))
+  of_node (suc n) d h = sym (get_or-map (λ name. pieces_of web table (Named name)) table.names n [] d (omega arith))
 
   pub grouped_by : (rows : List (List ℕ)) → table ≡ table_of web
       → IsRowsOf (length table.names + 1) (positions_of table web.pieces (length web.pieces)) rows

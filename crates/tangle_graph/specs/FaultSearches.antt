@@ -10,9 +10,10 @@ use Rattle.tangle_bodies.specs.WebShapes.{shapes}
 use Rattle.tangle_graph.specs.Faults.{fault_of, fault_occurrence, faults_of_names}
 use Rattle.tangle_graph.specs.Measures.{AreMeasures}
 use Rattle.tangle_graph.specs.NamedFiles.{AreFlagged}
-use Rattle.tangle_graph.specs.Stores.{contains_itself_at, flag_at}
+use Rattle.tangle_graph.specs.Stores.{contains_itself_at}
 use Rattle.tangle_graph.specs.WebStores.{IsStoreOfWeb}
 use Rattle.tangle_graph.specs.declared.faults.FaultSearch.{FaultSearch}
+use Rattle.tangle_graph.specs.Stores.{reaches_cycle_at}
 
 module _ (search : FaultSearch) where
   -- The store is that of the web, and its measures are those of the nodes. Flags say which names are
@@ -32,7 +33,7 @@ module _ (search : FaultSearch) where
   -- the occurrence at which the name has a fault of this kind, if it has one
   abbrev pub fault_number : FaultKind → ℕ → Option ℕ
   fault_number kind id = fault_occurrence search.web.now search.table.now search.out.now
-      (contains_itself_at search.store.now) (flag_at search.store.now.reaching_cycles)
+      (contains_itself_at search.store.now) (reaches_cycle_at search.store.now)
       kind id
 
   -- the fault of this kind that the name has, if it has one
@@ -43,7 +44,7 @@ module _ (search : FaultSearch) where
   -- the faults of this kind of all names
   abbrev pub faults_of_kind : FaultKind → List FaultRead
   faults_of_kind kind = faults_of_names search.web.now search.table.now search.out.now
-      (contains_itself_at search.store.now) (flag_at search.store.now.reaching_cycles) kind
+      (contains_itself_at search.store.now) (reaches_cycle_at search.store.now) kind
 
   -- these names have all faults of all names, of each kind
   abbrev pub HaveTheFaults : List ℕ → Type 0

@@ -35,9 +35,3 @@ AreMeasures shapes names measures = (node : Node) → IsNodeOf names node
 abbrev pub AreUsesMeasured : Shapes → List (List ℕ) → List Measure → List ℕ → Type 0
 AreUsesMeasured shapes names measures uses = (id : ℕ) → Contains uses id
     → measure_at measures (suc id) ≡ measure_of shapes (Named (slice_index_or names id []))
-
--- the node has its own measure if it is in the list, and else the measure `other`
-abbrev pub IsMeasured : (Node → Measure) → Measure → List Measure → List Node → Node → Type 0
-IsMeasured measure other measures nodes n =
-    (Contains nodes n → measure_at measures n ≡ measure n)
-    × (¬ (Contains nodes n) → measure_at measures n ≡ other)

@@ -3,9 +3,10 @@ use Rattle.std.specs.Prelude.{◌≡◌, ◌<◌, ℕ, suc, List, length, map}
 use Rattle.digraph.specs.Flags.{FlagsJust}
 use Rattle.digraph.specs.Graph.{Graph, HasUse, InRange, row_at}
 use Rattle.digraph.specs.Order.{IsOrder}
-use Rattle.digraph.specs.Reach.{ContainsItself, ReachesCycle}
+use Rattle.digraph.specs.Reach.{ContainsItself}
 use Rattle.digraph.specs.Rows.{IsReversed, IsOnceEach}
 use Rattle.tangle_graph.specs.declared.name_graph.NameGraph.{NameGraph}
+use Rattle.digraph.specs.Order.{AreAcyclic}
 
 -- the rows of nodes have the names with these numbers, each once
 pub record AreUsesOf (ids : List (List ℕ)) (rows : Graph) : Type 0 where
@@ -18,8 +19,7 @@ pub record IsNameGraphOf (ids : List (List ℕ)) (name_graph : NameGraph) : Type
   pub uses : AreUsesOf ids name_graph.uses
   pub range : InRange name_graph.uses
   pub users : IsReversed name_graph.uses name_graph.users
-  pub order : IsOrder name_graph.uses name_graph.order.items
+  pub order : IsOrder name_graph.uses name_graph.order.nodes.items
   pub containing : FlagsJust name_graph.uses name_graph.self_containing.items
       (ContainsItself (HasUse name_graph.uses))
-  pub reaching : FlagsJust name_graph.uses name_graph.reaching_cycles.items
-      (ReachesCycle (HasUse name_graph.uses))
+  pub acyclic : AreAcyclic name_graph.uses name_graph.order.acyclic.items

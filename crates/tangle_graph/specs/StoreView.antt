@@ -15,7 +15,7 @@ store_read s = record {
   uses = s.name_graph.value.uses;
   users = s.name_graph.value.users;
   self_containing = s.name_graph.value.self_containing.items;
-  reaching_cycles = s.name_graph.value.reaching_cycles.items;
+  acyclic = s.name_graph.value.order.acyclic.items;
   measures = s.measures.items;
   outputs = s.outputs.items;
   bodies = node_bodies s.bodies.items;
@@ -27,4 +27,4 @@ pub record StoreInvariant (s : Inside) : Type 0 where
   pub shapes : Shapes
   pub store : IsStoreOf shapes (store_read s)
   pub name_graph : IsNameGraphOf (map body_uses (node_bodies s.bodies.items)) s.name_graph.value
-  pub order : IsOrderIn (store_read s) s.name_graph.value.order.items
+  pub order : IsOrderIn (store_read s) s.name_graph.value.order.nodes.items

@@ -21,6 +21,8 @@ use Rattle.tangle_graph.specs.Bodies.{AreBodiesOf}
 use Rattle.tangle_graph.specs.Measures.{AreMeasures, measure_at}
 use Rattle.tangle_graph.specs.Nodes.{IsNodeOf}
 use Rattle.tangle_graph.specs.declared.measures.Measure.{Measure}
+use Rattle.std.specs.Prelude.{not}
+use Rattle.std.specs.Prelude.{suc}
 
 -- the bytes of the names, and lists with an entry for each node
 pub record StoreRead : Type 0 where
@@ -30,8 +32,8 @@ pub record StoreRead : Type 0 where
   pub uses : Graph
   pub users : Graph
   pub self_containing : List Bool
-  -- the node reaches a name that contains itself
-  pub reaching_cycles : List Bool
+  -- the node reaches no name that contains itself
+  pub acyclic : List Bool
   -- the node's weight and depth, and whether it is expandable
   pub measures : List Measure
   pub outputs : List OutputRead
@@ -51,6 +53,9 @@ module _ (store : StoreRead) where
 
   abbrev pub contains_itself_at : Node → Bool
   contains_itself_at node = flag_at store.self_containing node
+
+  abbrev pub reaches_cycle_at : Node → Bool
+  reaches_cycle_at node = not (flag_at store.acyclic node)
 
   abbrev pub weight_at : Node → ℕ
   weight_at node = (measure_at store.measures node).weight
@@ -88,7 +93,7 @@ module _ (store : StoreRead) where
 -- the node uses the name with this number
 pub record UsesNumber (shapes : Shapes) (store : StoreRead) (node : Node) (id : ℕ) : Type 0 where
   pub inside : id < length store.names
-  pub uses : Uses shapes (title_in_store store node) (Named (slice_index_or store.names id []))
+  pub uses : Uses shapes (title_in_store store node) (title_in_store store (suc id))
 
 -- for each name that the node uses, the symbols that are kept are the name's own; a name without a
 -- piece has none

@@ -1,5 +1,5 @@
 -- The store of a web with its table of names.
-use Rattle.std.specs.Prelude.{◌≡◌, ◌≤◌, ◌↔◌, ℕ, true, false, List, length, slice_index_or}
+use Rattle.std.specs.Prelude.{◌≡◌, ◌≤◌, ◌↔◌, ℕ, true, List, length}
 use Rattle.tangle_scan.specs.Web.{WebRead}
 use Rattle.tangle_names.specs.NameTable.{TableRead}
 use Rattle.digraph.specs.Nodes.{Node}
@@ -9,6 +9,7 @@ use Rattle.tangle_bodies.specs.WebShapes.{shapes}
 use Rattle.tangle_bodies.specs.Shapes.{Uses}
 use Rattle.tangle_graph.specs.Outputs.{outputs}
 use Rattle.tangle_graph.specs.Stores.{StoreRead, IsStoreOf}
+use Rattle.tangle_graph.specs.Stores.{reaches_cycle_at}
 
 -- The store is that of the web, for a main file of this name: what it records of each node holds
 -- for the node, it has the names of the table and the output files in their order, it says of each
@@ -19,7 +20,7 @@ pub record IsStoreOfWeb (web : WebRead) (table : TableRead)
   pub store : IsStoreOf (shapes web table) made
   pub names : made.names ≡ table.names
   pub reaching_cycles : (n : Node) → n ≤ length table.names
-      → (slice_index_or made.reaching_cycles n false ≡ true)
+      → (reaches_cycle_at made n ≡ true)
       ↔ ReachesCycle (Uses (shapes web table)) (title_at table.names n)
   pub outputs : made.outputs ≡ outputs web table out
   pub grouped : IsGroupedBy web table made.pieces

@@ -98,7 +98,8 @@ fn name_of_node(alloc: Global, table: &NameTable, node: Node) -> Result<Option<V
 {
     match node.name_number() {
         Some(id) if id < table.count() => Ok(Some(Vec::from_slice(alloc, table.text(id))?)),
-        _ => Ok(None),
+        Some(_) => Ok(Some(Vec::new(alloc))),
+        None => Ok(None),
     }
 }
 

@@ -6,10 +6,9 @@ ghost use Rattle.tangle_graph.specs.Faults.{AreGraphFaults, fault_if, first_use}
 ghost use Rattle.tangle_graph.specs.Faults.{has_piece_of_node, is_too_large};
 ghost use Rattle.tangle_graph.specs.FaultSearches.{HaveTheFaults, IsFaultSearch, fault_number};
 ghost use Rattle.tangle_graph.specs.FaultSearches.{fault_of_name, faults_of_kind};
-ghost use Rattle.tangle_graph.specs.Stores.{flag_at};
+ghost use Rattle.tangle_graph.specs.Stores.{reaches_cycle_at};
 
 use crate::named_files::NamedFiles;
-use crate::outputs::push_where;
 use crate::store::Store;
 use digraph::Node;
 use std::alloc::{AllocError, Global};
@@ -79,7 +78,7 @@ impl<'f, 's, 'a> FaultSearch<'f, 's, 'a> {
         requires search { IsFaultSearch self.now }
         requires node { node ≤ length self.now.table.now.names }
         ensures { result ≡ is_too_large self.now.web.now self.now.table.now
-            (flag_at self.now.store.now.reaching_cycles) node }
+            (reaches_cycle_at self.now.store.now) node }
     {
         self.has_piece(node) && (!self.store.reaches_cycle(node) && !self.store.expandable(node))
     }
@@ -156,8 +155,9 @@ impl<'f, 's, 'a> FaultSearch<'f, 's, 'a> {
     {
         let mut names = Vec::new(alloc);
         for id in 0..self.table.count() {
-            let needed = self.may_have_fault(id);
-            push_where(&mut names, needed, id)?;
+            if self.may_have_fault(id) {
+                names.push(id)?;
+            }
         }
         Ok(names)
     }

@@ -7,7 +7,7 @@ ghost use Rattle.tangle_bodies.specs.NodeBodies.{body_uses};
 ghost use Rattle.tangle_graph.specs.NameGraphs.{AreUsesOf, IsNameGraphOf};
 ghost use Rattle.tangle_graph.specs.Bodies.{node_bodies};
 
-use digraph::{Node, Rows, once_each, order, reaching_cycles, self_containing, users};
+use digraph::{Node, Ordered, Rows, once_each, order, self_containing, users};
 use std::alloc::{AllocError, Global};
 use std::rc::Rc;
 use tangle_bodies::NodeBody;
@@ -15,8 +15,8 @@ use tangle_lines::NoMemory;
 use tangle_names::Names;
 
 /// The names, shared with their table; for each node the names that it uses, the nodes that use it,
-/// and whether it contains itself or reaches a name that does; and the nodes that reach no cycle,
-/// each after those that it uses.
+/// and whether it contains itself; and the nodes that reach no cycle, each after those that it
+/// uses.
 ///
 /// The stores before and after an edit share it where the names and the uses do not change.
 #[derive(Drop)]
@@ -24,9 +24,8 @@ pub(crate) struct NameGraph {
     pub(crate) names: Names,
     pub(crate) uses: Rows<Node>,
     pub(crate) users: Rows<Node>,
-    pub(crate) order: Vec<Node>,
+    pub(crate) order: Ordered,
     pub(crate) self_containing: Vec<bool>,
-    pub(crate) reaching_cycles: Vec<bool>,
 }
 
 impl NameGraph {
@@ -48,14 +47,12 @@ impl NameGraph {
         let users = users(alloc, &uses)?;
         let order = order(alloc, &uses, &users)?;
         let self_containing = self_containing(alloc, &uses, &users)?;
-        let reaching_cycles = reaching_cycles(alloc, &uses, &users, &self_containing)?;
         let name_graph = NameGraph {
             names,
             uses,
             users,
             order,
             self_containing,
-            reaching_cycles,
         };
         Ok(Rc::new(alloc, name_graph)?)
     }

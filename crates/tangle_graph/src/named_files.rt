@@ -2,13 +2,12 @@
 ghost use Rattle.std.specs.Prelude.{◌≡◌, ◌<◌, ◌+◌, ◌||◌, List, ℕ, IfOk, length};
 ghost use Rattle.tangle_bodies.specs.Shapes.{Shapes};
 ghost use Rattle.tangle_graph.specs.Measures.{AreMeasures};
-ghost use Rattle.tangle_graph.specs.NamedFiles.{AreFlagged, HaveForms};
-ghost use Rattle.tangle_graph.specs.Outputs.{is_earlier_file, is_file, is_main_file};
+ghost use Rattle.tangle_graph.specs.NamedFiles.{AreFlagged, HaveForms, flags_at, flags_of};
+ghost use Rattle.tangle_graph.specs.Outputs.{is_file};
 ghost use Rattle.tangle_graph.specs.PlainForms.{plain_form};
-ghost use Rattle.tangle_graph.specs.Stores.{flag_at};
 
-use crate::flags::is_flagged;
 use crate::measures::{Measure, measure_of_name};
+use crate::nodes::entry;
 use crate::plain_forms::plain_form;
 use digraph::Node;
 use indexmap::IndexSet;
@@ -20,8 +19,7 @@ use tangle_names::NameTable;
 /// earlier file.
 #[derive(Drop)]
 pub(crate) struct NamedFiles {
-    main: Vec<bool>,
-    earlier: Vec<bool>,
+    flags: Vec<(bool, bool)>,
 }
 
 /// Whether the name is that of a file: an occurrence of it begins with `@(`, and it has a piece.
@@ -49,8 +47,7 @@ fn other_files(
         → AreMeasures shapes table.now.names measures.now → main_form.now.items ≡ plain_form out
         → HaveForms shapes table.now out id forms.old.keys
         → HaveForms shapes table.now out (id + 1) forms.new.keys
-        × (flags.0 ≡ is_main_file shapes table.now out id)
-        × (flags.1 ≡ is_earlier_file shapes table.now out id)) }
+        × (flags ≡ flags_of shapes table.now out id)) }
 {
     if !is_file(table, measures, id) {
         return Ok((false, false));
@@ -78,33 +75,31 @@ impl NamedFiles {
     {
         let main_form = plain_form(alloc, out)?;
         let mut forms = IndexSet::new(alloc);
-        let mut main = Vec::with_capacity(alloc, table.count())?;
-        let mut earlier = Vec::with_capacity(alloc, table.count())?;
+        let mut flags = Vec::with_capacity(alloc, table.count())?;
         for id in 0..table.count() {
-            let flags = other_files(alloc, table, measures, &main_form, id, &mut forms)?;
-            main.push(flags.0)?;
-            earlier.push(flags.1)?;
+            let found = other_files(alloc, table, measures, &main_form, id, &mut forms)?;
+            flags.push(found)?;
         }
-        Ok(NamedFiles { main, earlier })
+        Ok(NamedFiles { flags })
     }
 
     /// Whether the name with this number is that of the main file.
     pub(crate) fn is_main_file(&self, id: usize) -> bool
-        ensures { result ≡ flag_at self.now.main.items id }
+        ensures { result ≡ (flags_at self.now id).0 }
     {
-        is_flagged(&self.main, Node::new(id))
+        entry(&self.flags, Node::new(id), (false, false)).0
     }
 
     /// Whether the name with this number is that of an earlier file.
     pub(crate) fn is_earlier_file(&self, id: usize) -> bool
-        ensures { result ≡ flag_at self.now.earlier.items id }
+        ensures { result ≡ (flags_at self.now id).1 }
     {
-        is_flagged(&self.earlier, Node::new(id))
+        entry(&self.flags, Node::new(id), (false, false)).1
     }
 
     /// Whether the name with this number is that of the main file or of an earlier file.
     pub(crate) fn has_other_name(&self, id: usize) -> bool
-        ensures { result ≡ (flag_at self.now.main.items id || flag_at self.now.earlier.items id) }
+        ensures { result ≡ ((flags_at self.now id).0 || (flags_at self.now id).1) }
     {
         self.is_main_file(id) || self.is_earlier_file(id)
     }

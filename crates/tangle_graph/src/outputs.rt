@@ -19,16 +19,6 @@ use tangle_lines::NoMemory;
 use tangle_names::{NameTable, Resolved};
 use tangle_scan::Web;
 
-/// Adds the number at the end of the list, if the flag is set.
-pub(crate) fn push_where(numbers: &mut Vec<usize>, flag: bool, n: usize) -> Result<(), AllocError>
-    ensures { OnOk result (numbers.new.items ≡ numbers.old.items ++ (if flag then n ∷ [] else [])) }
-{
-    if flag {
-        numbers.push(n)?;
-    }
-    Ok(())
-}
-
 /// Whether the name has its first occurrence that begins with `@(` here.
 fn is_first_file(table: &NameTable, id: usize, occurrence: usize) -> bool
     requires { id < length table.now.names }
@@ -52,7 +42,9 @@ fn add_first_file(
         ≡ names.old.items ++ first_file_name table.now occurrence) }
 {
     if let Resolved::Name(id) = table.resolve(occurrence) {
-        push_where(names, is_first_file(table, id, occurrence), id)?;
+        if is_first_file(table, id, occurrence) {
+            names.push(id)?;
+        }
     }
     Ok(())
 }
@@ -76,32 +68,6 @@ pub(crate) fn file_names(
     Ok(names)
 }
 
-/// Adds an output file with this name, if it is to be written.
-fn push_file(
-    alloc: Global,
-    name: &[u8],
-    node: Node,
-    has_macros: bool,
-    has_piece: bool,
-    is_written: bool,
-    files: &mut Vec<Output>,
-) -> Result<(), AllocError>
-    ensures { OnOk result (files.new.items ≡ files.old.items
-        ++ (if is_written
-        then record {
-          name = name.now;
-          node = node;
-          has_macros = has_macros;
-          has_piece = has_piece;
-        } ∷ [] else [])) }
-{
-    if is_written {
-        let name = Vec::from_slice(alloc, name)?;
-        files.push(Output::new(name, node, has_macros, has_piece))?;
-    }
-    Ok(())
-}
-
 /// The output files of a web, the main file first.
 pub(crate) fn outputs(
     alloc: Global,
@@ -123,29 +89,19 @@ pub(crate) fn outputs(
     let has_piece = main.depth > 0;
     let is_written = !has_piece || main.is_expandable;
     let mut files = Vec::new(alloc);
-    push_file(
-        alloc,
-        out,
-        program,
-        !web.has_all_macros(),
-        has_piece,
-        is_written,
-        &mut files,
-    )?;
+    if is_written {
+        let name = Vec::from_slice(alloc, out)?;
+        files.push(Output::new(name, program, !web.has_all_macros(), has_piece))?;
+    }
     for id in &names {
         let node = Node::name(*id);
         let measure = entry(measures, node, NO_PIECE);
         let is_other = named.has_other_name(*id);
         let is_written = measure.is_expandable && !is_other;
-        push_file(
-            alloc,
-            table.text(*id),
-            node,
-            false,
-            true,
-            is_written,
-            &mut files,
-        )?;
+        if is_written {
+            let name = Vec::from_slice(alloc, table.text(*id))?;
+            files.push(Output::new(name, node, false, true))?;
+        }
     }
     Ok(files)
 }

@@ -12,7 +12,7 @@ ghost use Rattle.tangle_graph.specs.Faults.{AreGraphFaults};
 ghost use Rattle.tangle_graph.specs.NameGraphs.{IsNameGraphOf};
 ghost use Rattle.tangle_graph.specs.Ordering.{IsOrderIn};
 ghost use Rattle.tangle_graph.specs.Stores.{AreNewShapes, IsNodeIn, IsStoreOf, KeepsUsed};
-ghost use Rattle.tangle_graph.specs.Stores.{body_at, flag_at, symbols_at, title_in_store};
+ghost use Rattle.tangle_graph.specs.Stores.{body_at, reaches_cycle_at, symbols_at, title_in_store};
 ghost use Rattle.tangle_graph.specs.Stores.{contains_itself_at, is_expandable_at};
 ghost use Rattle.tangle_graph.specs.Stores.{weight_at, depth_at, uses_at, users_at, has_piece_at};
 ghost use Rattle.tangle_graph.specs.WebStores.{IsStoreOfWeb};
@@ -106,7 +106,7 @@ impl Store {
         let name_graph = name_graph_after(alloc, names, same_names, &bodies, old)?;
         let shared: &NameGraph = &name_graph;
         // Measures are made anew, in one short pass.
-        let measures = measures_of_nodes(alloc, &shared.uses, &shared.order, &bodies)?;
+        let measures = measures_of_nodes(alloc, &shared.uses, &shared.order.nodes, &bodies)?;
         let outputs = outputs(alloc, web, table, out, &measures)?;
         let store = Store {
             name_graph,
@@ -158,9 +158,9 @@ impl Store {
 
     /// Whether the node reaches a name that contains itself.
     pub(crate) fn reaches_cycle(&self, node: Node) -> bool
-        ensures { result ≡ flag_at self.now.reaching_cycles node }
+        ensures { result ≡ reaches_cycle_at self.now node }
     {
-        entry(&self.name_graph.reaching_cycles, node, false)
+        !entry(&self.name_graph.order.acyclic, node, false)
     }
 
     /// Whether the node is expandable: it has a piece, reaches no name that contains itself, weighs
@@ -250,7 +250,7 @@ impl Store {
     pub fn order(&self) -> &[Node]
         ensures { IsOrderIn self.now result.now }
     {
-        self.name_graph.order.as_slice()
+        self.name_graph.order.nodes.as_slice()
     }
 
     /// Expands a node: the expansion has the node's own symbols, with the kept expansion of each

@@ -5,21 +5,38 @@ use std::alloc::Global;
 use std::slice::Iter;
 use tangle_lines::{NoMemory, Sink, Source};
 use tangle_scan::{Item, ItemKind, ItemTag, Piece, PieceText, Span, Web};
-use tangle_text::is_word_byte;
+use tangle_text::{RunPart, RunParts};
 
-/// Lists the items of the run with this text: words, signs and single spaces.
-// No sum of columns of a line overflows.
+/// Lists the items of the run with this text.
 fn list_run<S: Sink>(out: &mut Listing<S>, run: Option<&Span>, text: &[u8]) {
-    let mut offset = 0_usize;
-    for part in text.chunk_by(|a, b| is_word_byte(*a) && is_word_byte(*b)) {
+    let end = text.len().min(u16::MAX as usize) as u16;
+    let whole = Span {
+        line: 0,
+        start: 0,
+        end,
+    };
+    let mut parts = RunParts::new(text, whole);
+    while let Some(part) = parts.next() {
         match part {
-            [b' '] => out.begin_inner(b"blank"),
-            [byte] if !is_word_byte(*byte) => out.begin_text(b"sign", run, offset, part),
-            _ => out.begin_text(b"word", run, offset, part),
+            RunPart::Word(span) => list_part(out, b"word", run, text, span),
+            RunPart::Quoted(span) => list_part(out, b"quoted", run, text, span),
+            RunPart::Sign(span) => list_part(out, b"sign", run, text, span),
+            RunPart::Space => out.begin_inner(b"blank"),
         }
         out.end();
-        offset = offset.wrapping_add(part.len());
     }
+}
+
+/// Begins the line of an item that has this range of the text of a run.
+fn list_part<S: Sink>(
+    out: &mut Listing<S>,
+    word: &[u8],
+    run: Option<&Span>,
+    text: &[u8],
+    part: Span,
+) {
+    let (start, end) = (part.start as usize, part.end as usize);
+    out.begin_text(word, run, start, text.get(start..end).unwrap_or(&[]));
 }
 
 /// Lists the items that a tag stands for. What is left of the piece's text and of all spans begins

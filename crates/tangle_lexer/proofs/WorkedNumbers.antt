@@ -1,4 +1,4 @@
--- Worked lines with digit separators: the words, signs and quoted texts of C parts, and the sizes of runs.
+-- Worked lines with digit separators and quoted texts: words, signs and quoted texts of C parts, and sizes of runs.
 use Rattle.std.proofs.Common.{◌≡◌, ℕ, List, [], ◌∷◌, flat_map, refl, codes}
 use Rattle.tangle_text.specs.Text.{span_text}
 use Rattle.tangle_text.specs.Runs.{run_size}
@@ -38,13 +38,19 @@ apart :
 unfolding lexeme tokens_from
 apart = refl
 
--- a run ends before a word that may go on over an apostrophe, and before the space in front of it
-run_before_number : run_size (codes "a = b 10'000") ≡ 5
+-- a run ends before a word that a quoted text follows, and before the space in front of it
+run_before_number : run_size 0 (codes "a = b 10'000") ≡ 5
 run_before_number = refl
 
-run_at_number : run_size (codes "10'000 + 1") ≡ 0
+run_at_number : run_size 0 (codes "10'000 + 1") ≡ 0
 run_at_number = refl
 
--- a word that has no word byte after the apostrophe is in the run
-run_with_number : run_size (codes "x+3' e'") ≡ 3
-run_with_number = refl
+run_before_word : run_size 0 (codes "x+3' e'") ≡ 2
+run_before_word = refl
+
+-- a run goes over quoted texts that close on their line and have no `@`
+run_with_texts : run_size 0 (codes "f(\"a  \\\"\", '\\'') x") ≡ 18
+run_with_texts = refl
+
+run_with_others : run_size 0 (codes "a + \"b") ≡ 3
+run_with_others = refl

@@ -1,5 +1,5 @@
--- The tokens of runs. A run of words, signs and single spaces of one line is one token while a C
--- part is read.
+-- The tokens of runs. A run of words, signs, quoted texts and single spaces of one line is one token
+-- while a C part is read.
 use Rattle.std.specs.Prelude.{◌≡◌, ◌==◌, ℕ, Bool, true, false, List, [], ◌∷◌, map, flat_map}
 use Rattle.std.specs.List.{list_any}
 use Rattle.tangle_lexer.specs.declared.tokens.SpanKind.TheVariants as span_kind
@@ -8,7 +8,7 @@ use Rattle.tangle_lexer.specs.declared.tokens.Token.TheVariants as token
 use Rattle.tangle_text.specs.declared.runs.RunPart.{RunPart}
 use Rattle.tangle_text.specs.declared.runs.RunPart.TheVariants as part
 use Rattle.tangle_text.specs.declared.spans.Span.{Span}
-use Rattle.tangle_text.specs.Runs.{run_parts, has_single_spaces}
+use Rattle.tangle_text.specs.Runs.{run_parts, are_apart}
 use Rattle.tangle_text.specs.Bytes.{number_sign, backslash}
 use Rattle.tangle_text.specs.Text.{IsSpan}
 use Rattle.tangle_lexer.specs.SpanBytes.{first_byte, last_byte}
@@ -16,6 +16,7 @@ use Rattle.tangle_lexer.specs.SpanBytes.{first_byte, last_byte}
 -- the token of a part of a run
 abbrev pub part_token : RunPart → Token
 part_token (part.Word s) = token.Span span_kind.Word s
+part_token (part.Quoted s) = token.Span span_kind.Quoted s
 part_token (part.Sign s) = token.Span span_kind.Sign s
 part_token part.Space = token.White
 
@@ -35,11 +36,12 @@ is_run _ = false
 abbrev pub HasNoRun : List Token → Type 0
 HasNoRun tokens = list_any is_run tokens ≡ false
 
--- a range of a line whose spaces each have another part directly before and after them, and that
--- does not begin with `#` and does not end in a backslash
+-- A range of a line that begins with a word or with a sign other than `#`, and does not end in a
+-- backslash. Each space has another part directly before and after it, and no quoted text is
+-- directly after a word.
 pub record IsRunOf (texts : List (List ℕ)) (s : Span) : Type 0 where
   pub span : IsSpan texts s
-  pub spaces : has_single_spaces true (run_parts texts s) ≡ true
+  pub apart : are_apart true true (run_parts texts s) ≡ true
   pub begins : (first_byte texts s == number_sign) ≡ false
   pub ends : (last_byte texts s == backslash) ≡ false
 

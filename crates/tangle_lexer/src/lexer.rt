@@ -50,7 +50,7 @@ fn pop_head(tokens: &mut Vec<Token>) -> Option<Token>
 /// has to be the number of occurrences in `buffers`. The tokens before the head, with the faults
 /// among them, replace those in `buffers`. The occurrences that were read are added to those in
 /// `buffers`. Returns the state after the head, and the head itself, or `None` at the end of the
-/// text. In C parts runs take the place of the words, signs and spaces that they consist of.
+/// text. In C parts runs take the place of the words, signs, quoted texts and spaces in them.
 ///
 /// # Errors
 ///

@@ -1,5 +1,5 @@
 //! A loop for the simple lexemes: words, white space, signs and line ends, which are most of C
-//! text. In a C part a run of words, signs and single spaces is read at once.
+//! text. In a C part a run of words, signs, quoted texts and single spaces is read at once.
 ghost use Rattle.std.specs.Prelude.{◌≡◌, ◌≤◌, ◌<◌, true, List, length, IfOk, IfSome, OnOk};
 ghost use Rattle.tangle_lines.specs.Reading.{SourceLine};
 ghost use Rattle.tangle_text.specs.Text.{IsRestOf};

@@ -35,8 +35,8 @@ pub enum Token {
     NamedPart(u32, usize),
     /// A range of a line: a word, a sign, or a range of a quoted or verbatim text.
     Span(SpanKind, Span),
-    /// A run: a range of a line of words, signs and single spaces in a C part. Its words and signs
-    /// are spans, and each of its spaces is white space.
+    /// A run: a range of a line of words, signs, quoted texts and single spaces in a C part. Its
+    /// words, signs and quoted texts are spans, and each of its spaces is white space.
     Run(Span),
     /// A line end inside a quoted text, after a backslash, with the line that it ends. The text is
     /// cut there.

@@ -1,13 +1,13 @@
 -- Searching for a byte of a set, or for one outside a set, by the definitions of reading.
 use Rattle.std.proofs.Common.{rules}
-use Rattle.std.proofs.Common.{◌≡◌, ℕ, Bool, true, false, not, ◌||◌, ◌==◌, List, [], ◌∷◌, length, refl, ap, sym, arith}
+use Rattle.std.proofs.Common.{◌≡◌, ℕ, Bool, true, false, not, ◌||◌, ◌==◌, List, [], ◌∷◌, length, sym, arith}
 use Rattle.std.proofs.Common.{Option, Some, None, is_some, slice_index, unwrap_or}
 use Rattle.std.specs.List.{list_all, position_or_len}
 use Rattle.std.proofs.lemmas.Bool.{false_from_ne_true, false≢true}
 use Rattle.std.proofs.lemmas.List.Elements.{All-from_get_or}
 use Rattle.std.proofs.lemmas.List.Folds.{list_all_at}
 use Rattle.std.proofs.lemmas.List.Sums.{position_or_len_is, list_all-from_AllPass}
-use Rattle.std.proofs.Math.Bool.{or-false}
+use Rattle.std.proofs.Math.Bool.{or_assoc, or-false}
 use Rattle.bstr.specs.Find.{IsFirstByte}
 use Rattle.bstr.specs.Bytes.{is_in, not_in}
 use Rattle.bstr.proofs.lemmas.ByteLemmas.{IsFirstByte-same}
@@ -23,15 +23,6 @@ found-at searched test same hay None h =
     position_or_len_is test hay (length hay) 0 (omega arith)
     (λ j l. false_from_ne_true _ (f j (omega arith) l)) (λ l. absurd (omega arith))
 
-regrouped : (a b c d e q : Bool)
-    → (a || (b || (c || (d || (e || (q || false)))))) ≡ ((a || (b || (c || (d || e)))) || q)
-regrouped true b c d e q = refl
-regrouped false true c d e q = refl
-regrouped false false true d e q = refl
-regrouped false false false true e q = refl
-regrouped false false false false true q = refl
-regrouped false false false false false q = or-false q
-
 abbrev white_set : List ℕ
 white_set = 32 ∷ 9 ∷ 13 ∷ 11 ∷ 12 ∷ []
 
@@ -40,11 +31,11 @@ white_or_quote_set = 32 ∷ 9 ∷ 13 ∷ 11 ∷ 12 ∷ 34 ∷ []
 
 pub is_in-white : (b : ℕ) → is_in white_set b ≡ is_white b
 unfolding is_in
-is_in-white b = ap (λ t. (b == 32) || ((b == 9) || ((b == 13) || ((b == 11) || t)))) (or-false (b == 12))
+is_in-white b = simp or-false
 
 pub is_in-white_or_quote : (b : ℕ) → is_in white_or_quote_set b ≡ (is_white b || (b == double_quote))
 unfolding is_in
-is_in-white_or_quote b = regrouped (b == 32) (b == 9) (b == 13) (b == 11) (b == 12) (b == 34)
+is_in-white_or_quote b = simp (or_assoc, or-false)
 
 -- all bytes are white space if no other byte is found
 pub blank-found : (hay : List ℕ) (r : Option ℕ) (blank : Bool)

@@ -5,7 +5,7 @@ use Rattle.std.proofs.Common.{◌++◌, length, min, drop, Option, None, Some, r
 use Rattle.std.proofs.Common.{append_assoc, append-nil}
 use Rattle.tangle_faults.specs.declared.faults.FaultKind.TheVariants.{SourceTooLong}
 use Rattle.tangle_faults.specs.Faults.{fault_at, FaultRead}
-use Rattle.std.proofs.lemmas.Bool.{lt-ltb}
+use Rattle.std.proofs.lemmas.Bool.{lt-ltb, le-ltb}
 use Rattle.tangle_files.specs.Lines.{FileTable}
 use Rattle.tangle_lines.specs.Change.{Change}
 use Rattle.tangle_lines.specs.Waiting.{IsPlain, Makes}
@@ -23,46 +23,32 @@ Advances taken (Ends faults) = Unit {0}
 Advances taken (Goes out s) = (taken < source_line_limit) × (taken < s.taken)
 
 module _ (files : FileTable) (change_file : ℕ) where
-  plain_step-advances : (w : WaitingLine) (ws : List WaitingLine) (cs : List Change) (t : ℕ) (name : Option (List ℕ))
-      → t < source_line_limit → Advances t (plain_step files w ws cs t name)
-  plain_step-advances w ws cs t name h = search rules
-
-  line_step-advances : (w : WaitingLine) (ws : List WaitingLine) (cs : List Change) (t : ℕ) (here : Option Change)
-      → here ≡ change_here cs w → t < source_line_limit → Advances t (line_step files change_file w ws cs t here)
-  line_step-advances w ws cs t here e h = search rules
-
-  step_of-advances : (ws : List WaitingLine) (cs : List Change) (t : ℕ) → Advances t (step_of files change_file ws cs t)
+  step_of-advances : (ws : List WaitingLine) (cs : List Change) (t : ℕ)
+      → Advances t (step_of files change_file ws cs t)
   step_of-advances ws cs t = search rules
 
-  after-same : (n m t : ℕ) (st : ReadingStep)
-      → Advances t st → source_line_limit - t < suc n → source_line_limit - t < suc m
-      → ((s : State) → source_line_limit - s.taken < n → source_line_limit - s.taken < m
-      → reads_in files change_file n s ≡ reads_in files change_file m s)
-      → after files change_file st (λ s. reads_in files change_file n s)
-      ≡ after files change_file st (λ s. reads_in files change_file m s)
-  after-same n m t st a h k rest = search rules
+  after-same : (t : ℕ) (st : ReadingStep) (f g : State → Reads) → Advances t st
+      → ((s : State) → t < source_line_limit → t < s.taken → f s ≡ g s)
+      → after files change_file st f ≡ after files change_file st g
+  after-same t st f g a same = search rules
 
   -- as many steps as there are lines below the limit are enough
-  pub reads_in-enough : (n m : ℕ) (s : State) → source_line_limit - s.taken < n → source_line_limit - s.taken < m
+  reads_in-enough : (n m : ℕ) (s : State) → source_line_limit - s.taken < n → source_line_limit - s.taken < m
       → reads_in files change_file n s ≡ reads_in files change_file m s
   unfolding reads_in
   reads_in-enough zero m s h k = absurd (omega arith)
   reads_in-enough (suc n) zero s h k = absurd (omega arith)
   reads_in-enough (suc n) (suc m) s h k =
-      after-same n m s.taken (step_of files change_file s.waiting s.changes s.taken)
-      (step_of-advances s.waiting s.changes s.taken) h k (reads_in-enough n m)
-
-  after-next : (n t : ℕ) (st : ReadingStep) → Advances t st → source_line_limit - t < suc n
-      → after files change_file st (λ s. reads_in files change_file n s)
-      ≡ after files change_file st (λ s. reads_from files change_file s)
-  after-next n t st a h = search (rules, reads_in-enough)
+      after-same s.taken _ _ _ (step_of-advances s.waiting s.changes s.taken)
+      (λ next below more. reads_in-enough n m next (omega arith) (omega arith))
 
   -- reading makes one step, and then reads on
   pub reads_from-step : (s : State) → ReadsByStep files change_file s
   unfolding reads_in
   reads_from-step s =
-      after-next (source_line_limit - s.taken) s.taken (step_of files change_file s.waiting s.changes s.taken)
-      (step_of-advances s.waiting s.changes s.taken) (omega arith)
+      after-same s.taken _ _ _ (step_of-advances s.waiting s.changes s.taken)
+      (λ next below more. reads_in-enough (source_line_limit - s.taken) (suc (source_line_limit - next.taken)) next
+      (omega arith) (omega arith))
 
 pub before_reads-append : (a b c : Reads) → before_reads (before_reads a b) c ≡ before_reads a (before_reads b c)
 before_reads-append a b c = search (rules, append_assoc)
@@ -70,46 +56,33 @@ before_reads-append a b c = search (rules, append_assoc)
 abbrev pub at : List WaitingLine → List Change → ℕ → State
 at lines changes taken = record { waiting = lines; changes = changes; taken = taken }
 
--- a step of reading: no line waits; or the limit of lines is reached; or the first waiting line is read
-module _ (files : FileTable) (change_file : ℕ) (ws : List WaitingLine) (cs : List Change) (t : ℕ) where
-  reads_from-end : reads_from files change_file (at [] cs t)
-      ≡ record { lines = []; faults = unused_faults files change_file cs }
-  reads_from-end = reads_from-step files change_file (at [] cs t)
-
-  reads_from-stop : (w : WaitingLine) → source_line_limit ≤ t
-      → reads_from files change_file (at (w ∷ ws) cs t)
-      ≡ record { lines = []; faults = fault_at SourceTooLong (place_of files w.origin) ∷ [] }
-  reads_from-stop w h = search (rules, reads_from-step)
-
-  reads_from-line : (w : WaitingLine) → t < source_line_limit
-      → reads_from files change_file (at (w ∷ ws) cs t)
-      ≡ after files change_file (line_step files change_file w ws cs t (change_here cs w))
-      (λ s. reads_from files change_file s)
-  reads_from-line w h =
-      rw (reads_from-step files change_file (at (w ∷ ws) cs t), lt-ltb t source_line_limit h) refl
-
 -- while reading goes on, the results so far and those of the lines that wait are the whole result
 module _ (files : FileTable) (change_file : ℕ) (start : Reads) (lines : List SourceLine)
     (faults : List FaultRead) (waiting : List WaitingLine) (changes : List Change) (t : ℕ)
     (so_far : before_reads (record { lines = lines; faults = faults })
     (reads_from files change_file (at waiting changes t))
     ≡ start) where
+  step : before_reads (record { lines = lines; faults = faults })
+      (after files change_file (step_of files change_file waiting changes t) (λ s. reads_from files change_file s))
+      ≡ start
+  step = rw (← reads_from-step files change_file (at waiting changes t)) so_far
+
   pub so_far-end : waiting ≡ []
       → start ≡ record { lines = lines; faults = faults ++ unused_faults files change_file changes }
-  so_far-end none = rw (← so_far, none, reads_from-end files change_file [] changes t, append-nil) refl
+  so_far-end none = rw (← step, none, append-nil) refl
 
   module _ (w : WaitingLine) (ws : List WaitingLine) (first : waiting ≡ w ∷ ws) where
     pub so_far-stop : source_line_limit ≤ t
         → start ≡ record { lines = lines; faults = faults ++ fault_at SourceTooLong (place_of files w.origin) ∷ [] }
-    so_far-stop h = rw (← so_far, first, reads_from-stop files change_file ws changes t w h, append-nil) refl
+    so_far-stop h = rw (← step, first, le-ltb t source_line_limit h, append-nil) refl
 
     -- a step gives more, and reading goes on in the state after it
-    step_out : (more : Reads) (s : State)
+    pub step_out : (more : Reads) (s : State)
         → line_step files change_file w ws changes t (change_here changes w) ≡ Goes more s → t < source_line_limit
         → before_reads (before_reads (record { lines = lines; faults = faults }) more) (reads_from files change_file s)
         ≡ start
-    step_out more s step h =
-        rw (before_reads-append, ← so_far, first, reads_from-line files change_file ws changes t w h, step) refl
+    step_out more s is h =
+        rw (before_reads-append, ← step, first, lt-ltb t source_line_limit h, is) refl
 
     pub so_far-plain : (ws' : List WaitingLine) (lines' : List SourceLine) (faults' : List FaultRead)
         → t < source_line_limit → None ≡ change_here changes w

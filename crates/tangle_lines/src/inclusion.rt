@@ -44,20 +44,16 @@ fn inclusion_name(bytes: &[u8]) -> &[u8]
 fn skip_white(bytes: &[u8]) -> &[u8]
     ensures { result.now ≡ after_white bytes.now }
 {
-    match bytes.find_not_byteset(WHITE) {
-        Some(start) => &bytes[start..],
-        None => &[],
-    }
+    let start = bytes.find_not_byteset(WHITE).unwrap_or(bytes.len());
+    &bytes[start..]
 }
 
 /// The bytes before the first quote.
 fn before_quote(bytes: &[u8]) -> &[u8]
     ensures { result.now ≡ before_first (λ c. c == double_quote) bytes.now }
 {
-    match bytes.find_byte(b'"') {
-        Some(end) => &bytes[..end],
-        None => bytes,
-    }
+    let end = bytes.find_byte(b'"').unwrap_or(bytes.len());
+    &bytes[..end]
 }
 
 /// The bytes before the first white space or quote.
@@ -65,8 +61,6 @@ fn before_quote(bytes: &[u8]) -> &[u8]
 fn before_white_or_quote(bytes: &[u8]) -> &[u8]
     ensures { result.now ≡ before_first (λ c. is_white c || (c == double_quote)) bytes.now }
 {
-    match bytes.find_byteset(WHITE_OR_QUOTE) {
-        Some(end) => &bytes[..end],
-        None => bytes,
-    }
+    let end = bytes.find_byteset(WHITE_OR_QUOTE).unwrap_or(bytes.len());
+    &bytes[..end]
 }

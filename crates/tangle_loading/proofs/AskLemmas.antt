@@ -2,8 +2,8 @@
 use Rattle.std.proofs.Common.{rules}
 use Rattle.std.proofs.Common.{◌≡◌, ◌∙◌, ◌⊎◌, inl, inr, ℕ, zero, suc, ◌≤◌, ◌<◌, ◌+◌, Bool, true, false, cond, List, [], ◌∷◌, ◌++◌}
 use Rattle.std.proofs.Common.{None, Ok, Err, ap, sym, refl, length, take, drop, get_or, append-nil, append_assoc}
-use Rattle.std.specs.Prelude.{All, filter, map}
-use Rattle.std.specs.List.{IsDistinct, list_any}
+use Rattle.std.specs.Prelude.{filter, map}
+use Rattle.std.specs.List.{AllByRecursion, IsDistinct, list_any}
 use Rattle.std.specs.Str.{bytes_eq}
 use Rattle.std.specs.declared.vec.Vec.{Vec}
 use Rattle.std.specs.Global.{Global}
@@ -11,7 +11,7 @@ use Rattle.std.proofs.lemmas.Bool.{cond_both, or_cases}
 use Rattle.std.proofs.lemmas.Cmp.{nat_list_eq_equiv}
 use Rattle.std.proofs.lemmas.List.{map-append, take-append-drop}
 use Rattle.std.proofs.lemmas.List.Folds.{list_any-append}
-use Rattle.std.proofs.lemmas.List.Elements.{All-cons, All-nil, filter-append, filter_more}
+use Rattle.std.proofs.lemmas.List.Elements.{filter-append, filter_more}
 use Rattle.std.proofs.lemmas.Map.Keys.{IsDistinct-push}
 use Rattle.std.proofs.lemmas.Slice.Eq.{bytes_eq-Decides}
 use Rattle.tangle_faults.specs.Faults.{FaultRead}
@@ -108,14 +108,14 @@ module _ (contents : Contents) where
 
   pub become_asked : (needed : Bool) (names : List (List ℕ)) (load : Load) (files : FileTable)
       → (ask_all contents needed load names).loaded ≡ Ok files
-      → All (IsAsked (ask_all contents needed load names).asked) names
-  become_asked needed [] load files e = All-nil (IsAsked load.asked)
+      → AllByRecursion (IsAsked (ask_all contents needed load names).asked) names
+  become_asked needed [] load files e = tt
   become_asked needed (name ∷ names) load files e =
       let next = ask contents needed load.asked load.loaded name in
-      let more = all_extend needed names next in
-      All-cons (IsAsked (ask_all contents needed next names).asked) name names
-      (still_asked next _ name more (is_asked needed load.asked load.loaded name _ (more.files files e).1))
-      (become_asked needed names next files e)
+      let more = all_extend needed names next in (
+        still_asked next _ name more (is_asked needed load.asked load.loaded name _ (more.files files e).1),
+        become_asked needed names next files e,
+      )
 
   -- a name that was asked for is not asked for again
   ask_same : (needed : Bool) (load : Load) (name : List ℕ) (asked : List (List ℕ)) (loaded : Loaded)

@@ -2,10 +2,9 @@
 use Rattle.std.proofs.Common.{rules}
 use Rattle.std.proofs.Common.{◌≡◌, ◌∙◌, inl, inr, ℕ, zero, suc, ◌<◌, ◌+◌, Bool, true, false, List, [], ◌∷◌}
 use Rattle.std.proofs.Common.{Option, None, Some, Ok, Err, ap, sym, refl, length, arith, Contains}
-use Rattle.std.specs.Prelude.{All}
-use Rattle.std.specs.List.{IsDistinct}
+use Rattle.std.specs.List.{AllByRecursion, IsDistinct}
 use Rattle.std.proofs.lemmas.Bool.{cases_lt}
-use Rattle.std.proofs.lemmas.List.Elements.{All-head, All-tail}
+use Rattle.std.proofs.lemmas.List.Elements.{All-from_recursion}
 use Rattle.tangle_files.specs.Lines.{FileTable}
 use Rattle.tangle_files.specs.Adding.{has_file, most_files}
 use Rattle.tangle_files.specs.Roles.{RolesRead, fits, has_file_if_any}
@@ -91,16 +90,12 @@ module _ (contents : Contents) (roles : RolesRead) where
   pub first_fits : (files : FileTable) → (first_round contents roles).loaded ≡ Ok files → fits files roles ≡ true
   first_fits files e =
       let all = become_asked contents true (roles.web ∷ named_in roles.change) (so_far [] (Ok [])) files e in
-      let web = first_there files e roles.web
-      (All-head (IsAsked (first_round contents roles).asked) roles.web (named_in roles.change) all) in
-      rw web (by roles.change
-      (All-tail (IsAsked (first_round contents roles).asked) roles.web (named_in roles.change) all))
+      rw (first_there files e roles.web all.0) (by roles.change all.1)
     where
-      by : (change : Option (List ℕ)) → All (IsAsked (first_round contents roles).asked) (named_in change)
+      by : (change : Option (List ℕ)) → AllByRecursion (IsAsked (first_round contents roles).asked) (named_in change)
           → has_file_if_any files change ≡ true
       by None all = refl
-      by (Some name) all = first_there files e name
-          (All-head (IsAsked (first_round contents roles).asked) name [] all)
+      by (Some name) all = first_there files e name all.0
 
   first_few : HasFew contents (first_round contents roles)
   first_few = search (rules, all_keep, few_more)
@@ -146,4 +141,6 @@ module _ (contents : Contents) (roles : RolesRead) where
       let there = load_keeps (AreThere contents (λ n. contents n ≡ None))
       (λ needed. there_more contents (λ n. contents n ≡ None) needed (λ n _ none. none))
       (λ loaded table k n any. absurd (cc)) in
-      search (rules, one_more, become_asked)
+      let asked = All-from_recursion (IsAsked (round load).asked) (missing_in load.loaded roles)
+      (become_asked contents false (missing_in load.loaded roles) load files (ap (λ l. l.loaded) one_more ∙ e)) in
+      search (rules, one_more)

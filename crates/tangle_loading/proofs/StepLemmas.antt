@@ -113,11 +113,9 @@ abbrev with_answer : List ℕ → Option (List ℕ) → Contents → Contents
 with_answer name answer contents other = cond (bytes_eq other name) answer (contents other)
 
 with_its_answer : (name : List ℕ) (contents : Contents) → with_answer name (contents name) contents ≡ contents
-with_its_answer name contents = λ i other. by other i
-  where
-    by : (other : List ℕ) → with_answer name (contents name) contents other ≡ contents other
-    by other = cond_both (bytes_eq other name) (contents name) (contents other) (λ a. a ≡ contents other)
-        (λ is. ap contents (sym ((bytes_eq-Decides other name).0 is))) (λ _. refl)
+with_its_answer name contents = λ i other.
+    cond_both (bytes_eq other name) (contents name) (contents other) (λ a. a ≡ contents other)
+    (λ is. ap contents (sym ((bytes_eq-Decides other name).0 is))) (λ _. refl) i
 
 -- the folder is asked for a name for which it was not asked before
 module _ (needed : Bool) (name : List ℕ) (old : FolderRead) (asked : List (List ℕ)) (files : FileTable)

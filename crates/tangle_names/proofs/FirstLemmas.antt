@@ -16,7 +16,7 @@ use Rattle.tangle_names.specs.declared.Resolved.{Resolved}
 use Rattle.tangle_names.specs.declared.Resolved.TheVariants.{Name}
 use Rattle.tangle_names.specs.Names.{NameText, full_names, meaning}
 use Rattle.tangle_names.specs.Numbers.{is_number}
-use Rattle.tangle_names.specs.Resolving.{first_file_number, first_number, meanings, names_in_order, resolve}
+use Rattle.tangle_names.specs.Resolving.{first_file_number, first_number, names_in_order, resolve}
 use Rattle.tangle_names.specs.Resolving.{resolves_to}
 use Rattle.tangle_names.specs.Laws.{IsFirst, IsFirstAsFileIfAny}
 use Rattle.tangle_names.proofs.LawLemmas.{occur}
@@ -35,23 +35,20 @@ found_passes q xs x found =
     ap q (sym (get_or_from_slice_get xs n x x found)) ∙ passes_at_first q xs x (slice_get_within xs n x found)
 
 -- an occurrence resolves to a name if it means the name
+numbered : (id : ℕ) (r : Resolved) → is_number id r ≡ true → r ≡ Name id
+numbered id (Name n) is = ap Name (eqb-true n id is)
+numbered id r is = absurd (cc)
+
 resolves_as : (os : List OccurrenceRead) (id : ℕ) (o : OccurrenceRead) → id < length (names_in_order os)
     → resolves_to os (get_or (names_in_order os) id []) o ≡ true → resolve os o ≡ Name id
-resolves_as os id o h is = by (resolve os o) refl
-  where
-    known : is_number id (resolve os o) ≡ true
-    known = is_number-means (names_in_order os) (meaning (full_names os) o) id (distinct_names (meanings os)) h ∙ is
-
-    by : (r : Resolved) → resolve os o ≡ r → resolve os o ≡ Name id
-    by (Name n) e = e ∙ ap Name (eqb-true n id (sym (ap (is_number id) e) ∙ known))
-    by _ e = absurd (let clash : false ≡ true = sym (ap (is_number id) e) ∙ known in cc)
+resolves_as os id o h is = numbered id (resolve os o)
+    (is_number-means (names_in_order os) (meaning (full_names os) o) id (distinct_names os) h ∙ is)
 
 resolves_not : (os : List OccurrenceRead) (id : ℕ) (o : OccurrenceRead) → id < length (names_in_order os)
     → resolves_to os (get_or (names_in_order os) id []) o ≡ false → resolve os o ≢ Name id
 resolves_not os id o h is = λ same.
-    let clash : true ≡ false =
-    sym (eq-eqb id id refl) ∙ sym (ap (is_number id) same)
-    ∙ is_number-means (names_in_order os) (meaning (full_names os) o) id (distinct_names (meanings os)) h ∙ is in
+    let means = is_number-means (names_in_order os) (meaning (full_names os) o) id (distinct_names os) h in
+    let clash : true ≡ false = sym (eq-eqb id id refl) ∙ sym (ap (is_number id) same) ∙ means ∙ is in
     cc
 
 pub some_of : {X : Type 0} (o : Option X) → IsSome o → (x : X) × (o ≡ Some x)
@@ -84,7 +81,8 @@ file_law os id h = by (nat_lt (position_or_len as_file os) (length os)) refl
             at = found.2;
             is_file = passes.0;
             resolves = resolves_as os id found.0 h passes.1;
-            no_earlier = λ n o less read file. grind (arith, nat_tests, resolves_not os id o h, none_before as_file os o n less read);
+            no_earlier = λ n o less read file.
+                grind (arith, nat_tests, resolves_not os id o h, none_before as_file os o n less read);
           })
       | inr past ↦ absurd (omega (arith, ltb-true (position_or_len as_file os) (length os) is))
     ]

@@ -1,16 +1,15 @@
 -- The numbers that a resolution has beside the names, and the faults that are found from them.
 use Rattle.std.proofs.Common.{rules}
 use Rattle.std.proofs.lemmas.Bool.Decides.{nat_tests}
-use Rattle.std.proofs.Common.{◌≡◌, ◌<◌, ◌+◌, ◌∙◌, ℕ, suc, Bool, true, false, cond, not, ◌&&◌, List, [], ◌∷◌, ◌++◌}
-use Rattle.std.proofs.Common.{length, map, filter, flat_map, take, get_or, refl, ap, sym, arith, add-zero}
-use Rattle.std.proofs.Common.{zero-add, Some, option_to_list}
-use Rattle.std.specs.Prelude.{All, slice_get}
-use Rattle.std.specs.List.{enumerate_from}
+use Rattle.std.proofs.Common.{◌≡◌, ◌<◌, ◌≤◌, ◌+◌, ◌∙◌, ℕ, suc, Bool, false, cond, not, ◌&&◌, List, [], ◌∷◌, ◌++◌}
+use Rattle.std.proofs.Common.{length, map, flat_map, take, get_or, refl, ap, sym, arith, add-zero}
+use Rattle.std.proofs.Common.{zero-add, inl, inr, Some, option_to_list}
+use Rattle.std.specs.Prelude.{slice_get}
+use Rattle.std.specs.List.{AllByRecursion}
 use Rattle.std.specs.Str.{bytes_eq}
 use Rattle.std.proofs.lemmas.List.{get_or-map, take_more}
-use Rattle.std.proofs.lemmas.List.Elements.{All-filter, All-map}
 use Rattle.std.proofs.lemmas.List.Folds.{find_at}
-use Rattle.std.proofs.lemmas.List.FromFn.{length-enumerate_from, get_or-enumerate_from}
+use Rattle.std.proofs.lemmas.Bool.{cases_Bool}
 use Rattle.std.proofs.lemmas.Option.{slice_get_within, get_or_from_slice_get}
 use Rattle.tangle_faults.specs.declared.faults.FaultKind.TheVariants as kind
 use Rattle.tangle_faults.specs.Faults.{FaultRead, fault_about}
@@ -25,18 +24,13 @@ use Rattle.tangle_names.specs.Numbers.{warning_of_number}
 use Rattle.tangle_names.specs.Resolving.{first_number, first_occurrence, names_in_order, resolve}
 use Rattle.tangle_names.specs.Sorted.{SameTexts}
 use Rattle.tangle_names.proofs.LawLemmas.{same}
-use Rattle.tangle_names.proofs.TableLemmas.{any-same, begins-known}
-
--- one more item at the front
-numbers-cons : {X : Type 0} (q : X → Bool) (k : ℕ) (x : X) (xs : List X)
-    → numbers_from q k (x ∷ xs) ≡ cond (q x) (k ∷ numbers_from q (k + 1) xs) (numbers_from q (k + 1) xs)
-numbers-cons q k x xs = grind (arith, nat_tests)
+use Rattle.tangle_names.proofs.TableLemmas.{any-same, begins-known, by_numbers}
 
 -- one more item at the end
 numbers-push : {X : Type 0} (q : X → Bool) (k : ℕ) (xs : List X) (x : X)
     → numbers_from q k (xs ++ x ∷ []) ≡ numbers_from q k xs ++ cond (q x) ((k + length xs) ∷ []) []
-numbers-push q k [] x = numbers-cons q k x [] ∙ ap {B = List ℕ} (λ n. cond (q x) (n ∷ []) []) (sym (add-zero k))
-numbers-push q k (y ∷ ys) x = grind (arith, nat_tests, numbers-cons, numbers-push q (k + 1) ys x)
+numbers-push q k [] x = ap {B = List ℕ} (λ n. cond (q x) (n ∷ []) []) (sym (add-zero k))
+numbers-push q k (y ∷ ys) x = grind (arith, nat_tests, numbers-push q (k + 1) ys x)
 
 -- one more item
 pub numbers-more : {X : Type 0} (q : X → Bool) (xs : List X) (i : ℕ) (d : X) → i < length xs
@@ -49,28 +43,16 @@ pub listed-step : {X : Type 0} (q : X → Bool) (xs : List X) (i : ℕ) (d : X) 
     → after ≡ numbers_from q 0 (take (i + 1) xs)
 listed-step q xs i d b before after h tested sofar pushed = search (rules, numbers-more)
 
--- lists whose items pass at the same positions have the same numbers
-numbers-agree : {X Y : Type 0} (q : X → Bool) (p : Y → Bool) (k : ℕ) (xs : List X) (ys : List Y) (d : X) (e : Y)
-    → length xs ≡ length ys
-    → ((i : ℕ) → i < length ys → q (get_or xs i d) ≡ p (get_or ys i e)) → numbers_from q k xs ≡ numbers_from p k ys
-numbers-agree q p k [] [] d e long at = refl
-numbers-agree q p k (x ∷ xs) (y ∷ ys) d e long at =
-    let short : length xs ≡ length ys = omega arith in
-    let first : q x ≡ p y = at 0 (omega arith) in
-    let rest = numbers-agree q p (k + 1) xs ys d e short (λ i h. at (suc i) (omega arith)) in
-    numbers-cons q k x xs ∙ ((λ i. cond (first i) (k ∷ rest i) (rest i)) ∙ sym (numbers-cons p k y ys))
-numbers-agree q p k xs ys d e long at = absurd (omega arith)
-
 numbers-map : {X Y : Type 0} (q : Y → Bool) (f : X → Y) (k : ℕ) (xs : List X)
     → numbers_from q k (map f xs) ≡ numbers_from (λ x. q (f x)) k xs
 numbers-map q f k [] = refl
-numbers-map q f k (x ∷ xs) = grind (arith, nat_tests, numbers-cons, numbers-map q f (k + 1) xs)
+numbers-map q f k (x ∷ xs) = grind (arith, nat_tests, numbers-map q f (k + 1) xs)
 
 -- each number is that of an item
-pub numbers_inside : {X : Type 0} (q : X → Bool) (xs : List X) → All (λ n. n < length xs) (numbers_from q 0 xs)
-numbers_inside {X} q xs =
-    All-map (λ n. n < length xs) (λ (e : ℕ × X). e.0) (filter (λ (e : ℕ × X). q e.1) (enumerate_from 0 xs))
-    (All-filter (λ (e : ℕ × X). q e.1) (λ (e : ℕ × X). e.0 < length xs) (enumerate_from 0 xs) (search (rules, length-enumerate_from, get_or-enumerate_from)))
+pub numbers_inside : {X : Type 0} (q : X → Bool) (k end : ℕ) (xs : List X)
+    → k + length xs ≤ end → AllByRecursion (λ n. n < end) (numbers_from q k xs)
+numbers_inside q k end [] h = tt
+numbers_inside q k end (x ∷ xs) h = grind (arith, nat_tests, numbers_inside q (k + 1) end xs)
 
 -- what is found from the numbers is found from the items
 by_number : {X : Type 0} (g : ℕ → List FaultRead) (f : X → List FaultRead) (q : X → Bool) (k : ℕ) (xs : List X)
@@ -82,13 +64,7 @@ by_number g f q k (x ∷ xs) at =
     let rest = by_number g f q (k + 1) xs (λ i y found.
     let moved : k + 1 + i ≡ k + suc i = omega arith in
     ap (λ n. cond (q y) (g n) []) moved ∙ at (suc i) y found) in
-    ap (flat_map g) (numbers-cons q k x xs) ∙ (by (q x) ∙ (λ i. first i ++ rest i))
-  where
-    by : (b : Bool)
-        → flat_map g (cond b (k ∷ numbers_from q (k + 1) xs) (numbers_from q (k + 1) xs))
-        ≡ cond b (g k) [] ++ flat_map g (numbers_from q (k + 1) xs)
-    by true = search rules
-    by false = search rules
+    elim (cases_Bool (q x)) [ inl is ↦ search rules | inr is ↦ search rules ]
 
 pub faults_of_numbers : (web : WebRead) (rs : List Resolved) → rs ≡ map (resolve web.occurrences) web.occurrences
     → flat_map (fault_of_number web rs) (numbers_from is_unresolved 0 rs)
@@ -124,13 +100,17 @@ begins_same : (os : List OccurrenceRead) (name : NameText)
 begins_same os name = any-same (λ (other : NameText). begins_with name other && not (bytes_eq name other))
     (names_in_order os) (full_names os) (same_names os)
 
-pub beginning_numbers_are : (os : List OccurrenceRead)
-    (texts names : List NameText) (flags : List Bool) (numbers : List ℕ)
-    → SameTexts (full_names os) texts → names ≡ names_in_order os → length flags ≡ length names
-    → ((id : ℕ) → id < length names → get_or flags id false ≡ begins_another_by_number names texts id)
-    → numbers ≡ numbers_from (λ b. b) 0 flags → numbers ≡ numbers_from (begins_another names) 0 names
-beginning_numbers_are os texts names flags numbers same named long known are =
-    are ∙ numbers-agree (λ b. b) (begins_another names) 0 flags names false [] long (grind (arith, nat_tests, begins-known os texts, begins_same os))
+pub beginning_numbers_are : (os : List OccurrenceRead) (texts : List NameText) (flags : List Bool)
+    → SameTexts (full_names os) texts → length flags ≡ length (names_in_order os)
+    → ((id : ℕ) → id < length (names_in_order os)
+    → get_or flags id false ≡ begins_another_by_number (names_in_order os) texts id)
+    → numbers_from (λ b. b) 0 flags ≡ numbers_from (begins_another (names_in_order os)) 0 (names_in_order os)
+beginning_numbers_are os texts flags same long known =
+    let names = names_in_order os in
+    let begins = begins_another names in
+    let flagged = by_numbers begins names flags false long
+    (λ id h. known id h ∙ begins-known os texts id same h ∙ begins_same os (get_or names id [])) in
+    ap (numbers_from (λ b. b) 0) flagged ∙ numbers-map (λ b. b) begins 0 names
 
 warning-is : (web : WebRead) (name : NameText)
     → warning web (first_number web.occurrences name) name

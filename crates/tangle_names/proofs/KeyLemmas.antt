@@ -1,6 +1,6 @@
 -- Positions in a list, and the number of a name.
 use Rattle.std.proofs.Common.{rules}
-use Rattle.std.proofs.Common.{◌≡◌, ◌≤◌, ◌+◌, ℕ, Bool, cond, not, List, [], ◌∷◌}
+use Rattle.std.proofs.Common.{◌≡◌, ◌+◌, ℕ, Bool, cond, not, List, [], ◌∷◌}
 use Rattle.std.proofs.Common.{length, map, refl, ap, position, Option}
 use Rattle.std.specs.Prelude.{unwrap_or}
 use Rattle.std.specs.List.{position_or_len}

@@ -2,7 +2,7 @@
 use Rattle.std.proofs.Common.{rules}
 use Rattle.std.proofs.lemmas.Bool.Decides.{nat_tests}
 use Rattle.std.proofs.Common.{◌≡◌, ◌≢◌, ◌≤◌, ◌<◌, ◌+◌, ◌∙◌, ℕ, zero, suc, true, false, not, ◌&&◌, List, []}
-use Rattle.std.proofs.Common.{◌∷◌, length, get_or, filter, refl, ap, sym, subst, inl, inr, arith, Contains}
+use Rattle.std.proofs.Common.{◌∷◌, length, get_or, refl, ap, sym, subst, inl, inr, arith, Contains}
 use Rattle.std.specs.Borrow.{Bor}
 use Rattle.std.specs.List.{dedup, dedup_from}
 use Rattle.std.specs.Ordering.{nat_cmp, is_lt, is_le, is_gt}
@@ -20,11 +20,10 @@ use Rattle.std.proofs.lemmas.List.Sorted.{IsPermutation-map, IsPermutation-sym, 
 use Rattle.std.proofs.lemmas.Map.Keys.{sorted_tail}
 use Rattle.std.proofs.lemmas.Map.Views.{All-after_first}
 use Rattle.std.proofs.lemmas.Slice.Eq.{bytes_eq-Decides}
-use Rattle.tangle_names.specs.Names.{NameText, Nothing, One, Several, only_with, begins_with}
+use Rattle.tangle_names.specs.Names.{NameText, Nothing, One, Several, begins_with}
 use Rattle.tangle_names.specs.Faults.{begins_another}
 use Rattle.tangle_names.specs.Sorted.{BeginsAt, IsInOrder, SameTexts, borrowed_names}
-use Rattle.tangle_names.proofs.ContainsLemmas.{into_filter, out_of_filter}
-use Rattle.tangle_names.proofs.MeaningLemmas.{list_any-none, list_any-some, only-nothing, only-one, only-several}
+use Rattle.tangle_names.proofs.MeaningLemmas.{Fits, list_any-none, list_any-some}
 use Rattle.tangle_names.proofs.OrderLemmas.{begins-above, begins-between}
 
 size : (sorted : List (Bor NameText)) → length (borrowed_names sorted) ≡ length sorted
@@ -74,24 +73,6 @@ found_at : (texts : List NameText) (p : NameText) (first : ℕ)
     → (k : ℕ) × (first ≤ k) × (k < length texts) × (get_or texts k [] ≡ t)
 found_at texts p first g t c begun = search (rules, get_or_default)
 
-pub nothing_found : (full texts : List NameText) (p : NameText) (first : ℕ)
-    → SameTexts full texts → Gathers texts p first
-    → (BeginsAt texts p first → ⊥) → Nothing ≡ only_with full p
-nothing_found full texts p first same g missing = only-nothing (filter (begins_with p) full) (λ t c.
-    let member = out_of_filter (begins_with p) full t c in
-    search (rules, found_at))
-
-inside_full : (full texts : List NameText) (p : NameText) (k : ℕ)
-    → SameTexts full texts → BeginsAt texts p k → Contains (filter (begins_with p) full) (get_or texts k [])
-inside_full full texts p k same begun = search (rules, into_filter)
-
-pub one_found : (full texts : List NameText) (p : NameText) (first : ℕ) → SameTexts full texts → Gathers texts p first
-    → BeginsAt texts p first → (BeginsAt texts p (first + 1) → ⊥) → One (get_or texts first []) ≡ only_with full p
-one_found full texts p first same g begun alone =
-    only-one (filter (begins_with p) full) (get_or texts first []) (inside_full full texts p first same begun) (λ u c.
-    let member = out_of_filter (begins_with p) full u c in
-    search (rules, found_at))
-
 -- names at different positions differ
 pub apart : (texts : List NameText) → IsInOrder texts → (i j : ℕ)
     → i < j → j < length texts → get_or texts i [] ≢ get_or texts j []
@@ -100,12 +81,32 @@ apart texts up i j low high same =
     grind (arith, nat_tests, rising texts up i j low high, alike) in
     cc
 
-pub several_found : (full texts : List NameText) (p : NameText) (first : ℕ) → SameTexts full texts → IsInOrder texts
-    → BeginsAt texts p first → BeginsAt texts p (first + 1) → Several ≡ only_with full p
-several_found full texts p first same up begun more =
-    only-several (filter (begins_with p) full) (get_or texts first []) (get_or texts (first + 1) [])
-    (inside_full full texts p first same begun) (inside_full full texts p (first + 1) same more)
-    (apart texts up first (first + 1) (omega arith) more.0)
+-- what the names from that position on mean
+pub nothing_found : (texts : List NameText) (p : NameText) (first : ℕ) → Gathers texts p first
+    → (BeginsAt texts p first → ⊥) → Fits texts p Nothing
+nothing_found texts p first g missing = λ t c. false_from_ne_true _ (λ begun. search (rules, found_at))
+
+pub one_found : (texts : List NameText) (p : NameText) (first : ℕ) → Gathers texts p first
+    → BeginsAt texts p first → (BeginsAt texts p (first + 1) → ⊥) → Fits texts p (One (get_or texts first []))
+one_found texts p first g begun alone = record {
+  is_full = Contains-get_or texts first [] begun.0;
+  begins = begun.1;
+  only = λ other c begins. search (rules, found_at);
+}
+
+pub several_found : (texts : List NameText) (p : NameText) (first : ℕ)
+    → IsInOrder texts → BeginsAt texts p first → BeginsAt texts p (first + 1) → Fits texts p Several
+several_found texts p first up begun more = (
+  get_or texts first [],
+  get_or texts (first + 1) [],
+  record {
+    first_is_full = Contains-get_or texts first [] begun.0;
+    second_is_full = Contains-get_or texts (first + 1) [] more.0;
+    first_begins = begun.1;
+    second_begins = more.1;
+    differ = apart texts up first (first + 1) (omega arith) more.0;
+  },
+)
 
 -- a name begins another if it begins the next one
 gathers_at : (texts : List NameText) (i : ℕ) → IsInOrder texts → i < length texts → Gathers texts (get_or texts i []) i
@@ -158,7 +159,8 @@ borrowed_names-dedup_from : (b : Bor NameText) (bs : List (Bor NameText))
     → borrowed_names (dedup_from (λ (x y : Bor NameText). bytes_eq x.now y.now) b bs)
     ≡ dedup_from bytes_eq b.now (borrowed_names bs)
 borrowed_names-dedup_from b [] = refl
-borrowed_names-dedup_from b (c ∷ cs) = grind (arith, nat_tests, borrowed_names-dedup_from b cs, borrowed_names-dedup_from c cs)
+borrowed_names-dedup_from b (c ∷ cs) =
+    grind (arith, nat_tests, borrowed_names-dedup_from b cs, borrowed_names-dedup_from c cs)
 
 pub borrowed_names-dedup : (bs : List (Bor NameText))
     → borrowed_names (dedup (λ (x y : Bor NameText). bytes_eq x.now y.now) bs) ≡ dedup bytes_eq (borrowed_names bs)

@@ -1,9 +1,9 @@
 -- Names by their numbers, from which the table is built. Most of these definitions are cited only
 -- by private contracts.
-use Rattle.std.specs.Prelude.{◌≡◌, ◌<◌, ℕ, Bool, true, false, nat_lt, ◌==◌, ◌&&◌, ◌||◌, List, []}
-use Rattle.std.specs.Prelude.{length, filter, flat_map, map, slice_get, slice_index_or, Option}
+use Rattle.std.specs.Prelude.{◌≡◌, ◌<◌, ℕ, Bool, true, false, nat_lt, ◌==◌, ◌&&◌, ◌||◌, ◌+◌, List, [], ◌∷◌}
+use Rattle.std.specs.Prelude.{length, flat_map, map, slice_get, slice_index_or, Option}
 use Rattle.std.specs.Prelude.{Some, None, option_to_list, if◌then◌else◌}
-use Rattle.std.specs.List.{enumerate_from, list_any, position_or_len}
+use Rattle.std.specs.List.{list_any, position_or_len}
 use Rattle.tangle_lexer.specs.declared.occurrences.OccurrenceRole.{OccurrenceRole}
 use Rattle.tangle_lexer.specs.declared.occurrences.OccurrenceRole.TheVariants.{Use}
 use Rattle.tangle_names.specs.declared.first_numbers.Counted.{Counted}
@@ -59,7 +59,8 @@ pub record Flags (old new : List Bool) (flagged : Bool) (resolved : Resolved) : 
 
 -- the numbers of the items that pass, where the first item has the number `k`
 abbrev pub numbers_from : {X : Type 0} → (X → Bool) → ℕ → List X → List ℕ
-numbers_from q k xs = map (λ e. e.0) (filter (λ e. q e.1) (enumerate_from k xs))
+numbers_from q k [] = []
+numbers_from q k (x ∷ xs) = if q x then k ∷ numbers_from q (k + 1) xs else numbers_from q (k + 1) xs
 
 -- an occurrence with this resolution resolves to no name
 abbrev pub is_unresolved : Resolved → Bool

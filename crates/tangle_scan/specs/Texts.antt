@@ -1,6 +1,6 @@
 -- The text of a piece: tags, which say what its bytes are and what comes between them, the bytes,
--- the numbers of the occurrences in its uses, and the origins of its marks. A run of words, signs
--- and single spaces has one tag.
+-- the numbers of the occurrences in its uses, and the origins of its marks. A run of words, signs,
+-- quoted texts and single spaces has one tag.
 use Rattle.std.specs.Prelude.{◌≡◌, ℕ, List, [], ◌∷◌, ◌++◌, length, map, flat_map}
 use Rattle.digraph.specs.Graph.{row_at}
 use Rattle.tangle_lines.specs.declared.origin.Origin.{Origin}
@@ -71,6 +71,7 @@ text_at texts n = record {
 -- the item of a part of a run
 abbrev pub part_item : RunPart → Item
 part_item (part.Word s) = item.Word s
+part_item (part.Quoted s) = item.Quoted s
 part_item (part.Sign s) = item.Sign s
 part_item part.Space = item.Blank
 

@@ -1,9 +1,9 @@
--- Tags as they are in memory, where a run of words, signs and single spaces has one
+-- Tags as they are in memory, where a run of words, signs, quoted texts and single spaces has one
 -- tag, and the tags of the items that they stand for.
 use Rattle.std.specs.Prelude.{◌≡◌, ℕ, ◌+◌, ◌-◌, List, [], ◌∷◌, ◌++◌, length, map, take, drop}
 use Rattle.tangle_text.specs.declared.runs.RunPart.{RunPart}
 use Rattle.tangle_text.specs.declared.runs.RunPart.TheVariants as part
-use Rattle.tangle_text.specs.Runs.{chunks, part_of}
+use Rattle.tangle_text.specs.Runs.{parts_of}
 use Rattle.tangle_scan.specs.declared.texts.ItemKind.{ItemKind}
 use Rattle.tangle_scan.specs.declared.texts.ItemKind.TheVariants as tag
 use Rattle.tangle_scan.specs.declared.texts.ItemTag.{ItemTag}
@@ -11,16 +11,13 @@ use Rattle.tangle_scan.specs.declared.texts.ItemTag.{ItemTag}
 -- the tag of a part of a run
 abbrev pub part_tag : RunPart → ItemTag
 part_tag (part.Word s) = record { kind = tag.Word; size = s.end - s.start }
+part_tag (part.Quoted s) = record { kind = tag.Quoted; size = s.end - s.start }
 part_tag (part.Sign s) = record { kind = tag.Sign; size = s.end - s.start }
 part_tag part.Space = record { kind = tag.Blank; size = 1 }
 
--- the tag of the part with these bytes, wherever it is
-abbrev pub chunk_tag : List ℕ → ItemTag
-chunk_tag c = part_tag (part_of 0 0 c)
-
--- the tags of the words, signs and spaces of a run with these bytes
+-- the tags of the parts of a run with these bytes, wherever it is
 unfoldable pub run_tags : List ℕ → List ItemTag
-run_tags bytes = map chunk_tag (chunks bytes)
+run_tags bytes = map part_tag (parts_of 0 0 0 bytes)
 
 -- the tags that a tag of this kind, with these bytes, stands for
 abbrev pub kind_tags : ItemKind → ItemTag → List ℕ → List ItemTag

@@ -1,4 +1,4 @@
-//! The tags of a text one after another, where each run is unfolded to its words, signs and spaces.
+//! The tags of a text one after another, where each run is unfolded to its parts.
 ghost use Rattle.std.specs.Prelude.{◌≡◌, ◌∷◌, ◌≤◌, true, false, List};
 ghost use Rattle.std.specs.Prelude.{length, take, drop, min, slice_get, MatchOption};
 ghost use Rattle.tangle_scan.specs.UnfoldedTags.{part_tag, run_tags, unfolded_tags};
@@ -36,6 +36,7 @@ fn tag_of_part(part: RunPart) -> ItemTag
 {
     let (kind, size) = match part {
         RunPart::Word(span) => (ItemKind::Word, span.end.saturating_sub(span.start)),
+        RunPart::Quoted(span) => (ItemKind::Quoted, span.end.saturating_sub(span.start)),
         RunPart::Sign(span) => (ItemKind::Sign, span.end.saturating_sub(span.start)),
         RunPart::Space => (ItemKind::Blank, 1),
     };

@@ -16,7 +16,7 @@ use tangle_lines::{NoMemory, Origin};
 pub enum ItemKind {
     /// A piece begins, with its opening and its opening mark.
     PieceStart,
-    /// Words, signs and single spaces of one line.
+    /// Words, signs, quoted texts and single spaces of one line.
     Run,
     Word,
     Sign,

@@ -34,7 +34,6 @@ moved all from len n sum within =
     let left : len - from ≡ n = omega arith in
     let parts : len ≡ from + n = omega arith in
     let none : n ≡ 0 + n = omega arith in
-    ap (λ j. take n (paste all 0 (drop from all) j)) left
-    ∙ (ap (λ k. take k (paste all 0 (drop from all) n)) none
-    ∙ (take-paste all 0 (drop from all) n (omega arith) (omega (arith, length-drop from all))
-    ∙ sym (ap (λ j. drop from (take j all)) parts ∙ drop-take from n all)))
+    rw (left, parts) (ap (λ k. take k (paste all 0 (drop from all) n)) none
+    ∙ take-paste all 0 (drop from all) n (omega arith) (omega (arith, length-drop from all))
+    ∙ sym (drop-take from n all))

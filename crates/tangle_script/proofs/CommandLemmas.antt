@@ -155,6 +155,3 @@ pub last_with_text : (bytes line text : List ℕ) → OnlyWaits bytes
     → ended [] bytes ≡ line ∷ ended [] text → unended [] bytes ≡ unended [] text
     → all_commands bytes ≡ found_commands line (last_text text)
 last_with_text bytes line text waits e f = search (rules, after_line, no_feed, texted)
-
-pub some_text : (text : List ℕ) → 0 < length text → last_text text ≡ Some text
-some_text text some = search rules

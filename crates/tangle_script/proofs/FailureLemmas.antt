@@ -20,7 +20,7 @@ use Rattle.tangle_script.specs.NothingRead.{NothingIsReadAndNothingFails}
 use Rattle.tangle_script.specs.Short.{HasFailed, HasShortCommands, command_size}
 use Rattle.tangle_script.proofs.CommandLemmas.{pending_waits, read_more, split}
 
-small : (b : Bool) → status_by b < 3
+pub small : (b : Bool) → status_by b < 3
 small true = omega arith
 small false = omega arith
 
@@ -90,42 +90,35 @@ short_or_long script read (Some rest) given short (inr many) =
 
 module _ {State : Type 0} (answers : State → Request → List ℕ → State → Type 0)
     (has_error : State → Bool → Type 0) (old new : Conversation State) where
-  -- the reader or the writer failed, or too many bytes were read
-  abbrev HasCause : Type 0
-  HasCause =
-      Failed old.reader_failures new.reader_failures
-      ⊎ (Failed old.exchange.stream.failures new.exchange.stream.failures
-      ⊎ ((read : List ℕ) × Consumes old.remaining new.remaining read × AreTooMany read))
-
   cut_fails : {commands : List Command} → IsCut answers old.exchange new.exchange commands
       → Failed old.exchange.stream.failures new.exchange.stream.failures
-  cut_fails k = subst (λ n. Failed n new.exchange.stream.failures) k.is_answered.written.1
+  cut_fails k = subst (λ n. Failed n new.exchange.stream.failures) k.goes_on.is_answered.written.1
       k.at_last.2.3
 
-  cause : ConversationEnds answers has_error old new 3 → HasCause
-  cause (IsAtQuit read are answered status) = search rules
-  cause (IsAtInputEnd read are over on answered status) =
-      search rules
-  cause (IsUnread read given within failed answered status) = inl failed
-  cause (IsTooLong read more given full same answered status) =
-      search (rules, length-append)
-  cause (IsUnwritten read are (inl early) status) = inr (inl (cut_fails early))
-  cause (IsUnwritten read are (inr late) status) = inr (inl (cut_fails late.2))
-  cause (IsOutOfMemory read are long answered status) = inr (inr (read, are.given, inr long))
+  -- the reader or the writer failed, or too many bytes were read
+  cause : (Many : Type 0) → ((read : List ℕ) → Consumes old.remaining new.remaining read → AreTooMany read → Many)
+      → ConversationEnds answers has_error old new 3
+      → Failed old.reader_failures new.reader_failures
+      ⊎ (Failed old.exchange.stream.failures new.exchange.stream.failures ⊎ Many)
+  cause Many many (IsAtQuit read are answered status) = search rules
+  cause Many many (IsAtInputEnd read are over on answered status) = search rules
+  cause Many many (IsUnread read given within failed on status) = inl failed
+  cause Many many (IsTooLong read more given full same on status) =
+      inr (inr (many (read ++ more ∷ []) given (inl (omega (arith, length-append read (more ∷ []))))))
+  cause Many many (IsUnwritten read are (inl early) status) = inr (inl (cut_fails early))
+  cause Many many (IsUnwritten read are (inr late) status) = inr (inl (cut_fails late.2))
+  cause Many many (IsOutOfMemory read are long on status) = inr (inr (many read are.given (inr long)))
 
   pub is_not_status_3 : NothingIsReadAndNothingFails old new
       → ConversationEnds answers has_error old new 3 → ⊥
-  is_not_status_3 nothing ends = elim (cause ends) [
+  is_not_status_3 nothing ends = elim (cause ⊥ (λ read given many. search (rules, none_too_many)) ends) [
     | inl reader ↦ nothing.no_reader_failure reader
     | inr (inl writer) ↦ nothing.no_writer_failure writer
-    | inr (inr many) ↦ search (rules, none_too_many)
+    | inr (inr impossible) ↦ impossible
   ]
 
   pub short_needs_no_memory : (script : List ℕ) → old.remaining ≡ Some script
       → HasShortCommands script
       → ConversationEnds answers has_error old new 3 → HasFailed old new script
-  short_needs_no_memory script remaining short ends = elim (cause ends) [
-    | inl reader ↦ inl reader
-    | inr (inl writer) ↦ inr (inl writer)
-    | inr (inr many) ↦ search (rules, short_or_long)
-  ]
+  short_needs_no_memory script remaining short ends =
+      cause (script_limit < length script) (λ read given many. search (rules, short_or_long)) ends

@@ -2,14 +2,13 @@
 use Rattle.std.proofs.Common.{rules}
 use Rattle.std.proofs.Common.{◌≡◌, ◌∙◌, ◌⊎◌, inl, inr, ℕ, ◌<◌, ◌≤◌, ◌+◌, ◌-◌, ◌*◌, ◌==◌, Bool, true}
 use Rattle.std.proofs.Common.{false, cond, length, List, [], ◌∷◌, ◌++◌, Option, Some}
-use Rattle.std.proofs.Common.{None, ap, subst, sym, refl, arith, take-append-drop, bytes_eq}
+use Rattle.std.proofs.Common.{None, ap, subst, sym, refl, arith, take-append-drop}
 use Rattle.std.specs.Prelude.{◌&&◌, codes, nat_lt}
 use Rattle.std.specs.List.{list_all}
 use Rattle.std.proofs.lemmas.Bool.{and_parts, lt-ltb}
 use borrow.Author.Tests.{ltb-true}
-use Rattle.tangle_script.specs.Requests.{Command, Request, after_word, file_request}
+use Rattle.tangle_script.specs.Requests.{Command, Request, after_word}
 use Rattle.tangle_script.specs.Requests.{number_and_file, numbered, request_of, request_with, row}
-use Rattle.tangle_script.specs.Requests.{text_request}
 use Rattle.tangle_script.specs.Requests.Request.{Insert, Replace, Remove}
 use Rattle.tangle_script.specs.Requests.Request.{BadCommand}
 use Rattle.tangle_script.specs.Table.{CommandAsks, AsksForItsRow, IsNumbered, IsRow, is_digit}
@@ -41,16 +40,14 @@ number_read : (count n : ℕ) (rest : List ℕ) (p : ℕ × List ℕ) → number
     → IsNumberRead count n rest p.0 p.1
 number_read count n [] p e = absurd (cc)
 number_read count n (b ∷ bs) p e =
-    by (is_digit b && nat_lt count 9) refl ((b == 32) && nat_lt 0 count) refl e
-    (number_read (count + 1) (n * 10 + (b - 48)) bs p)
+    by (is_digit b && nat_lt count 9) refl e (number_read (count + 1) (n * 10 + (b - 48)) bs p)
   where
-    by : (t : Bool) → (is_digit b && nat_lt count 9) ≡ t → (u : Bool)
-        → ((b == 32) && nat_lt 0 count) ≡ u
-        → cond t (number_and_file (count + 1) (n * 10 + (b - 48)) bs) (cond u (Some (n, bs)) None)
-        ≡ Some p
+    by : (t : Bool) → (is_digit b && nat_lt count 9) ≡ t
+        → cond t (number_and_file (count + 1) (n * 10 + (b - 48)) bs)
+        (cond ((b == 32) && nat_lt 0 count) (Some (n, bs)) None) ≡ Some p
         → (number_and_file (count + 1) (n * 10 + (b - 48)) bs ≡ Some p
         → IsNumberRead (count + 1) (n * 10 + (b - 48)) bs p.0 p.1) → IsNumberRead count n (b ∷ bs) p.0 p.1
-    by true is u are e h =
+    by true is e h =
         let k = h e in
         let digit = and_parts (is_digit b) (nat_lt count 9) is in
         record {
@@ -61,9 +58,7 @@ number_read count n (b ∷ bs) p e =
           value = k.value;
           whole = ap (λ l. b ∷ l) k.whole;
         }
-    by false is true are e h =
-        search rules
-    by false is false are e h = search rules
+    by false is e h = search rules
 
 -- a row is read as its request
 
@@ -91,57 +86,49 @@ module _ (c : Command) where
 abbrev IsRowOrBad : Command → Request → Type 0
 IsRowOrBad c r = IsRow c r ⊎ (r ≡ BadCommand)
 
-module _ (P : Request → Type 0) where
-  at_row : (word line : List ℕ) (request : List ℕ → Request) (other : Request)
-      → ((rest : List ℕ) → line ≡ word ++ rest → P (request rest)) → P other
-      → P (row (after_word word line) request other)
-  at_row word line request other h k = search (rules, take-append-drop)
+read_row : (word line rest : List ℕ) (n : ℕ) (file : List ℕ) → line ≡ word ++ rest
+    → IsNumberRead 0 0 rest n file → IsNumbered word n file line
+read_row word line rest n file e h = search rules
 
+module _ (P : Request → Type 0) where
   at_number : (request : ℕ → List ℕ → Request) (rest : List ℕ)
       → ((n : ℕ) (file : List ℕ) → IsNumberRead 0 0 rest n file → P (request n file)) → P BadCommand
       → P (numbered request (number_and_file 0 0 rest))
   at_number request rest h k = search (rules, number_read)
 
-  at_word : (line word : List ℕ) (this other : Request) → (line ≡ word → P this) → P other
-      → P (cond (bytes_eq line word) this other)
-  at_word line word this other h k = search rules
+  at_row : (word line : List ℕ) (request : List ℕ → Request) (other : Request)
+      → ((rest : List ℕ) → line ≡ word ++ rest → P (request rest)) → P other
+      → P (row (after_word word line) request other)
+  at_row word line request other h k = search (rules, take-append-drop)
 
-read_row : (word line rest : List ℕ) (n : ℕ) (file : List ℕ) → line ≡ word ++ rest
-    → IsNumberRead 0 0 rest n file → IsNumbered word n file line
-read_row word line rest n file e h = search rules
+  at_numbered : (word line : List ℕ) (request : ℕ → List ℕ → Request) (other : Request)
+      → ((n : ℕ) (file : List ℕ) → IsNumbered word n file line → P (request n file)) → P BadCommand → P other
+      → P (row (after_word word line) (λ rest. numbered request (number_and_file 0 0 rest)) other)
+  at_numbered word line request other h bad k = at_row word line _ other
+      (λ rest is. at_number request rest (λ n file read. h n file (read_row word line rest n file is read)) bad) k
+
+row_with : (line : List ℕ) (text : Option (List ℕ))
+    → IsRowOrBad (record { line = line; text = text }) (request_with line text)
+row_with line None =
+    at_numbered P (codes "remove ") line Remove _ (λ n file h. inl (h, refl)) (inr refl)
+    (at_row P (codes "create ") line _ _ (λ rest is. inl (is, refl))
+    (at_row P (codes "discard ") line _ _ (λ rest is. inl (is, refl))
+    (search rules)))
+  where
+    P : Request → Type 0
+    P r = IsRowOrBad (record { line = line; text = None }) r
+row_with line (Some text) =
+    at_numbered P (codes "insert ") line (λ at file. Insert at file text) _ (λ n file h. inl (h, refl)) (inr refl)
+    (at_numbered P (codes "replace ") line (λ at file. Replace at file text) _ (λ n file h. inl (h, refl)) (inr refl)
+    (inr refl))
+  where
+    P : Request → Type 0
+    P r = IsRowOrBad (record { line = line; text = Some text }) r
 
 module _ (c : Command) where
-  none_row : (line : List ℕ) → c.line ≡ line → c.text ≡ None → IsRowOrBad c (file_request line)
-  none_row line e t =
-      at_row P (codes "remove ") line _ _
-      (λ rest is. at_number P Remove rest
-      (λ n file h. inl (read_row (codes "remove ") c.line rest n file (e ∙ is) h, t))
-      (inr refl))
-      (at_row P (codes "create ") line _ _ (λ rest is. inl (e ∙ is, t))
-      (at_row P (codes "discard ") line _ _ (λ rest is. inl (e ∙ is, t))
-      (search rules)))
-    where
-      P : Request → Type 0
-      P r = IsRowOrBad c r
-
-  some_row : (line text : List ℕ) → c.line ≡ line → c.text ≡ Some text
-      → IsRowOrBad c (text_request line text)
-  some_row line text e t =
-      at_row P (codes "insert ") line _ _
-      (λ rest is. at_number P (λ at file. Insert at file text) rest
-      (λ n file h. inl (read_row (codes "insert ") c.line rest n file (e ∙ is) h, t))
-      (inr refl))
-      (at_row P (codes "replace ") line _ _
-      (λ rest is. at_number P (λ at file. Replace at file text) rest
-      (λ n file h. inl (read_row (codes "replace ") c.line rest n file (e ∙ is) h, t)) (inr refl))
-      (inr refl))
-    where
-      P : Request → Type 0
-      P r = IsRowOrBad c r
-
   row_or_bad : IsRowOrBad c (request_of c)
   unfolding request_of
-  row_or_bad = search (rules, none_row, some_row)
+  row_or_bad = row_with c.line c.text
 
   -- a command that is in a row is not bad
   row_asks : (r : Request) → IsRow c r → CommandAsks c r

@@ -79,9 +79,8 @@ at_quit = IsAtQuit (codes "work\nquit\nwork\n") (record { given = refl; within =
       last = command (codes "quit");
       later = command (codes "work") ∷ [];
       are = refl;
-      no_quit = refl;
       before = (at 1 (codes "ok\n") []).exchange;
-      is_answered = answered 0 [] (command (codes "work"));
+      goes_on = record { is_answered = answered 0 [] (command (codes "work")); no_quit = refl };
       at_last = (refl, answered 1 (codes "ok\n") (command (codes "quit")));
     })
     (true, refl, refl)

@@ -5,7 +5,7 @@ use Rattle.std.specs.Io.KnownBytes.{Consumes, IsAtEnd}
 use Rattle.tangle_streams.specs.Streams.{Failed}
 use Rattle.tangle_script.specs.Requests.{Request}
 use Rattle.tangle_script.specs.Commands.{all_commands, ended_commands, pending}
-use Rattle.tangle_script.specs.Script.{IsCut, IsQuit, AreAnswered, Conversation, Exchange, has_quit}
+use Rattle.tangle_script.specs.Script.{IsCut, IsQuit, AreAnswered, Conversation, GoesOn, has_quit}
 
 -- the most bytes that a script may have
 abbrev pub script_limit : ℕ
@@ -39,12 +39,6 @@ pub record AreRead {State : Type 0} (old new : Conversation State) (read : List 
   pub within : length read ≤ script_limit
   pub no_failure : new.reader_failures ≡ old.reader_failures
 
--- the commands that had ended in these bytes are answered, and none of them ends the run
-pub record EndedAreAnswered {State : Type 0} (answers : State → Request → List ℕ → State → Type 0)
-    (old new : Exchange State) (read : List ℕ) : Type 0 where
-  pub no_quit : has_quit (ended_commands read) ≡ false
-  pub is_answered : AreAnswered answers old new (ended_commands read)
-
 -- How a run ends, by the bytes that were read of the script.
 pub data ConversationEnds {State : Type 0} (answers : State → Request → List ℕ → State → Type 0)
     (has_error : State → Bool → Type 0) (old new : Conversation State) (status : ℕ) : Type 0 where
@@ -63,13 +57,13 @@ pub data ConversationEnds {State : Type 0} (answers : State → Request → List
   IsUnread : (read : List ℕ)
       → Consumes old.remaining new.remaining read → length read ≤ script_limit
       → Failed old.reader_failures new.reader_failures
-      → EndedAreAnswered answers old.exchange new.exchange read
+      → GoesOn answers old.exchange new.exchange (ended_commands read)
       → status ≡ 3 → ConversationEnds answers has_error old new status
   -- status 3: a byte came after the most bytes that a script may have, and the commands that had
   -- ended are answered
   IsTooLong : (read : List ℕ) (more : ℕ) → Consumes old.remaining new.remaining (read ++ more ∷ [])
       → length read ≡ script_limit → new.reader_failures ≡ old.reader_failures
-      → EndedAreAnswered answers old.exchange new.exchange read
+      → GoesOn answers old.exchange new.exchange (ended_commands read)
       → status ≡ 3 → ConversationEnds answers has_error old new status
   -- status 3: the writer failed in the answer to a command that had ended, or to the last one at
   -- the end of the script
@@ -80,5 +74,5 @@ pub data ConversationEnds {State : Type 0} (answers : State → Request → List
   -- had ended are answered
   IsOutOfMemory : (read : List ℕ) → AreRead old new read
       → short_command < length (pending read)
-      → EndedAreAnswered answers old.exchange new.exchange read
+      → GoesOn answers old.exchange new.exchange (ended_commands read)
       → status ≡ 3 → ConversationEnds answers has_error old new status

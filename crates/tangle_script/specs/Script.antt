@@ -39,15 +39,15 @@ has_quit commands = list_any (λ c. is_quit (request_of c)) commands
 -- A project defines which output answers a request, and which state follows.
 module _ {State : Type 0} (answers : State → Request → List ℕ → State → Type 0) where
   -- one answer: the project's own or, for an edit, that memory ran out, and then nothing changes
-  abbrev pub Replies : State → Request → List ℕ → State → Type 0
-  Replies s r output t =
+  abbrev pub IsAnswer : State → Request → List ℕ → State → Type 0
+  IsAnswer s r output t =
       answers s r output t ⊎ ((is_edit r ≡ true) × (output ≡ codes "no NoMemory\n") × (t ≡ s))
 
   -- the answers to a list of commands, one after another
   abbrev pub Dialogue : State → List Command → List ℕ → State → Type 0
   Dialogue s [] output t = (output ≡ []) × (t ≡ s)
   Dialogue s (c ∷ cs) output t =
-      (first rest : List ℕ) × (mid : State) × Replies s (request_of c) first mid
+      (first rest : List ℕ) × (mid : State) × IsAnswer s (request_of c) first mid
       × Dialogue mid cs rest t × (output ≡ first ++ rest)
 
   -- these commands were answered; the writer has exactly the answers and did not fail
@@ -56,6 +56,11 @@ module _ {State : Type 0} (answers : State → Request → List ℕ → State �
     pub answered : Dialogue old.state commands output new.state
     pub written : TakesAll old.stream new.stream output
 
+  -- they were answered, and none of them ends the run
+  pub record GoesOn (old new : Exchange State) (commands : List Command) : Type 0 where
+    pub is_answered : AreAnswered old new commands
+    pub no_quit : has_quit commands ≡ false
+
   -- a command that ends the run was answered
   abbrev pub IsQuitAnswered : Command → Exchange State → Exchange State → Type 0
   IsQuitAnswered c old new = (is_quit (request_of c) ≡ true) × AreAnswered old new (c ∷ [])
@@ -63,7 +68,7 @@ module _ {State : Type 0} (answers : State → Request → List ℕ → State �
   -- the writer failed in the answer to a command, and has a proper prefix of it
   abbrev pub IsAnswerCut : Command → Exchange State → Exchange State → Type 0
   IsAnswerCut c old new =
-      (answer : List ℕ) × Replies old.state (request_of c) answer new.state
+      (answer : List ℕ) × IsAnswer old.state (request_of c) answer new.state
       × TakesPrefix old.stream new.stream answer
 
   -- One of these commands is the last of the run, which ends there in this way. The commands before
@@ -74,9 +79,8 @@ module _ {State : Type 0} (answers : State → Request → List ℕ → State �
     pub last : Command
     pub later : List Command
     pub are : commands ≡ front ++ last ∷ later
-    pub no_quit : has_quit front ≡ false
     pub before : Exchange State
-    pub is_answered : AreAnswered old before front
+    pub goes_on : GoesOn old before front
     pub at_last : way last before new
 
   -- the writer failed; it has the answers to the first commands, and a prefix of the next answer

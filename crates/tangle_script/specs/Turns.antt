@@ -1,33 +1,14 @@
 -- A run while it goes on, and the reasons for which it ends.
-use Rattle.std.specs.Prelude.{◌≡◌, ℕ, Bool, true, false, List, [], ◌∷◌, length, Option, None, Some}
-use Rattle.std.specs.Prelude.{Result, Ok, Err}
-use Rattle.std.specs.Io.KnownBytes.{Consumes, IsAtEnd, Keeps}
-use Rattle.tangle_streams.specs.Streams.{one_more_failure}
+use Rattle.std.specs.Prelude.{◌≡◌, ℕ, Bool, List, length, Result, Ok, Err}
 use Rattle.tangle_script.specs.Requests.{Command, Request}
-use Rattle.tangle_script.specs.Commands.{pending}
-use Rattle.tangle_script.specs.Script.{IsCut, IsQuit, IsQuitAnswered, IsAnswerCut, HasLast}
-use Rattle.tangle_script.specs.Script.{AreAnswered, Conversation, Exchange, has_quit}
-use Rattle.tangle_script.specs.Endings.{AreRead, EndedAreAnswered, IsStatus, ConversationEnds}
+use Rattle.tangle_script.specs.Commands.{ended_commands, pending}
+use Rattle.tangle_script.specs.Script.{IsCut, IsQuitAnswered, IsAnswerCut, HasLast}
+use Rattle.tangle_script.specs.Script.{AreAnswered, Conversation, Exchange, GoesOn}
+use Rattle.tangle_script.specs.Endings.{AreRead, IsStatus, ConversationEnds}
 use Rattle.tangle_script.specs.declared.answering.End.{End}
 use Rattle.tangle_script.specs.declared.answering.End.TheVariants.{Done, Failed as IsFailed}
 
 module _ {State : Type 0} (answers : State → Request → List ℕ → State → Type 0) where
-  -- these commands were answered, and none of them ends the run
-  abbrev pub GoesOn : Exchange State → Exchange State → List Command → Type 0
-  GoesOn old new commands = AreAnswered answers old new commands × (has_quit commands ≡ false)
-
-  -- the commands of a line were answered; `quit` is whether one of them ends the run
-  abbrev pub AnswersLine : Bool → Exchange State → Exchange State → List Command → Type 0
-  AnswersLine true old new commands =
-      AreAnswered answers old new commands × IsQuit answers old new commands
-  AnswersLine false old new commands = GoesOn old new commands
-
-  -- the commands of a line were answered, or the writer failed
-  abbrev pub EndsLine : {E : Type 0} → Result Bool E → Exchange State → Exchange State
-      → List Command → Type 0
-  EndsLine (Ok quit) old new commands = AnswersLine quit old new commands
-  EndsLine (Err fault) old new commands = IsCut answers old new commands
-
   -- what happens at the last command of a run that ends for this reason before the script does
   abbrev pub ends_at : End → Command → Exchange State → Exchange State → Type 0
   ends_at Done = IsQuitAnswered answers
@@ -36,7 +17,7 @@ module _ {State : Type 0} (answers : State → Request → List ℕ → State �
   -- these commands were answered, and the run goes on; or it ended at one of them
   abbrev pub EndsPart : {T : Type 0} → Result T End → Exchange State → Exchange State
       → List Command → Type 0
-  EndsPart (Ok result) old new commands = GoesOn old new commands
+  EndsPart (Ok result) old new commands = GoesOn answers old new commands
   EndsPart (Err end) old new commands = HasLast answers (ends_at end) old new commands
 
   -- the commands at the end of a script were answered, or the writer failed
@@ -50,7 +31,7 @@ module _ {State : Type 0} (answers : State → Request → List ℕ → State �
     pub read : List ℕ
     pub are_read : AreRead old now read
     pub counted : length read ≡ count
-    pub answered : EndedAreAnswered answers old.exchange now.exchange read
+    pub goes_on : GoesOn answers old.exchange now.exchange (ended_commands read)
     pub buffered_is : buffered ≡ pending read
 
   -- how a run ends for this reason: where it is done, its status is that of its faults
@@ -60,13 +41,3 @@ module _ {State : Type 0} (answers : State → Request → List ℕ → State �
       (status : ℕ) → IsStatus has_error new.exchange.state status
       → ConversationEnds answers has_error old new status
   EndsBy has_error IsFailed old new = ConversationEnds answers has_error old new 3
-
--- whether the script has another byte; `None` where the reader failed
-abbrev pub Probes : Option (List ℕ) → Option (List ℕ) → Option Bool → Type 0
-Probes old new None = Keeps old new
-Probes old new (Some true) = Consumes old new [] × IsAtEnd new
-Probes old new (Some false) = (b : ℕ) × Consumes old new (b ∷ [])
-
-abbrev pub counted_probe : ℕ → Option Bool → ℕ
-counted_probe failures None = one_more_failure failures
-counted_probe failures (Some end) = failures

@@ -4,10 +4,10 @@ ghost use Rattle.std.specs.Option.{option_copied};
 ghost use Rattle.tangle_script.specs.Commands.{OnlyWaits, all_commands, ended_commands};
 ghost use Rattle.tangle_script.specs.Commands.{found_commands, is_no_command, pending};
 ghost use Rattle.tangle_script.specs.Script.{exchange};
-ghost use Rattle.tangle_script.specs.Turns.{EndsLine, EndsPart, EndsScript};
+ghost use Rattle.tangle_script.specs.Turns.{EndsPart, EndsScript};
 
 use crate::commands::{first_command, last_command};
-use crate::project::{Project, SinkFailed};
+use crate::project::Project;
 use crate::request::parse;
 use std::alloc::Global;
 use tangle_streams::Sink;
@@ -30,7 +30,7 @@ fn is_no_command(line: &[u8], text: Option<&[u8]>) -> bool
     }
 }
 
-// Answers a line with its text. Returns whether the run ends after it. An empty line is no command.
+// Answers a line with its text. `Err` says that the run ends at it. An empty line is no command.
 fn answer_line<P: Project, S: Sink>(
     alloc: Global,
     session: &mut P::Session,
@@ -38,19 +38,20 @@ fn answer_line<P: Project, S: Sink>(
     line: &[u8],
     text: Option<&[u8]>,
     sink: &mut S,
-) -> Result<bool, SinkFailed>
-    ensures { EndsLine P.answers result
+) -> Result<(), End>
+    ensures { EndsPart P.answers result
         (exchange (P.state session.old draft.old) (S.stream sink.old))
         (exchange (P.state session.new draft.new) (S.stream sink.new))
         (found_commands line.now (option_copied text.entry)) }
 {
     if is_no_command(line, text) {
-        return Ok(false);
+        return Ok(());
     }
     let request = parse(line, text);
     match P::answer(alloc, session, draft, &request, sink) {
-        Ok(_) => Ok(request.is_quit()),
-        Err(fault) => Err(fault),
+        Ok(_) if request.is_quit() => Err(End::Done),
+        Ok(_) => Ok(()),
+        Err(_) => Err(End::Failed),
     }
 }
 
@@ -76,11 +77,7 @@ pub fn answer_all<P: Project, S: Sink>(
 {
     let mut rest = bytes;
     while let Some(found) = first_command(rest) {
-        match answer_line::<P, S>(alloc, session, draft, found.line, found.text, sink) {
-            Err(_) => return Err(End::Failed),
-            Ok(true) => return Err(End::Done),
-            Ok(false) => {}
-        }
+        answer_line::<P, S>(alloc, session, draft, found.line, found.text, sink)?;
         rest = found.rest;
     }
     Ok(bytes.len() - rest.len())
@@ -105,6 +102,6 @@ pub fn answer_last<P: Project, S: Sink>(
     let (line, text) = last_command(bytes);
     match answer_line::<P, S>(alloc, session, draft, line, text, sink) {
         Ok(_) => End::Done,
-        Err(_) => End::Failed,
+        Err(end) => end,
     }
 }

@@ -3,7 +3,8 @@ ghost use Rattle.std.specs.Prelude.{◌≡◌, ◌<◌, ℕ, List, [], ◌∷◌
 ghost use Rattle.std.specs.Prelude.{IfNone};
 ghost use Rattle.std.specs.Option.{option_copied};
 ghost use Rattle.tangle_script.specs.Commands.{OnlyWaits, all_commands, ended};
-ghost use Rattle.tangle_script.specs.Commands.{ended_commands, found_commands, pending, unended};
+ghost use Rattle.tangle_script.specs.Commands.{ended_commands, found_commands, last_text, pending};
+ghost use Rattle.tangle_script.specs.Commands.{unended};
 
 use crate::request::takes_text;
 use memchr::memchr;
@@ -65,6 +66,16 @@ pub fn first_command(bytes: &[u8]) -> Option<Found<'_>>
     })
 }
 
+// The text at the end of a script, if there is one.
+fn last_text(bytes: &[u8]) -> Option<&[u8]>
+    ensures { option_copied result ≡ last_text bytes.now }
+{
+    match bytes {
+        [] => None,
+        _ => Some(bytes),
+    }
+}
+
 /// The command at the end of a script: a line without a line feed, or one whose text is missing or
 /// has no line feed.
 pub fn last_command(bytes: &[u8]) -> (&[u8], Option<&[u8]>)
@@ -73,12 +84,6 @@ pub fn last_command(bytes: &[u8]) -> (&[u8], Option<&[u8]>)
 {
     match split_line(bytes) {
         None => (bytes, None),
-        Some((line, text)) => {
-            if text.is_empty() {
-                (line, None)
-            } else {
-                (line, Some(text))
-            }
-        }
+        Some((line, text)) => (line, last_text(text)),
     }
 }

@@ -1,7 +1,7 @@
 //! The project that answers a script.
 ghost use Rattle.std.specs.Prelude.{ℕ, List, Bool};
 ghost use Rattle.tangle_script.specs.Requests.{Request, request_read};
-ghost use Rattle.tangle_script.specs.Script.{Replies, WritesAnswer};
+ghost use Rattle.tangle_script.specs.Script.{IsAnswer, WritesAnswer};
 
 use crate::request::Request;
 use std::alloc::Global;
@@ -46,7 +46,7 @@ pub trait Project {
         sink: &mut S,
     ) -> Result<(), SinkFailed>
         ensures { (output : List ℕ)
-            × Replies answers (state session.old draft.old) (request_read request.now) output
+            × IsAnswer answers (state session.old draft.old) (request_read request.now) output
             (state session.new draft.new)
             × WritesAnswer (S.stream sink.old) (S.stream sink.new) output result };
 

@@ -96,30 +96,24 @@ fn word_request<'a>(line: &'a [u8]) -> Request<'a>
     ensures { request_read result ≡ word_request line.now }
 {
     if line == b"marks full".as_slice() {
-        return Request::MarksFull;
+        Request::MarksFull
+    } else if line == b"marks none".as_slice() {
+        Request::MarksNone
+    } else if line == b"begin".as_slice() {
+        Request::Begin
+    } else if line == b"commit".as_slice() {
+        Request::Commit
+    } else if line == b"cancel".as_slice() {
+        Request::Cancel
+    } else if line == b"faults".as_slice() {
+        Request::Faults
+    } else if line == b"work".as_slice() {
+        Request::Work
+    } else if line == b"quit".as_slice() {
+        Request::Quit
+    } else {
+        Request::BadCommand
     }
-    if line == b"marks none".as_slice() {
-        return Request::MarksNone;
-    }
-    if line == b"begin".as_slice() {
-        return Request::Begin;
-    }
-    if line == b"commit".as_slice() {
-        return Request::Commit;
-    }
-    if line == b"cancel".as_slice() {
-        return Request::Cancel;
-    }
-    if line == b"faults".as_slice() {
-        return Request::Faults;
-    }
-    if line == b"work".as_slice() {
-        return Request::Work;
-    }
-    if line == b"quit".as_slice() {
-        return Request::Quit;
-    }
-    Request::BadCommand
 }
 
 // The request of a line without a text, which may name a file.

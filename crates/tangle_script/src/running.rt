@@ -6,7 +6,7 @@ ghost use Rattle.tangle_script.specs.Script.{exchange, conversation};
 ghost use Rattle.tangle_script.specs.Endings.{IsStatus, ConversationEnds};
 ghost use Rattle.tangle_script.specs.NothingRead.{Status3NeedsFailure};
 ghost use Rattle.tangle_script.specs.Short.{ShortNeedsNoMemory};
-ghost use Rattle.tangle_script.specs.Turns.{EndsPart, EndsBy, Probes, counted_probe};
+ghost use Rattle.tangle_script.specs.Turns.{EndsPart, EndsBy};
 
 use crate::answering::{End, answer_all, answer_last};
 use crate::buffer::{Buffer, CHUNK};
@@ -45,16 +45,6 @@ fn answer_chunk<P: Project, S: Sink>(
     Ok(())
 }
 
-// Whether the script ends at the limit of its length; `None` where the reader failed.
-fn ends_here<R: Feed>(feed: &mut R) -> Option<bool>
-    ensures read { Probes (R.remaining feed.old) (R.remaining feed.new) result }
-    ensures failed { R.failures feed.new ≡ counted_probe (R.failures feed.old) result }
-{
-    let mut one = [0u8; 1];
-    let count = feed.fill(&mut one)?;
-    Some(count == 0)
-}
-
 // Reads the script to its end, and answers the commands that have ended after each chunk.
 fn read_script<P: Project, R: Feed, S: Sink>(
     alloc: Global,
@@ -71,28 +61,28 @@ fn read_script<P: Project, R: Feed, S: Sink>(
 {
     let mut buffer = Buffer::new(alloc);
     let mut count = 0;
-    while count < SCRIPT_LIMIT {
+    while count <= SCRIPT_LIMIT {
         if let Err(_) = buffer.make_space() {
             return End::Failed;
         }
         let searched = buffer.as_slice().len();
-        let given = match buffer.read(feed, CHUNK.min(SCRIPT_LIMIT - count)) {
+        // At the limit, one byte shows that the script is longer.
+        let given = match buffer.read(feed, CHUNK.min(SCRIPT_LIMIT - count).max(1)) {
             Some(given) => given,
             None => return End::Failed,
         };
         if given == 0 {
             return answer_last::<P, S>(alloc, session, draft, buffer.as_slice(), sink);
         }
+        if count == SCRIPT_LIMIT {
+            return End::Failed;
+        }
         if let Err(end) = answer_chunk::<P, S>(alloc, session, draft, &mut buffer, searched, sink) {
             return end;
         }
         count += given;
     }
-    match ends_here(feed) {
-        Some(true) => answer_last::<P, S>(alloc, session, draft, buffer.as_slice(), sink),
-        Some(false) => End::Failed,
-        None => End::Failed,
-    }
+    End::Failed
 }
 
 fn status_at_end<P: Project>(session: &P::Session) -> u8

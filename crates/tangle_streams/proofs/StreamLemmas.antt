@@ -1,39 +1,27 @@
 -- Consecutive writes append their bytes one after the other.
+use Rattle.std.proofs.lemmas.Bool.Decides.{nat_tests}
 use Rattle.std.proofs.Common.{rules}
-use Rattle.std.proofs.Common.{◌≡◌, ℕ, ◌+◌, ◌-◌, ◌^◌, ◌<◌, ◌≤◌, inl, inr, Bool, true, false, cond, List, [], ◌++◌}
-use Rattle.std.proofs.Common.{length, take, drop, refl, sym, ap, ◌∙◌, append_assoc, append-nil, Option, None, Some, Ok}
+use Rattle.std.proofs.Common.{◌≡◌, ℕ, ◌+◌, ◌-◌, ◌^◌, ◌<◌, ◌≤◌, inl, inr, List, [], ◌++◌}
+use Rattle.std.proofs.Common.{length, take, drop, refl, sym, ap, ◌∙◌, append_assoc, append-nil, Option, Some, Ok}
 use Rattle.std.proofs.Common.{Err, arith, length-append}
 use Rattle.std.proofs.lemmas.List.{take-append-drop, length-take-le}
 use Rattle.std.proofs.Math.Seq.{take-append_seam}
-use Rattle.std.proofs.lemmas.Bool.{ne_eqb, lt-ltb}
-use borrow.Author.Tests.{ltb-true, ltb-false}
-use Rattle.std.specs.Prelude.{nat_lt, ◌==◌, ◌&&◌}
+use Rattle.std.proofs.lemmas.Bool.{cases_lt, lt-ltb}
 use Rattle.std.specs.Io.KnownBytes.{Appends, Keeps}
 use Rattle.tangle_streams.specs.Streams.{Stream, Failed, IsWritten, one_more_failure, Takes, counted_write}
 
 pub Appends-none : (a : Option (List ℕ)) → Appends a a []
-Appends-none None = tt
-Appends-none (Some xs) = simp append-nil
+Appends-none a = search (rules, append-nil)
 
 pub Appends-append : (a b c : Option (List ℕ)) (xs ys : List ℕ)
     → Appends a b xs → Appends b c ys → Appends a c (xs ++ ys)
-Appends-append None b c xs ys h k = tt
-Appends-append (Some zs) None c xs ys h k = absurd h
-Appends-append (Some zs) (Some bs) None xs ys h k = absurd k
-Appends-append (Some zs) (Some bs) (Some cs) xs ys h k = k ∙ ap (λ l. l ++ ys) h ∙ append_assoc zs xs ys
+Appends-append a b c xs ys h k = search (rules, append_assoc)
 
 pub Appends-kept : (a b c : Option (List ℕ)) (xs : List ℕ) → Appends a b xs → Keeps b c → Appends a c xs
-Appends-kept None b c xs h k = tt
-Appends-kept (Some zs) None c xs h k = absurd h
-Appends-kept (Some zs) (Some bs) None xs h k = absurd k
-Appends-kept (Some zs) (Some bs) (Some cs) xs h k = k ∙ h
+Appends-kept a b c xs h k = search rules
 
 pub Failed-one_more : (n : ℕ) → Failed n (one_more_failure n)
-Failed-one_more n = by (nat_lt n (2 ^ 64 - 1)) refl
-  where
-    by : (t : Bool) → nat_lt n (2 ^ 64 - 1) ≡ t → Failed n (one_more_failure n)
-    by true e = let h : n < 2 ^ 64 - 1 = omega (arith, ltb-true n (2 ^ 64 - 1) e) in inl (omega arith)
-    by false e = let h : 2 ^ 64 - 1 ≤ n = omega (arith, ltb-false n (2 ^ 64 - 1) e) in inr (omega arith)
+Failed-one_more n = elim (cases_lt n (2 ^ 64 - 1)) [ inl less ↦ inl (omega arith) | inr most ↦ inr (omega arith) ]
 
 -- the state of the loop in `write_after`: the output and `front` are written, `rest` is not
 pub record IsHalfway (old new : Stream) (count : ℕ) (output bytes rest : List ℕ) : Type 0 where
@@ -48,9 +36,7 @@ pub halfway_at_first : (a b : Stream) (n : ℕ) (output bytes : List ℕ)
 halfway_at_first a b n output bytes h = search rules
 
 unfailed_at : {g g' : ℕ} (n : ℕ) (rest : List ℕ) → 0 < n → g' ≡ counted_write g rest (Some n) → g' ≡ g
-unfailed_at {g} n rest some e =
-    let other : (n == 0) ≡ false = ne_eqb n 0 (λ e. absurd (omega arith)) in
-    e ∙ ap (λ t. cond (t && nat_lt 0 (length rest)) (one_more_failure g) g) other
+unfailed_at n rest some e = grind (arith, nat_tests)
 
 pub halfway_more : (a b c : Stream) (count n : ℕ) (output bytes rest : List ℕ)
     → IsHalfway a b count output bytes rest → 0 < n → n ≤ length rest → Takes b.taken c.taken rest (Some n)

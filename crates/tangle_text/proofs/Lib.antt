@@ -1,12 +1,13 @@
 pub mod AheadLemmas
 pub mod ChunkLemmas
 pub mod ClassLemmas
+pub mod ItemLemmas
 pub mod OrdinaryBytes
+pub mod PartLemmas
+pub mod QuoteLemmas
 pub mod RegionLemmas
-pub mod RunChunks
 pub mod RunLemmas
 pub mod RunPartLemmas
-pub mod SeparatorLemmas
 pub mod TakenLemmas
 pub mod UnitLemmas
 pub mod WordLemmas

@@ -1,23 +1,15 @@
--- Runs: how many cells they have, and their words, signs and spaces.
-use Rattle.std.proofs.Common.{rules}
+-- Runs: how many bytes and cells they have.
 use Rattle.std.proofs.lemmas.Bool.Decides.{nat_tests}
-use Rattle.std.proofs.Common.{◌≡◌, ℕ, ◌+◌, ◌<◌, ◌≤◌, zero, suc, Bool, true, false, List, [], ◌∷◌, ◌++◌}
-use Rattle.std.proofs.Common.{Option, cond, length, take, drop, get_or, slice_get, refl, ap, ◌∙◌, arith, drop-cons, drop-drop}
-use Rattle.std.specs.List.{prefix_len}
-use Rattle.std.proofs.Math.Numerals.{one-add}
-use Rattle.std.proofs.lemmas.Bool.{cases_Bool, ne_eqb}
-use Rattle.std.proofs.lemmas.List.{at_drop_more}
-use Rattle.std.proofs.Common.{inl, inr}
-use Rattle.std.proofs.lemmas.List.Sums.{prefix_len-le-length}
-use Rattle.tangle_lines.specs.Reading.{SourceLine}
-use Rattle.tangle_text.proofs.RunChunks.{alone-chunk}
+use Rattle.std.proofs.Common.{◌≡◌, ℕ, ◌+◌, ◌<◌, ◌≤◌, zero, suc, Bool, false, List, [], ◌∷◌, ◌++◌}
+use Rattle.std.proofs.Common.{Option, Some, None, ◌||◌, ◌&&◌, ◌==◌, not, true, sym, if◌then◌else◌, cond, length, drop, get_or, slice_get, refl, ap, ◌∙◌, arith}
+use Rattle.std.proofs.lemmas.List.{at_drop_more, get_or_past}
+use mir.Val.{bool_byte}
 use Rattle.tangle_files.specs.Bytes.{space}
-use Rattle.tangle_text.specs.Bytes.{is_word_byte}
-use Rattle.tangle_text.specs.declared.runs.RunPart.TheVariants as part
+use Rattle.tangle_lines.specs.Reading.{SourceLine}
 use Rattle.tangle_text.specs.Text.{Cell, line_text, line_bytes}
 use Rattle.tangle_text.specs.Ahead.{rest_of}
-use Rattle.tangle_text.specs.Runs.{is_in_run, passing, run_count, run_size}
-use Rattle.tangle_text.specs.Runs.{with_front_byte, chunks, parts_of}
+use Rattle.tangle_text.specs.Runs.{passing, run_count, run_size, part_more, goes_over, is_plain, begins_single}
+use Rattle.tangle_text.specs.Bytes.{holds, asterisk, slash}
 
 line_bytes-line : (line column : ℕ) (bs : List ℕ) (rest : List Cell)
     → line_bytes (line_text line column bs ++ rest) ≡ bs
@@ -25,69 +17,55 @@ line_bytes-line line column [] rest = refl
 line_bytes-line line column (b ∷ bs) rest = ap (λ l. b ∷ l) (line_bytes-line line (column + 1) bs rest)
 
 pub run_count-line : (line column : ℕ) (bs : List ℕ) (rest : List Cell)
-    → run_count (line_text line column bs ++ rest) ≡ run_size bs
-run_count-line line column bs rest = ap run_size (line_bytes-line line column bs rest)
+    → run_count (line_text line column bs ++ rest) ≡ run_size 0 bs
+run_count-line line column bs rest = ap (run_size 0) (line_bytes-line line column bs rest)
 
 pub run_count-rest : (lines : List SourceLine) (bytes : List ℕ) (line column : ℕ)
-    → run_count (rest_of lines bytes line column false) ≡ run_size (drop column bytes)
+    → run_count (rest_of lines bytes line column false) ≡ run_size 0 (drop column bytes)
 run_count-rest lines bytes line column = grind (arith, nat_tests, run_count-line)
 
 fits-by : (t : Bool) (n m : ℕ) → n ≤ m → cond t (1 + n) 0 ≤ suc m
 fits-by x n m h = grind arith
 
-pub run_size-fits : (bs : List ℕ) → run_size bs ≤ length bs
-run_size-fits [] = omega arith
-run_size-fits (b ∷ bs) = fits-by (is_in_run b bs) (run_size bs) (length bs) (run_size-fits bs)
+pub run_size-fits : (k : ℕ) (bs : List ℕ) → run_size k bs ≤ length bs
+run_size-fits k [] = omega arith
+run_size-fits (suc k) (b ∷ bs) = omega (arith, run_size-fits k bs)
+run_size-fits zero (b ∷ bs) =
+    fits-by (goes_over b bs) _ (length bs) (run_size-fits (part_more b bs) bs)
 
--- the bytes that a run may go over: it may go over the byte at a column, or ends there
+pub get_drop : (bytes : List ℕ) (column : ℕ) → slice_get (drop column bytes) 0 ≡ slice_get bytes column
+get_drop bytes zero = refl
+get_drop [] (suc column) = refl
+get_drop (b ∷ bs) (suc column) = get_drop bs column
 
-pub get-drop : (bytes : List ℕ) (column : ℕ) → slice_get (drop column bytes) 0 ≡ slice_get bytes column
-get-drop bytes zero = refl
-get-drop [] (suc column) = refl
-get-drop (b ∷ bs) (suc column) = get-drop bs column
-
-pub get-drop-next : (bytes : List ℕ) (column : ℕ) → slice_get (drop column bytes) 1 ≡ slice_get bytes (column + 1)
-get-drop-next bytes zero = refl
-get-drop-next [] (suc column) = refl
-get-drop-next (b ∷ bs) (suc column) =
-    let next : suc (column + 1) ≡ suc column + 1 = omega arith in
-    get-drop-next bs column ∙ ap (slice_get (b ∷ bs)) next
-
-pub passing_step : (test : ℕ → Option ℕ → Bool) (bytes : List ℕ) (column : ℕ) → column < length bytes
+-- a run of bytes that pass a test goes over the byte at a column, or ends there
+pub passing_step : (test : ℕ → List ℕ → Bool) (bytes : List ℕ) (column : ℕ) → column < length bytes
     → passing test (drop column bytes)
-    ≡ cond (test (get_or bytes column 0) (slice_get bytes (column + 1))) (1 + passing test (drop (column + 1) bytes)) 0
-passing_step test bytes column h =
-    at_drop_more (passing test) bytes column 0 h ∙ rw (get-drop bytes (column + 1)) refl
+    ≡ cond (test (get_or bytes column 0) (drop (column + 1) bytes)) (1 + passing test (drop (column + 1) bytes)) 0
+passing_step test bytes column h = at_drop_more (passing test) bytes column 0 h
 
--- the word bytes at the front are a chunk
-pub chunks-word : (b : ℕ) (bs : List ℕ) → is_word_byte b ≡ true
-    → chunks (b ∷ bs) ≡ (b ∷ take (prefix_len is_word_byte bs) bs) ∷ chunks (drop (prefix_len is_word_byte bs) bs)
-chunks-word b [] h = refl
-chunks-word b (c ∷ cs) h =
-    elim (cases_Bool (is_word_byte c)) [
-      | inl e ↦ ap (with_front_byte b) (chunks-word c cs e) ∙ rw (h, e, one-add (prefix_len is_word_byte cs)) refl
-      | inr e ↦ search rules
-    ]
+-- a plain byte, or a slash that opens no comment, is at a column
 
--- the parts of a run at a column of a line, by the byte there
+abbrev pub single_by : Option ℕ → Option ℕ → Bool
+single_by None next = false
+single_by (Some b) next = is_plain b || b == slash && not (holds asterisk next || holds slash next)
 
-pub sign-next : (line column : ℕ) (bytes : List ℕ) → column < length bytes
-    → (get_or bytes column 0 ≡ space → ⊥) → is_word_byte (get_or bytes column 0) ≡ false
-    → parts_of line column (chunks (drop column bytes))
-    ≡ part.Sign (record { line = line; start = column; end = column + 1 })
-    ∷ parts_of line (column + 1) (chunks (drop (column + 1) bytes))
-sign-next line column bytes h differs none = grind (arith, nat_tests, drop-cons, alone-chunk)
+pub single_at : (bytes : List ℕ) (column : ℕ)
+    → begins_single (drop column bytes) ≡ single_by (slice_get bytes column) (slice_get bytes (column + 1))
+single_at [] zero = refl
+single_at [] (suc column) = refl
+single_at (b ∷ bs) zero = refl
+single_at (b ∷ bs) (suc column) =
+    let next : suc (column + 1) ≡ suc column + 1 = omega arith in
+    single_at bs column ∙ ap (λ n. single_by (slice_get bs column) (slice_get (b ∷ bs) n)) next
 
-pub word-next : (line column : ℕ) (bytes : List ℕ) → column < length bytes
-    → (get_or bytes column 0 ≡ space → ⊥) → is_word_byte (get_or bytes column 0) ≡ true
-    → (end : ℕ) → end ≡ column + 1 + prefix_len is_word_byte (drop (column + 1) bytes)
-    → parts_of line column (chunks (drop column bytes))
-    ≡ part.Word (record { line = line; start = column; end = end }) ∷ parts_of line end (chunks (drop end bytes))
-word-next line column bytes h differs is end e =
-    let other = ne_eqb (get_or bytes column 0) space differs in
-    let b = get_or bytes column 0 in
-    let bs = drop (suc column) bytes in
-    let n = prefix_len is_word_byte bs in
-    let chunk = b ∷ take n bs in
-    let next : column + 1 ≡ suc column = omega arith in
-    search (rules, prefix_len-le-length, drop-drop, drop-cons, chunks-word)
+-- a space is at a column
+pub blank_at : (bytes : List ℕ) (column : ℕ)
+    → bool_byte (holds space (slice_get bytes column)) ≡ (if get_or bytes column 0 == space then 1 else 0)
+blank_at [] column = ap (λ b. if b == space then 1 else 0) (sym (get_or_past {X = ℕ} [] column 0 (omega arith)))
+blank_at (b ∷ bs) zero = by (b == space)
+  where
+    by : (t : Bool) → bool_byte t ≡ (if t then 1 else 0)
+    by true = refl
+    by false = refl
+blank_at (b ∷ bs) (suc column) = blank_at bs column

@@ -36,7 +36,7 @@ takes r text n end is some ends fits =
 
 pub run_count-taken : (r : Inside) (text : List Cell)
     → rest_of r.source.now.lines r.bytes.now r.line r.column r.is_done ≡ text → IsSome (byte_at 0 text)
-    → run_count text ≡ run_size (drop r.column r.bytes.now)
+    → run_count text ≡ run_size 0 (drop r.column r.bytes.now)
 run_count-taken r text is some =
     rw (← is, (at-byte r text is some).done) (run_count-rest r.source.now.lines r.bytes.now r.line r.column)
 

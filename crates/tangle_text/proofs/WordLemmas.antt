@@ -13,7 +13,7 @@ use Rattle.tangle_text.specs.declared.regions.Unit.{Unit as Unit-of}
 use Rattle.tangle_text.specs.declared.reader.Reader.TheInside.{Inside}
 use Rattle.tangle_text.specs.Bytes.{is_digit, is_word_byte}
 use Rattle.tangle_text.specs.Text.{Cell, line_text, text_from, byte_at}
-use Rattle.tangle_text.specs.Runs.{is_before_separator, is_number_byte, passing}
+use Rattle.tangle_text.specs.Runs.{is_before_quote, is_number_byte, passing}
 use Rattle.tangle_text.specs.Regions.{is_separator, unit_by, more_by, count_before}
 use Rattle.tangle_text.specs.Words.{word_more}
 use Rattle.tangle_text.specs.Ahead.{rest_of}
@@ -68,20 +68,18 @@ word_more-line line column b bs rest =
           ∙ counted-run region.Word is_word_byte word-run line (column + 1) bs rest)
     ]
 
--- before no separator, a number is its word bytes
-number_size-word : (bs : List ℕ) → is_before_separator bs ≡ false → number_size bs ≡ prefix_len is_word_byte bs
+-- before no quoted text, a number is its word bytes
+number_size-word : (bs : List ℕ) → is_before_quote bs ≡ false → number_size bs ≡ prefix_len is_word_byte bs
 number_size-word [] h = refl
 number_size-word (b ∷ bs) h = grind (arith, nat_tests, number_size-word bs)
 
--- a word before no separator is its word bytes
-pub word_more-plain : (line column b : ℕ) (bs : List ℕ) (rest : List Cell) → is_before_separator bs ≡ false
-    → word_more (line_text line column (b ∷ bs) ++ rest) ≡ count_before region.Word (line_text line (column + 1) bs ++ rest)
+-- a word before no quoted text is its word bytes
+pub word_more-plain : (line column b : ℕ) (bs : List ℕ) (rest : List Cell) → is_before_quote bs ≡ false
+    → word_more (line_text line column (b ∷ bs) ++ rest) ≡ prefix_len is_word_byte bs
 word_more-plain line column b bs rest h =
     word_more-line line column b bs rest
-    ∙ (cond_both (is_digit b) (number_size bs) _ (λ n. n ≡ prefix_len is_word_byte bs)
+    ∙ cond_both (is_digit b) (number_size bs) _ (λ n. n ≡ prefix_len is_word_byte bs)
     (λ e. number_size-word bs h) (λ e. refl)
-    ∙ sym (count-is region.Word (line_text line (column + 1) bs ++ rest)
-    ∙ counted-run region.Word is_word_byte word-run line (column + 1) bs rest))
 
 -- the word at a column of a line
 module _ (bytes : List ℕ) (column : ℕ) (inside : column < length bytes) where

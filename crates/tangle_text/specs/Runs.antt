@@ -1,6 +1,7 @@
--- Runs: ranges of a line that consist of words, signs and single spaces.
-use Rattle.std.specs.Prelude.{ℕ, ◌+◌, Bool, true, false, ◌==◌, ◌&&◌, ◌||◌, not}
-use Rattle.std.specs.Prelude.{if◌then◌else◌, List, [], ◌∷◌, length, slice_get, Option, None, Some}
+-- Runs: ranges of a line that consist of words, signs, quoted texts and single spaces.
+use Rattle.std.specs.Prelude.{ℕ, zero, suc, ◌+◌, Bool, true, false, ◌==◌, ◌&&◌, ◌||◌, not}
+use Rattle.std.specs.Prelude.{if◌then◌else◌, List, [], ◌∷◌, slice_get, Option, None, Some}
+use Rattle.std.specs.List.{prefix_len}
 use Rattle.tangle_files.specs.Bytes.{space}
 use Rattle.tangle_lines.specs.Bytes.{at_sign, double_quote, is_white}
 use Rattle.tangle_text.specs.Bytes.{apostrophe, asterisk, slash, backslash, holds, is_word_byte}
@@ -21,89 +22,119 @@ abbrev pub holds_plain : Option ℕ → Bool
 holds_plain None = false
 holds_plain (Some b) = is_plain b
 
--- A run may go over a plain byte, over a space before a plain byte, and over a slash that opens no
--- comment. `next` is the byte after `b`.
-abbrev pub is_run_byte : ℕ → Option ℕ → Bool
-is_run_byte b next =
-    is_plain b || b == space && holds_plain next
-    || b == slash && not (holds asterisk next || holds slash next)
+-- a plain byte, or a slash that opens no comment
+abbrev pub is_single : ℕ → List ℕ → Bool
+is_single b bs =
+    is_plain b || b == slash && not (holds asterisk (slice_get bs 0) || holds slash (slice_get bs 0))
 
--- the number of bytes at the front that pass a test of a byte and the one after it
-abbrev pub passing : (ℕ → Option ℕ → Bool) → List ℕ → ℕ
+abbrev pub begins_single : List ℕ → Bool
+begins_single [] = false
+begins_single (b ∷ bs) = is_single b bs
+
+-- a run may go over such a byte, and over a space before one
+abbrev pub is_run_byte : ℕ → List ℕ → Bool
+is_run_byte b bs = is_single b bs || b == space && begins_single bs
+
+-- the number of bytes at the front that pass a test of a byte and those after it
+abbrev pub passing : (ℕ → List ℕ → Bool) → List ℕ → ℕ
 passing test [] = 0
-passing test (b ∷ bs) = if test b (slice_get bs 0) then 1 + passing test bs else 0
-
--- the number of bytes at the front of the rest of a line that a run may go over
-abbrev pub longest_run : List ℕ → ℕ
-longest_run bs = passing is_run_byte bs
+passing test (b ∷ bs) = if test b bs then 1 + passing test bs else 0
 
 -- a number goes over word bytes, and over an apostrophe before one
-abbrev pub is_number_byte : ℕ → Option ℕ → Bool
-is_number_byte b next = is_word_byte b || is_separator (Some b) next
+abbrev pub is_number_byte : ℕ → List ℕ → Bool
+is_number_byte b bs = is_word_byte b || is_separator (Some b) (slice_get bs 0)
 
--- Word bytes, as many as there are, are directly before an apostrophe and a word byte, which may
--- belong to their word.
-abbrev pub is_before_separator : List ℕ → Bool
-is_before_separator [] = false
-is_before_separator (b ∷ bs) =
-    if is_word_byte b then is_before_separator bs else is_separator (Some b) (slice_get bs 0)
+-- parts
 
--- A run goes over the first of these bytes: it ends before a word that may go on after an
--- apostrophe, and before a space in front of such a word.
-abbrev pub is_in_run : ℕ → List ℕ → Bool
-is_in_run b bs =
-    is_run_byte b (slice_get bs 0)
-    && not (is_before_separator (b ∷ bs) || b == space && is_before_separator bs)
+-- a byte that begins and ends a quoted text
+abbrev pub is_quote : ℕ → Bool
+is_quote b = b == double_quote || b == apostrophe
 
--- the number of bytes of the run at the front of the rest of a line
-abbrev pub run_size : List ℕ → ℕ
-run_size [] = 0
-run_size (b ∷ bs) = if is_in_run b bs then 1 + run_size bs else 0
+-- word bytes, as many as there are, are directly before a quoted text
+abbrev pub is_before_quote : List ℕ → Bool
+is_before_quote [] = false
+is_before_quote (b ∷ bs) = if is_word_byte b then is_before_quote bs else is_quote b
+
+-- one more, unless there are none
+abbrev pub one_more : ℕ → ℕ
+one_more zero = 0
+one_more (suc n) = suc (suc n)
+
+-- The number of bytes up to and with the one that closes a quoted text; none if it is not closed on
+-- its line, or if an `@` is before that byte. `escaped` is whether a backslash takes the first byte
+-- with it.
+abbrev pub quote_size : ℕ → Bool → List ℕ → ℕ
+quote_size close escaped [] = 0
+quote_size close escaped (b ∷ bs) =
+    if b == at_sign then 0 else
+    if b == close && not escaped then 1
+    else one_more (quote_size close (b == backslash && not escaped) bs)
+
+-- the number of bytes that a part has after its first byte
+abbrev pub part_more : ℕ → List ℕ → ℕ
+part_more b bs =
+    if is_word_byte b then prefix_len is_word_byte bs else
+    if is_quote b then quote_size b false bs else 0
+
+-- the part of this size that begins with this byte at this column of a line
+abbrev pub part_at : ℕ → ℕ → ℕ → ℕ → RunPart
+part_at line column size b =
+    let s : Span = record { line = line; start = column; end = column + size } in
+    if b == space then part.Space else
+    if is_word_byte b then part.Word s else if is_quote b then part.Quoted s else part.Sign s
+
+-- the parts of bytes from this column of a line on, each where the one before it ends; `k` bytes at
+-- the front belong to an earlier part
+abbrev pub parts_of : ℕ → ℕ → ℕ → List ℕ → List RunPart
+parts_of line column k [] = []
+parts_of line column (suc k) (b ∷ bs) = parts_of line (column + 1) k bs
+parts_of line column zero (b ∷ bs) =
+    part_at line column (1 + part_more b bs) b ∷ parts_of line (column + 1) (part_more b bs) bs
+
+-- the words, signs, quoted texts and spaces of a run
+unfoldable pub run_parts : List (List ℕ) → Span → List RunPart
+run_parts texts s = parts_of s.line s.start 0 (span_text texts s)
+
+-- Whether each space has another part directly before and after it, and each quoted text one that is
+-- no word directly before it. `after_space` is whether a space, or nothing, is before these parts,
+-- and `after_word` whether a word, or nothing, is.
+abbrev pub are_apart : Bool → Bool → List RunPart → Bool
+are_apart after_space after_word [] = not after_space
+are_apart after_space after_word (part.Space ∷ parts) =
+    not after_space && are_apart true false parts
+are_apart after_space after_word (part.Quoted s ∷ parts) =
+    not after_word && are_apart false false parts
+are_apart after_space after_word (part.Word s ∷ parts) = are_apart false true parts
+are_apart after_space after_word (part.Sign s ∷ parts) = are_apart false false parts
+
+-- the run at the front of the rest of a line
+
+-- A run may go over this item: a word that no quoted text follows, which could be a raw string or
+-- the rest of a number, a quoted text that closes on its line and has no `@`, or a sign that opens
+-- no comment.
+abbrev pub is_run_item : ℕ → List ℕ → Bool
+is_run_item b bs =
+    if is_word_byte b then not (is_before_quote bs) else
+    if is_quote b then not (part_more b bs == 0) else is_single b bs
+
+abbrev pub begins_item : List ℕ → Bool
+begins_item [] = false
+begins_item (b ∷ bs) = is_run_item b bs
+
+-- a run goes over such an item, and over a space before one
+abbrev pub goes_over : ℕ → List ℕ → Bool
+goes_over b bs = if b == space then begins_item bs else is_run_item b bs
+
+-- the number of bytes of the run; `k` bytes at the front belong to a part that it goes over
+abbrev pub run_size : ℕ → List ℕ → ℕ
+run_size k [] = 0
+run_size (suc k) (b ∷ bs) = 1 + run_size k bs
+run_size zero (b ∷ bs) = if goes_over b bs then 1 + run_size (part_more b bs) bs else 0
 
 -- the number of cells of the run at the front of a text
 abbrev pub run_count : List Cell → ℕ
-run_count text = run_size (line_bytes text)
+run_count text = run_size 0 (line_bytes text)
 
 -- the span of the run at the front of a text, unless no byte is in it
 abbrev pub run_at : List Cell → Option Span
 run_at text = if run_count text == 0 then None else Some (span_at (run_count text) text)
-
--- the chunks of `b` and then of the bytes that have these chunks
-abbrev pub with_front_byte : ℕ → List (List ℕ) → List (List ℕ)
-with_front_byte b ((c ∷ cs) ∷ chunks) =
-    if is_word_byte b && is_word_byte c then (b ∷ c ∷ cs) ∷ chunks
-    else (b ∷ []) ∷ (c ∷ cs) ∷ chunks
-with_front_byte b chunks = (b ∷ []) ∷ chunks
-
--- The chunks of bytes. Word bytes that are side by side are one chunk, and any other byte is a
--- chunk of its own.
-abbrev pub chunks : List ℕ → List (List ℕ)
-chunks [] = []
-chunks (b ∷ bs) = with_front_byte b (chunks bs)
-
--- the part that a chunk is, which begins at this column of a line: a word, a space or a sign
-abbrev pub part_of : ℕ → ℕ → List ℕ → RunPart
-part_of line column [] = part.Space
-part_of line column (b ∷ bs) =
-    if b == space then part.Space else
-    if is_word_byte b then
-    part.Word (record { line = line; start = column; end = column + length (b ∷ bs) })
-    else part.Sign (record { line = line; start = column; end = column + length (b ∷ bs) })
-
--- the parts that these chunks are, the first of which begins at this column
-abbrev pub parts_of : ℕ → ℕ → List (List ℕ) → List RunPart
-parts_of line column [] = []
-parts_of line column (chunk ∷ more) =
-    part_of line column chunk ∷ parts_of line (column + length chunk) more
-
--- the words, signs and spaces of a run
-unfoldable pub run_parts : List (List ℕ) → Span → List RunPart
-run_parts texts s = parts_of s.line s.start (chunks (span_text texts s))
-
--- Whether each space has another part directly before and after it. `after_space` is whether a
--- space, or nothing, is before these parts.
-abbrev pub has_single_spaces : Bool → List RunPart → Bool
-has_single_spaces after_space [] = not after_space
-has_single_spaces after_space (part.Space ∷ parts) =
-    not after_space && has_single_spaces true parts
-has_single_spaces after_space (_ ∷ parts) = has_single_spaces false parts

@@ -337,8 +337,8 @@ impl<'s, 'a> Reader<'s, 'a> {
         }
     }
 
-    /// Advances over the run at the position: words, signs that open nothing, and single spaces
-    /// between them. Returns the run's span; `None` if no byte is in the run.
+    /// Advances over the run at the position: words, signs that open nothing, quoted texts, and single
+    /// spaces between them. Returns the run's span; `None` if no byte is in the run.
     #[inline(always)]
     pub fn take_run(&mut self) -> Option<Span>
         requires { IsSome (byte_at 0 self.old) }

@@ -3,11 +3,14 @@
 use Rattle.std.proofs.Common.{rules}
 use Rattle.std.proofs.Common.{arith}
 use Rattle.std.proofs.Common.{◌≡◌, ℕ, zero, suc, Bool, true, false, not, List, [], ◌∷◌, take, Option, Some}
-use Rattle.std.proofs.Common.{None}
 use Rattle.std.proofs.Common.{refl, ap, sym, ◌∙◌, subst}
 use Rattle.std.specs.Prelude.{◌==◌, ◌&&◌, ◌||◌, slice_get}
 use Rattle.std.proofs.lemmas.Bool.{or_parts}
-use Rattle.std.proofs.lemmas.Bool.{eqb-true}
+use Rattle.std.proofs.lemmas.Bool.{eqb-true, eq-eqb, not-false}
+use Rattle.tangle_lexer.specs.declared.tokens.SpanKind.TheVariants as span_kind
+use Rattle.tangle_lexer.specs.Quoted.{kind_in}
+use Rattle.tangle_lexer.proofs.laws.CutTexts.{IsCut, header_name-cut}
+use Rattle.tangle_c_tokens.proofs.kind_lemmas.QuotedTexts.{IsQuoteRegion, IsByUnits}
 use Rattle.tangle_lines.specs.Bytes.{at_sign}
 use Rattle.tangle_text.specs.declared.regions.Region.{Region}
 use Rattle.tangle_text.specs.declared.regions.Region.TheVariants as region
@@ -81,81 +84,72 @@ module _ (close : ℕ) (no_sign : (at_sign == close) ≡ false) (no_back : (back
       all (suc zero) = cc no_back
       all (suc (suc n)) = search rules
 
-  module _ (r : Region) (is : (b n : Option ℕ) → unit_of r b n ≡ quoted_unit close b n) where
-    pub quote-stops : (b : ℕ) (n : Option ℕ) → unit_of r (Some b) n ≡ unit.Stop → (b == close) ≡ true
-    quote-stops b n e = grind (arith, nat_tests)
+  module _ (r : Region) (is : (b n : Option ℕ) → unit_of r b n ≡ quoted_unit close b n) (cut : IsCut r)
+      (kind : kind_in r ≡ span_kind.Quoted) where
+    pub quote-region : IsQuoteRegion r close
+    quote-region = record {
+      cut = cut;
+      kind = kind;
+      stops = λ b n e. grind (arith, nat_tests);
+      pairs = λ b n e pair. grind (arith, nat_tests);
+    }
 
-    pub quote-one : (ends : Bool) (b : ℕ) (q : List ℕ) → unit_of r (Some b) (slice_get q 0) ≡ unit.One
-        → (b == line_feed) ≡ false → holds line_feed (slice_get q 0) ≡ false → GivesQuoted ends (spliced q)
-        → GivesQuoted ends (spliced (b ∷ q))
-    quote-one ends b q e feed next h =
-        let n = slice_get q 0 in
-        let goes = goes-one (b == close || false)
-        (are_bytes at_sign at_sign (Some b) n || b == backslash && not (holds at_sign n)) (sym (is (Some b) n) ∙ e) in
-        subst (GivesQuoted ends) (sym (kept-first b q next)) (by (b == backslash) refl ((or_parts (b == close) false goes.0).0) ((or_parts (are_bytes at_sign at_sign (Some b) n) (b == backslash && not (holds at_sign n)) goes.1).1))
-      where
-        by : (back : Bool) → (b == backslash) ≡ back → (b == close) ≡ false
-            → (back && not (holds at_sign (slice_get q 0))) ≡ false → GivesQuoted ends (b ∷ spliced q)
-        by false back closing pair = gives-byte ends b (spliced q) back closing feed h
-        by true back closing pair =
-            subst (λ k. GivesQuoted ends (k ∷ spliced q)) (sym (eqb-true b backslash back))
-            (search (rules, gives-escape, gives-after (ends_quoted close) at_sign (over-byte at_sign refl no_sign refl)))
-          where
-            sign : (s : Bool) → not s ≡ false → s ≡ true
-            sign true p = refl
-            sign false p = sym p
+    one-by : (ends back : Bool) (b : ℕ) (q : List ℕ) → (b == backslash) ≡ back → (b == close) ≡ false
+        → (b == line_feed) ≡ false
+        → (back && not (holds at_sign (slice_get q 0))) ≡ false → GivesQuoted ends (spliced q) → GivesQuoted ends
+        (b ∷ spliced q)
+    one-by ends false b q back closing feed pair h = gives-byte ends b (spliced q) back closing feed h
+    one-by ends true b q back closing feed pair h =
+        subst (λ k. GivesQuoted ends (k ∷ spliced q)) (sym (eqb-true b backslash back))
+        (search (rules, gives-escape, not-false, gives-after (ends_quoted close) at_sign (over-byte at_sign refl no_sign refl)))
 
-    pub quote-signs : (ends : Bool) (q : List ℕ) → holds line_feed (slice_get q 0) ≡ false
-        → GivesQuoted ends (spliced q) → GivesQuoted ends (spliced (at_sign ∷ q))
-    quote-signs ends q next h = grind (arith, nat_tests, gives-byte ends at_sign (spliced q) refl no_sign refl h)
-
-    -- a unit of two bytes that are not @ begins with a backslash
-    pub backslash-first : (b : ℕ) (n : Option ℕ) → unit_of r (Some b) n ≡ unit.Two
-        → are_bytes at_sign at_sign (Some b) n ≡ false → b ≡ backslash
-    backslash-first b n e pair = grind (arith, nat_tests)
-
-    pub quote-others : (ends : Bool) (b y : ℕ) (q : List ℕ) → unit_of r (Some b) (Some y) ≡ unit.Two
-        → (b == at_sign) ≡ false → (y == line_feed) ≡ false → holds line_feed (slice_get q 0) ≡ false
-        → GivesQuoted ends (spliced q) → GivesQuoted ends (spliced (b ∷ y ∷ q))
-    quote-others ends b y q e sign feed next h =
-        let back = backslash-first b (Some y) e (rw sign refl) in
-        subst (GivesQuoted ends) (sym (kept-first b (y ∷ q) feed ∙ ap (λ t. b ∷ t) (kept-first y q next) ∙ ap (λ k. k ∷ y ∷ spliced q) back)) (gives-escape ends y (spliced q) feed h)
-
-    pub quote-broken : (ends : Bool) (b : ℕ) (q : List ℕ) → unit_of r (Some b) None ≡ unit.Two
-        → GivesQuoted ends (spliced q) → GivesQuoted ends (spliced (b ∷ line_feed ∷ q))
-    quote-broken ends b q e h = grind (arith, nat_tests)
+    pub quote-units : IsByUnits r close (λ ends q. GivesQuoted ends (spliced q))
+    quote-units = record {
+      ending = eq-eqb close close refl;
+      unended = gives-nothing (ends_quoted close) refl;
+      one = λ ends b q e feed next h.
+          let n = slice_get q 0 in
+          let goes = goes-one (b == close || false)
+          (are_bytes at_sign at_sign (Some b) n || b == backslash && not (holds at_sign n))
+          (sym (is (Some b) n) ∙ e) in
+          subst (GivesQuoted ends) (sym (kept-first b q next))
+          (one-by ends (b == backslash) b q refl (or_parts (b == close) false goes.0).0 feed
+          (or_parts (are_bytes at_sign at_sign (Some b) n) (b == backslash && not (holds at_sign n)) goes.1).1 h);
+      signs = λ ends q next h. grind (arith, nat_tests, gives-byte ends at_sign (spliced q) refl no_sign refl h);
+      others = λ ends b y q e sign feed next h.
+          subst (GivesQuoted ends) (sym (kept-first b (y ∷ q) feed ∙ ap (λ t. b ∷ t) (kept-first y q next)
+          ∙ ap (λ k. k ∷ y ∷ spliced q) (quote-region.pairs b (Some y) e (rw sign refl))))
+          (gives-escape ends y (spliced q) feed h);
+      broken = λ ends b q e h. grind (arith, nat_tests);
+    }
 
 -- header names
 
 abbrev GivesHeader : Bool → List ℕ → Type 0
 GivesHeader ends q = Gives ends ends_header_name q
 
-pub header-pairs : (b : ℕ) (n : Option ℕ) → unit_of region.HeaderName (Some b) n ≡ unit.Two
-    → are_bytes at_sign at_sign (Some b) n ≡ false → b ≡ backslash
-header-pairs b n e pair = grind (arith, nat_tests)
-
 over-header : (b : ℕ) → (b == greater_sign) ≡ false → (b == line_feed) ≡ false → PassesOver ends_header_name b
 over-header b closing feed [] = closing
 over-header b closing feed (c ∷ t) = rw (closing, feed) refl
 
-pub header-byte : (ends : Bool) (b : ℕ) (q : List ℕ) → (b == greater_sign) ≡ false → (b == line_feed) ≡ false
+header-byte : (ends : Bool) (b : ℕ) (q : List ℕ) → (b == greater_sign) ≡ false → (b == line_feed) ≡ false
     → GivesHeader ends q → GivesHeader ends (b ∷ q)
 header-byte ends b q closing feed = gives-more ends_header_name b refl (over-header b closing feed) ends q
 
-pub header-stops : (b : ℕ) (n : Option ℕ) → unit_of region.HeaderName (Some b) n ≡ unit.Stop
-    → (b == greater_sign) ≡ true
-header-stops b n e = grind (arith, nat_tests)
+pub header-region : IsQuoteRegion region.HeaderName greater_sign
+header-region = record {
+  cut = header_name-cut;
+  kind = refl;
+  stops = λ b n e. grind (arith, nat_tests);
+  pairs = λ b n e pair. grind (arith, nat_tests);
+}
 
-pub header-one : (ends : Bool) (b : ℕ) (q : List ℕ) → unit_of region.HeaderName (Some b) (slice_get q 0) ≡ unit.One
-    → (b == line_feed) ≡ false → holds line_feed (slice_get q 0) ≡ false → GivesHeader ends q
-    → GivesHeader ends (b ∷ q)
-header-one ends b q e feed next h = search (rules, header-byte)
-
-pub header-others : (ends : Bool) (b y : ℕ) (q : List ℕ) → unit_of region.HeaderName (Some b) (Some y) ≡ unit.Two
-    → (b == at_sign) ≡ false → (y == line_feed) ≡ false → holds line_feed (slice_get q 0) ≡ false
-    → GivesHeader ends q → GivesHeader ends (b ∷ y ∷ q)
-header-others ends b y q e sign feed next h = grind (arith, nat_tests)
-
-pub header-broken : (ends : Bool) (b : ℕ) (q : List ℕ) → unit_of region.HeaderName (Some b) None ≡ unit.Two
-    → GivesHeader ends q → GivesHeader ends (b ∷ line_feed ∷ q)
-header-broken ends b q e h = grind (arith, nat_tests)
+pub header-units : IsByUnits region.HeaderName greater_sign (λ ends q. Gives ends ends_header_name q)
+header-units = record {
+  ending = refl;
+  unended = gives-nothing ends_header_name refl;
+  one = λ ends b q e feed next h. search (rules, header-byte);
+  signs = λ ends q next. header-byte ends at_sign q refl refl;
+  others = λ ends b y q e sign feed next h. grind (arith, nat_tests);
+  broken = λ ends b q e h. grind (arith, nat_tests);
+}

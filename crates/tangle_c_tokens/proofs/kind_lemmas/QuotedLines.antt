@@ -1,17 +1,13 @@
 -- The line feeds of a quoted text are directly after backslashes.
 use Rattle.std.proofs.Common.{arith}
-use Rattle.std.proofs.Common.{◌≡◌, ℕ, true, false, List, [], ◌∷◌, Option, Some, None, refl, ap, sym, subst}
+use Rattle.std.proofs.Common.{◌≡◌, ℕ, false, List, [], ◌∷◌, Some, None, refl, ap, sym, subst}
 use Rattle.std.specs.Prelude.{◌==◌, slice_get}
 use Rattle.std.proofs.Math.Bool.{and-false}
 use Rattle.tangle_lines.specs.Bytes.{at_sign}
 use Rattle.tangle_text.specs.declared.regions.Region.{Region}
-use Rattle.tangle_text.specs.declared.regions.Unit.TheVariants as unit
-use Rattle.tangle_text.specs.Bytes.{holds, are_bytes, backslash}
-use Rattle.tangle_text.specs.Regions.{unit_of}
+use Rattle.tangle_text.specs.Bytes.{holds, backslash}
 use Rattle.tangle_text.specs.Text.{Cell}
-use Rattle.tangle_lexer.specs.declared.tokens.SpanKind.TheVariants as span_kind
-use Rattle.tangle_lexer.specs.Quoted.{kind_in, cut_tokens, quote_end}
-use Rattle.tangle_lexer.proofs.laws.CutTexts.{IsCut}
+use Rattle.tangle_lexer.specs.Quoted.{cut_tokens, quote_end}
 use Rattle.tangle_scan.specs.Rules.{without_faults}
 use Rattle.c_tokens.specs.Bytes.{line_feed}
 use Rattle.c_tokens.specs.Reading.{spliced}
@@ -20,7 +16,7 @@ use Rattle.tangle_c_tokens.specs.Groups.{group_text}
 use Rattle.tangle_c_tokens.specs.LineFeeds.{TextHasNoLineFeed}
 use Rattle.tangle_c_tokens.proofs.kind_lemmas.Lines.{AreInLines}
 use Rattle.tangle_c_tokens.proofs.kind_lemmas.QuoteBytes.{kept-first}
-use Rattle.tangle_c_tokens.proofs.kind_lemmas.QuotedTexts.{text-whole}
+use Rattle.tangle_c_tokens.proofs.kind_lemmas.QuotedTexts.{IsQuoteRegion, IsByUnits, text-whole}
 use Rattle.std.proofs.lemmas.Bool.Decides.{nat_tests}
 
 abbrev IsOneLine : List ℕ → Type 0
@@ -30,23 +26,25 @@ one-byte : (b : ℕ) (q : List ℕ) → (b == line_feed) ≡ false → holds lin
     → IsOneLine (b ∷ q)
 one-byte b q feed next line = subst TextHasNoLineFeed (sym (kept-first b q next)) (grind (arith, nat_tests))
 
--- `r` is the region of such texts, in which only a backslash continues a line.
-module _ (texts : List (List ℕ)) (r : Region) (close last_line : ℕ) (cut : IsCut r)
-    (kind : kind_in r ≡ span_kind.Quoted)
-    (stops : (b : ℕ) (n : Option ℕ) → unit_of r (Some b) n ≡ unit.Stop → (b == close) ≡ true)
-    (closes : (close == line_feed) ≡ false)
-    (pairs : (b : ℕ) (n : Option ℕ) → unit_of r (Some b) n ≡ unit.Two
-    → are_bytes at_sign at_sign (Some b) n ≡ false → b ≡ backslash) where
+module _ (texts : List (List ℕ)) (r : Region) (close last_line : ℕ) (region : IsQuoteRegion r close)
+    (closes : (close == line_feed) ≡ false) where
+  line-units : IsByUnits r close (λ ends q. IsOneLine q)
+  line-units = record {
+    ending = one-byte close [] closes refl refl;
+    unended = refl;
+    one = λ ends b q e feed next line. one-byte b q feed next line;
+    signs = λ ends q next line. one-byte at_sign q refl next line;
+    others = λ ends b y q e sign feed next line.
+        one-byte b (y ∷ q) (ap (λ c. c == line_feed) (region.pairs b (Some y) e (rw sign refl))) feed
+        (one-byte y q feed next line);
+    broken = λ ends b q e line.
+        subst (λ c. IsOneLine (c ∷ line_feed ∷ q)) (sym (region.pairs b None e (and-false (b == at_sign)))) line;
+  }
+
   pub text-lines : (c : Cell) (cs : List Cell) (b : ℕ) → c.byte ≡ Some b → AreInLines texts (c ∷ cs)
       → (b == backslash) ≡ false → (b == line_feed) ≡ false
       → IsOneLine (group_text texts (without_faults (cut_tokens (quote_end r close last_line) r 0 c.column cs)))
   text-lines c cs b x is back feed =
-      let whole = (text-whole texts r close last_line cut kind stops (λ ends q. IsOneLine q) (one-byte close [] closes refl refl)
-      refl (λ ends b q e feed next line. one-byte b q feed next line)
-      (λ ends q next line. one-byte at_sign q refl next line)
-      (λ ends b y q e sign feed next line.
-      one-byte b (y ∷ q) (ap (λ c. c == line_feed) (pairs b (Some y) e (rw sign refl))) feed (one-byte y q feed next line))
-      (λ ends b q e line.
-      subst (λ c. IsOneLine (c ∷ line_feed ∷ q)) (sym (pairs b None e (and-false (b == at_sign)))) line) c cs b x is).1 in
+      let whole = (text-whole texts r close last_line region (λ ends q. IsOneLine q) line-units c cs b x is).1 in
       subst IsOneLine (sym whole.bytes)
       (subst TextHasNoLineFeed (sym (spliced-other b whole.ahead back)) (grind (arith, nat_tests, feed, whole.closes)))

@@ -10,7 +10,7 @@ use Rattle.tangle_faults.specs.declared.faults.FaultKind.TheVariants as fault
 use Rattle.tangle_lines.specs.Bytes.{at_sign}
 use Rattle.tangle_text.specs.declared.regions.Region.{Region}
 use Rattle.tangle_text.specs.declared.regions.Unit.TheVariants as unit
-use Rattle.tangle_text.specs.Bytes.{holds, is_line_end, backslash}
+use Rattle.tangle_text.specs.Bytes.{holds, are_bytes, is_line_end, backslash}
 use Rattle.tangle_text.specs.Text.{Cell}
 use Rattle.tangle_text.specs.Regions.{unit_of, unit_at}
 use Rattle.tangle_lexer.specs.declared.tokens.Token.{Token}
@@ -37,19 +37,30 @@ held : (b : ℕ) (x : Option ℕ) → holds b x ≡ true → x ≡ Some b
 held b None h = search rules
 held b (Some c) h = cc (eqb-true c b h)
 
--- `Closes` is true of the bytes of a text after its opening byte: of a text that ends, or of one that does not. `r` is
--- the region of such texts, which this byte closes.
-module _ (texts : List (List ℕ)) (r : Region) (close last_line : ℕ) (cut : IsCut r) (kind : kind_in r
-    ≡ span_kind.Quoted) (stops : (b : ℕ) (n : Option ℕ) → unit_of r (Some b) n ≡ unit.Stop → (b == close) ≡ true)
-    (Closes : Bool → List ℕ → Type 0) (ending : Closes true (close ∷ [])) (unended : Closes false [])
-    (one : (ends : Bool) (b : ℕ) (q : List ℕ) → unit_of r (Some b) (slice_get q 0) ≡ unit.One → (b == line_feed) ≡ false
-    → holds line_feed (slice_get q 0) ≡ false → Closes ends q → Closes ends (b ∷ q))
-    (signs : (ends : Bool) (q : List ℕ) → holds line_feed (slice_get q 0) ≡ false → Closes ends q
-    → Closes ends (at_sign ∷ q))
-    (others : (ends : Bool) (b y : ℕ) (q : List ℕ) → unit_of r (Some b) (Some y) ≡ unit.Two → (b == at_sign) ≡ false
-    → (y == line_feed) ≡ false → holds line_feed (slice_get q 0) ≡ false → Closes ends q → Closes ends (b ∷ y ∷ q))
-    (broken : (ends : Bool) (b : ℕ) (q : List ℕ) → unit_of r (Some b) None ≡ unit.Two → Closes ends q
-    → Closes ends (b ∷ line_feed ∷ q)) where
+-- a region of quoted texts, which this byte closes, and in which only a backslash continues a line
+pub record IsQuoteRegion (r : Region) (close : ℕ) : Type 0 where
+  pub cut : IsCut r
+  pub kind : kind_in r ≡ span_kind.Quoted
+  pub stops : (b : ℕ) (n : Option ℕ) → unit_of r (Some b) n ≡ unit.Stop → (b == close) ≡ true
+  pub pairs : (b : ℕ) (n : Option ℕ) → unit_of r (Some b) n ≡ unit.Two → are_bytes at_sign at_sign (Some b) n ≡ false
+      → b ≡ backslash
+
+-- `Closes` is true of the bytes of a text after its opening byte, unit by unit: of a text that ends, or of one that
+-- does not.
+pub record IsByUnits (r : Region) (close : ℕ) (Closes : Bool → List ℕ → Type 0) : Type 0 where
+  pub ending : Closes true (close ∷ [])
+  pub unended : Closes false []
+  pub one : (ends : Bool) (b : ℕ) (q : List ℕ) → unit_of r (Some b) (slice_get q 0) ≡ unit.One
+      → (b == line_feed) ≡ false → holds line_feed (slice_get q 0) ≡ false → Closes ends q → Closes ends (b ∷ q)
+  pub signs : (ends : Bool) (q : List ℕ) → holds line_feed (slice_get q 0) ≡ false → Closes ends q → Closes ends
+      (at_sign ∷ q)
+  pub others : (ends : Bool) (b y : ℕ) (q : List ℕ) → unit_of r (Some b) (Some y) ≡ unit.Two → (b == at_sign) ≡ false
+      → (y == line_feed) ≡ false → holds line_feed (slice_get q 0) ≡ false → Closes ends q → Closes ends (b ∷ y ∷ q)
+  pub broken : (ends : Bool) (b : ℕ) (q : List ℕ) → unit_of r (Some b) None ≡ unit.Two → Closes ends q
+      → Closes ends (b ∷ line_feed ∷ q)
+
+module _ (texts : List (List ℕ)) (r : Region) (close last_line : ℕ) (region : IsQuoteRegion r close)
+    (Closes : Bool → List ℕ → Type 0) (units : IsByUnits r close Closes) where
   abbrev tokens_of : ℕ → List Cell → List Token
   tokens_of start text = cut_tokens (quote_end r close last_line) r 0 start text
 
@@ -113,11 +124,11 @@ module _ (texts : List (List ℕ)) (r : Region) (close last_line : ℕ) (cut : I
       → Ends (range texts c.line start c.column) c.byte
       (cond closed (cut_range r c.line start (c.column + 1))
       (cut_range r c.line start c.column ++ token.Fault fault.StringEnd c.line ∷ []))
-  stop-by c cs start false same e is low = search (rules, cut-range)
+  stop-by c cs start false same e is low = search (rules, cut-range, units.unended)
   stop-by c cs start true same stop is low =
       let e = held close c.byte same in
       let only = cut-range c.line start (c.column + 1) (omega arith) (byte-within texts c cs close e is) [] in
-      search (rules, range-byte)
+      search (rules, range-byte, units.ending)
 
   stop-holds : (text : List Cell) → unit_at r text ≡ unit.Stop → Holds 0 text
   stop-holds text e = search (rules, cut-stop, stop-by)
@@ -140,7 +151,7 @@ module _ (texts : List (List ℕ)) (r : Region) (close last_line : ℕ) (cut : I
           let further = next is.1 start (omega arith) in
           add-ends _ [] _ b [] _ _ _ tail
           (record { text = ap (group_text texts) kept; ranges = ap (list_all is_range) kept; full = ap (list_all is_full) kept })
-          further x moved (search rules)
+          further x moved (search (rules, units.one))
 
   -- a unit of two bytes, or of a backslash and a line end
 
@@ -169,7 +180,7 @@ module _ (texts : List (List ℕ)) (r : Region) (close last_line : ℕ) (cut : I
         full = cut.full;
       }) further x (append-nil _ ∙ ap (λ t. t ++ line_feed ∷ []) (range-byte texts c (d ∷ cs) b start x is.0 low)
       ∙ append_assoc before (b ∷ []) (line_feed ∷ []))
-      (broken further.ends b further.ahead ((λ i. unit_of r (sym x i) (sym y i)) ∙ e) further.closes))
+      (units.broken further.ends b further.ahead ((λ i. unit_of r (sym x i) (sym y i)) ∙ e) further.closes))
 
   signs-holds : (n : ℕ) (c d : Cell) (cs : List Cell) (y start : ℕ) → holds at_sign c.byte ≡ true → d.byte ≡ Some y
       → Holds n cs → AreInLines texts (c ∷ d ∷ cs) → start ≤ c.column
@@ -187,7 +198,7 @@ module _ (texts : List (List ℕ)) (r : Region) (close last_line : ℕ) (cut : I
       subst (Ends (range texts c.line start c.column) c.byte) (sym tokens)
       (add-ends _ (range texts c.line start (c.column + 1)) _ at_sign [] _ _ _ _ cut further x
       (ap (λ t. range texts c.line start (c.column + 1) ++ t) none ∙ append-nil _ ∙ range-byte texts c (d ∷ f ∷ cs) at_sign start x is.0 low)
-      (search rules))
+      (search (rules, units.signs)))
 
   others-holds : (n : ℕ) (c d : Cell) (cs : List Cell) (b y start : ℕ) → c.byte ≡ Some b → d.byte ≡ Some y
       → unit_of r c.byte d.byte ≡ unit.Two → holds at_sign c.byte ≡ false
@@ -205,7 +216,7 @@ module _ (texts : List (List ℕ)) (r : Region) (close last_line : ℕ) (cut : I
       let further = next is.1.1 start (omega arith) in
       subst (Ends (range texts c.line start c.column) c.byte) (sym tokens)
       (add-ends _ [] _ b (y ∷ []) _ _ _ _ (record { text = refl; ranges = refl; full = refl }) further x
-      (moved ∙ append_assoc (range texts c.line start c.column) (b ∷ []) (y ∷ [])) (search rules))
+      (moved ∙ append_assoc (range texts c.line start c.column) (b ∷ []) (y ∷ [])) (search (rules, units.others)))
 
   two-holds : (n : ℕ) (c d : Cell) (cs : List Cell) → unit_at r (c ∷ d ∷ cs) ≡ unit.Two → Holds n cs
       → Holds (suc (suc n)) (c ∷ d ∷ cs)

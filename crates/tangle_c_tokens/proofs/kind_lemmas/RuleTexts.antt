@@ -70,8 +70,7 @@ module _ (texts : List (List ℕ)) where
     where
       one : (t : Token) (ts : List Token) → is_range t ≡ false → HasItsKind texts t → AreTexts texts ts
           → AreTexts texts (white_inner_end t ∷ ts)
-      one (token.InnerLineEnd line) ts alone kind made = white ts made
-      one t ts alone kind made = texts-alone texts t ts alone kind made
+      one t ts alone kind made = search (rules, texts-alone)
 
   spaces-texts : (ts : List Token) → AreTexts texts ts → AreTexts texts (with_spaces texts ts)
   spaces-texts = edited-texts (with_spaces texts) (texts-none texts) (search rules) one

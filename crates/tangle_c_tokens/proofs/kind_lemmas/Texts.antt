@@ -23,8 +23,7 @@ is_source _ = false
 
 pub faults-append : (xs ys : List Token) → without_faults (xs ++ ys) ≡ without_faults xs ++ without_faults ys
 faults-append [] ys = refl
-faults-append (token.Fault kind line ∷ xs) ys = faults-append xs ys
-faults-append (x ∷ xs) ys = ap (λ ts. x ∷ ts) (faults-append xs ys)
+faults-append (x ∷ xs) ys = search (rules, faults-append xs ys)
 
 module _ (texts : List (List ℕ)) where
   pub texts-none : AreTexts texts []

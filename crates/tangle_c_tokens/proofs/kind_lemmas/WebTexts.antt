@@ -3,13 +3,17 @@ use Rattle.std.proofs.Common.{rules}
 use Rattle.std.proofs.Common.{arith}
 use Rattle.std.proofs.Common.{◌≡◌, ℕ, Bool, true, false, List, [], ◌∷◌, ◌++◌, refl, map, flat_map, Option}
 use Rattle.std.proofs.Common.{zero-add}
-use Rattle.std.specs.Prelude.{if◌then◌else◌}
+use Rattle.std.specs.Prelude.{filter, if◌then◌else◌}
+use Rattle.tangle_names.specs.NameTable.{TableRead}
+use Rattle.tangle_bodies.specs.Shapes.{Title}
+use Rattle.tangle_bodies.specs.WebShapes.{is_piece_of}
+use Rattle.tangle_c_tokens.specs.Pieces.{Passage, row_of_piece}
+use Rattle.tangle_c_tokens.specs.Files.{node_row}
 use Rattle.std.specs.List.{AllByRecursion, list_all}
 use Rattle.tangle_lines.specs.Reading.{SourceLine, origin_at}
 use Rattle.tangle_scan.specs.declared.items.Item.{Item}
 use Rattle.tangle_text.specs.Text.{texts_of}
 use Rattle.tangle_lexer.specs.declared.tokens.Token.{Token}
-use Rattle.tangle_lexer.specs.declared.tokens.Token.TheVariants as token
 use Rattle.tangle_lexer.specs.Steps.{tokens_from, all_tokens}
 use Rattle.tangle_scan.specs.Rules.{without_faults, macro_tokens, macro_items, is_macro, without_backslashes}
 use Rattle.tangle_scan.specs.Rules.{part_tokens, part_items}
@@ -54,10 +58,7 @@ module _ (texts : List (List ℕ)) where
     where
       one : (t : Token) (ts : List Token) → AreTexts texts (body ts) → (n : ℕ) → HaveBodies (section_after n t) ts
           → HaveBodies n (t ∷ ts)
-      one (token.MacroStart line) ts all n made = (all, made)
-      one (token.UnnamedPart line) ts all n made = (all, made)
-      one (token.NamedPart line occurrence) ts all n made = (all, made)
-      one t ts all n made = made
+      one t ts all n made = search rules
 
       by : (part ts : List Token) (n : ℕ) → list_all is_range part ≡ true → HaveBodies n ts → HaveBodies n (part ++ ts)
       by [] ts n ranges made = made
@@ -124,6 +125,28 @@ module _ (lines : List SourceLine) where
           → P (kind_piece lines kind b ++ rest) (map (λ p. part_tokens texts b.tokens) (kind_piece lines kind b) ++ tokens)
       by (OfMacro line) rest tokens h = h
       by (OfPiece occurrence line) rest tokens h = more b occurrence line rest tokens (part-texts texts b.tokens all.0) h
+
+  -- the same of the pieces of a node, and of their row
+  pub node-by : (table : TableRead) (node : Title) (P : List Passage → List PieceRead → Type 0) → P [] []
+      → ((b : Block) (occurrence : Option ℕ) (line : ℕ) (row : List Passage) (pieces : List PieceRead)
+      → AreTexts texts (part_tokens texts b.tokens) → P row pieces
+      → P (row_of_piece texts (piece_at b occurrence line) (part_tokens texts b.tokens) ++ row)
+      (piece_at b occurrence line ∷ pieces))
+      → SourceLinesHaveNoLineFeed lines → let pieces : List PieceRead = flat_map (piece_of lines)
+      (blocks 0 (all_tokens lines)) in
+      P (node_row texts table node pieces (all_piece_tokens lines)) (filter (is_piece_of table node) pieces)
+  node-by table node P none more clear =
+      pieces-by (λ pieces tokens. P (node_row texts table node pieces tokens)
+      (filter (is_piece_of table node) pieces)) none
+      (λ b occurrence line pieces tokens are p. chosen (is_piece_of table node (piece_at b occurrence line)) _ _ _ _
+      (more b occurrence line _ _ are p) p)
+      (blocks 0 (all_tokens lines)) (blocks-have clear)
+    where
+      chosen : (is : Bool) (own row : List Passage) (piece : PieceRead) (pieces : List PieceRead) → P (own ++ row)
+          (piece ∷ pieces)
+          → P row pieces → P ((if is then own else []) ++ row) (if is then piece ∷ pieces else pieces)
+      chosen true own row piece pieces one rest = one
+      chosen false own row piece pieces one rest = rest
 
   pub pieces-texts : SourceLinesHaveNoLineFeed lines → AllByRecursion (AreTexts texts) (all_piece_tokens lines)
   pieces-texts none =

@@ -1,7 +1,7 @@
 -- Worked webs: why the law of kinds names `''`, header names and quoted texts that do not end; and
 -- numbers with apostrophes.
 use Rattle.std.proofs.Common.{rules}
-use Rattle.std.proofs.Common.{◌≡◌, refl, ℕ, true, false, List, [], ◌∷◌, ◌++◌, codes, map, flat_map}
+use Rattle.std.proofs.Common.{◌≡◌, ℕ, true, false, List, [], ◌∷◌, ◌++◌, codes, map, flat_map}
 use Rattle.tangle_lines.specs.Reading.{SourceLine}
 use Rattle.tangle_text.specs.Text.{texts_of}
 use Rattle.tangle_lexer.specs.declared.tokens.Token.{Token}
@@ -37,6 +37,10 @@ written texts =
     let lines : List SourceLine = source texts in
     flat_map (λ b. flat_map (macro_bytes (texts_of lines)) (macro_of lines b)) (blocks 0 (all_tokens lines))
 
+-- a span of the second line, on which the macro is
+abbrev span : SpanKind → ℕ → ℕ → Token
+span kind start end = token.Span kind (record { line = 1; start = start; end = end })
+
 record Examples : Type 0 where
   -- The ranges of a text make one text.
   pub ranges : items (codes "@d F \"a@@b\\" ∷ codes "c\"" ∷ [])
@@ -56,21 +60,8 @@ record Examples : Type 0 where
   -- A text that does not end is a fault, and not plain: it may end in what follows.
   pub open_quote : written (codes "@d F \"a" ∷ codes "+\"" ∷ []) ≡ codes "#define F \"a\\\n+\"\n"
   pub open_quote_read : tokens (codes "\"a" ++ codes "\\\n+\"") ≡ codes "\"a+\"" ∷ []
-
-examples : Examples
-unfolding lexeme tokens_from is_element is_token is_punctuator
-examples = search rules
-
--- A header name ends at its first `>`.
-header_name_ends : (is_header_name (codes "<b>") ≡ true) × (is_header_name (codes "<b>c>") ≡ false)
-header_name_ends = (refl, refl)
-
--- a span of the second line, on which the macro is
-abbrev span : SpanKind → ℕ → ℕ → Token
-span kind start end = token.Span kind (record { line = 1; start = start; end = end })
-
--- apostrophes directly after numbers
-record Numbers : Type 0 where
+  -- A header name ends at its first `>`.
+  pub header_name_ends : (is_header_name (codes "<b>") ≡ true) × (is_header_name (codes "<b>c>") ≡ false)
   -- A number goes on over an apostrophe between two of its digits, and not over one after a sign.
   pub separator : items (codes "@d F 10'000+'x'" ∷ [])
       ≡ codes "F" ∷ [] ∷ codes "10'000" ∷ codes "+" ∷ codes "'x'" ∷ [] ∷ []
@@ -85,14 +76,6 @@ record Numbers : Type 0 where
   pub joined_read : tokens (codes "8'9'") ≡ codes "8'9" ∷ codes "'" ∷ []
   pub joined_refused : is_whole (codes "8'9'") ≡ false
 
-numbers : Numbers
+examples : Examples
 unfolding lexeme tokens_from is_element is_token is_punctuator
-numbers = record {
-  separator = refl;
-  constants = refl;
-  constants_read = refl;
-  constants_together = refl;
-  joined = refl;
-  joined_read = refl;
-  joined_refused = refl;
-}
+examples = search rules

@@ -1,10 +1,11 @@
--- A run of a C part is read: its token stands for those of the words, signs and spaces that it consists of.
+-- A run of a C part is read: its token stands for those of the words, signs, quoted texts and spaces in it.
 use Rattle.std.proofs.Common.{rules}
 use Rattle.std.proofs.Common.{if◌then◌else◌, nat_le, ◌==◌}
 use Rattle.std.proofs.lemmas.List.{get_or-drop}
 use Rattle.std.proofs.lemmas.Bool.Decides.{nat_tests}
 use Rattle.tangle_text.specs.Bytes.{number_sign, backslash, holds}
-use Rattle.std.proofs.Common.{◌≡◌, ◌<◌, ◌≤◌, ℕ, zero, suc, ◌+◌, ◌-◌, Bool, true, false, ◌&&◌, List, [], ◌∷◌, ◌++◌, length}
+use Rattle.std.proofs.Common.{◌≡◌, ◌<◌, ◌≤◌, ℕ, zero, suc, ◌+◌, ◌-◌, Bool, true, false, ◌&&◌, List, [], ◌∷◌, ◌++◌}
+use Rattle.std.proofs.Common.{length}
 use Rattle.std.proofs.Common.{take, drop, map, get_or, slice_get, Option, IsSome, ◌⊎◌, inl, inr, refl, ap}
 use Rattle.std.proofs.Common.{sym, ◌∙◌, subst, arith, append_assoc, append-nil, length-drop}
 use Rattle.std.proofs.Common.{Some}
@@ -16,9 +17,9 @@ use Rattle.tangle_lines.specs.Reading.{SourceLine}
 use Rattle.tangle_text.specs.declared.spans.Span.{Span}
 use Rattle.tangle_text.specs.Text.{Cell, line_text, text_from, byte_at, span_at, texts_of}
 use Rattle.tangle_text.specs.Text.{IsRestOf}
-use Rattle.tangle_text.specs.Runs.{is_run_byte, holds_plain, run_count, run_size}
-use Rattle.tangle_text.specs.Runs.{chunks, parts_of, run_parts}
-use Rattle.tangle_text.proofs.RunPartLemmas.{run_count-line, run_size-fits, get-drop}
+use Rattle.tangle_text.specs.Runs.{holds_plain, run_count, run_size}
+use Rattle.tangle_text.specs.Runs.{parts_of, run_parts, are_apart}
+use Rattle.tangle_text.proofs.RunPartLemmas.{run_count-line, run_size-fits, get_drop}
 use Rattle.tangle_lexer.specs.declared.modes.Mode.TheVariants as mode
 use Rattle.tangle_lexer.specs.declared.modes.LineOfC.{LineOfC}
 use Rattle.tangle_lexer.specs.declared.modes.LexerState.{LexerState}
@@ -33,10 +34,8 @@ use Rattle.tangle_lexer.specs.Simple.{IsSimple, simple_kind, is_c_text, is_word_
 use Rattle.tangle_lexer.specs.Steps.{c_lexeme, lexeme, tokens_from}
 use Rattle.tangle_lexer.specs.Steps.{occurrences_from}
 use Rattle.tangle_lexer.proofs.lemmas.BlockLemmas.{unfolded-append, rest-drop}
-use Rattle.tangle_lexer.proofs.lemmas.RunTokens.{in_part, front-byte, run-goes, BeginsRun, run-begins}
-use Rattle.tangle_text.proofs.SeparatorLemmas.{in_run-is, run_size-first, run_size-in}
+use Rattle.tangle_lexer.proofs.lemmas.RunTokens.{in_part, front-byte, run-goes}
 use Rattle.tangle_lexer.specs.declared.modes.IncludeState.{IncludeState}
-use Rattle.tangle_lexer.specs.declared.modes.IncludeState.TheVariants as include
 use Rattle.tangle_lexer.proofs.lemmas.SimpleLemmas.{lexeme-simple}
 use Rattle.tangle_lexer.proofs.lemmas.StepLemmas.{tokens_from-step, occurrences_from-step}
 
@@ -102,7 +101,6 @@ text-place from (l ∷ ls) k h =
 -- the run at the front
 
 pub record IsRunRead (lines : List SourceLine) (s after : LexerState) (text : List Cell) : Type 0 where
-  pub some : 0 < run_count text
   pub tokens : tokens_from s text
       ≡ map part_token (run_parts (texts_of lines) (span_at (run_count text) text))
       ++ tokens_from after (drop (run_count text) text)
@@ -116,66 +114,58 @@ span-line line column n (b ∷ bs) rest = refl
 
 parts-are : (texts : List (List ℕ)) (line column n : ℕ)
     → run_parts texts (record { line = line; start = column; end = column + n })
-    ≡ parts_of line column (chunks (take n (drop column (get_or texts line []))))
+    ≡ parts_of line column 0 (take n (drop column (get_or texts line [])))
 unfolding run_parts
 parts-are texts line column n = grind (arith, nat_tests)
 
--- a run does not end in a backslash
+-- parts that begin with a plain byte begin with a word or a sign
+plain-apart : (space word : Bool) (line column n : ℕ) (bs : List ℕ) → holds_plain (slice_get bs 0) ≡ true → 0 < n
+    → are_apart space word (parts_of line column 0 (take n bs)) ≡ true
+    → are_apart true true (parts_of line column 0 (take n bs)) ≡ true
+plain-apart space word line column n [] plain some h = cc
+plain-apart space word line column zero (b ∷ bs) plain some h = absurd (omega arith)
+plain-apart space word line column (suc n) (b ∷ bs) plain some h = grind (arith, nat_tests)
 
-run_byte-last : (b : ℕ) (next : Option ℕ) → is_run_byte b next ≡ true → (b == backslash) ≡ false
-run_byte-last b next h = grind (arith, nat_tests)
+-- the last byte of a run
+run-end : (bytes : List ℕ) (column n : ℕ) → 0 < n → (get_or (0 ∷ drop column bytes) n 0 == backslash) ≡ false
+    → ((if nat_le (column + n) column then 0 else get_or bytes (column + n - 1) 0) == backslash) ≡ false
+run-end bytes column zero some h = absurd (omega arith)
+run-end bytes column (suc n) some h = grind (arith, get_or-drop)
 
-run-last : (bs : List ℕ) (n : ℕ) → run_size bs ≡ suc n → (get_or bs n 0 == backslash) ≡ false
-run-last [] n h = absurd (omega arith)
-run-last (b ∷ bs) zero h =
-    run_byte-last b (slice_get bs 0) (in_run-is b bs (run_size-first b bs (omega arith))).byte
-run-last (b ∷ bs) (suc n) h =
-    run-last bs n (omega (arith, run_size-in b bs (in_run-is b bs (run_size-first b bs (omega arith)))))
-
-begins-size : (bs : List ℕ) → BeginsRun bs → 0 < run_size bs
-begins-size [] h = absurd h
-begins-size (b ∷ bs) h = omega (arith, run_size-in b bs h.0)
-
-run-end : (bytes : List ℕ) (column : ℕ) → 0 < run_size (drop column bytes)
-    → ((if nat_le (column + run_size (drop column bytes)) column then 0
-    else get_or bytes (column + run_size (drop column bytes) - 1) 0) == backslash) ≡ false
-run-end bytes column h = grind (arith, get_or-drop, run-last (drop column bytes) (run_size (drop column bytes) - 1))
-
-line-run : (lines : List SourceLine) (l : LineOfC) (stays : (b : Bool) → with_item b l ≡ l)
-    (occurrences last line column : ℕ) (rest : List Cell)
-    → line < length (texts_of lines) → column < length (get_or (texts_of lines) line [])
-    → BeginsRun (drop column (get_or (texts_of lines) line []))
-    → (get_or (get_or (texts_of lines) line []) column 0 == number_sign) ≡ false
-    → IsRunRead lines (in_part l occurrences last) (in_part l occurrences last)
-    (line_text line column (drop column (get_or (texts_of lines) line [])) ++ rest)
-line-run lines l stays occurrences last line column rest real inside begins sign =
+line-run : (lines : List SourceLine) (l : LineOfC) (stays : (b : Bool) → with_item b l ≡ l) (occurrences last : ℕ)
+    (text : List Cell) → IsInLine (texts_of lines) 0 text → holds_plain (byte_at 0 text) ≡ true
+    → holds number_sign (byte_at 0 text) ≡ false → 0 < run_count text
+    → IsRunRead lines (in_part l occurrences last) (in_part l occurrences last) text
+line-run lines l stays occurrences last text place plain sign some =
     let texts = texts_of lines in
-    let bytes = drop column (get_or texts line []) in
-    let text = line_text line column bytes ++ rest in
-    let n : ℕ = run_size bytes in
-    let here : LexerState = in_part l occurrences last in
-    let span : Span = record { line = line; start = column; end = column + n } in
-    let count : run_count text ≡ n = run_count-line line column bytes rest in
-    let span_is : span_at (run_count text) text ≡ span
-    = ap (λ k. span_at k text) count ∙ span-line line column n bytes rest in
-    let parts : run_parts texts span ≡ parts_of line column (chunks (take n bytes)) = parts-are texts line column n in
-    let goes = (run-goes l stays occurrences last line rest column bytes).0 in
-    let some : 0 < n = begins-size bytes begins in
-    let run : IsRunOf texts span = record {
+    let line : ℕ = place.line in
+    let column : ℕ = place.column in
+    let of_line : List ℕ = get_or texts line [] in
+    let bytes = drop column of_line in
+    let is : text ≡ line_text line column bytes ++ place.rest
+    = place.is ∙ ap (λ n. line_text n column bytes ++ place.rest) (omega arith) in
+    let byte : byte_at 0 text ≡ slice_get bytes 0 = ap (byte_at 0) is ∙ front-byte line column bytes place.rest in
+    let found : byte_at 0 text ≡ Some (get_or of_line column 0)
+    = byte ∙ (get_drop of_line column ∙ slice_get-get_or of_line column 0 place.inside) in
+    let n : ℕ = run_size 0 bytes in
+    let count : run_count text ≡ n = ap run_count is ∙ run_count-line line column bytes place.rest in
+    let span_is = ap (span_at n) is ∙ span-line line column n bytes place.rest in
+    let parts = parts-are texts line column n in
+    let goes = run-goes l stays occurrences last line place.rest column 0 n bytes (omega arith) refl in
+    let run : IsRunOf texts (record { line = line; start = column; end = column + n }) = record {
       span = record {
-        line = real;
+        line = place.real;
         start = omega arith;
-        end = omega (arith, run_size-fits bytes, length-drop column (get_or texts line []));
+        end = omega (arith, run_size-fits 0 bytes, length-drop column of_line, place.inside);
       };
-      spaces = rw parts (goes.1 true (λ e. begins));
-      begins = sign;
-      ends = run-end (get_or texts line []) column some;
+      apart = rw parts (plain-apart _ _ line column n bytes (rw byte at plain) (omega arith) goes.apart);
+      begins = rw found at sign;
+      ends = run-end of_line column n (omega arith) (goes.ends 0 (omega arith));
     } in
     record {
-      some = omega (arith, count, some);
-      tokens = rw (span_is, count, parts) goes.0.tokens;
-      occurrences = rw count goes.0.occurrences;
-      run = rw span_is run;
+      tokens = rw (count, span_is, parts, is) goes.tokens;
+      occurrences = rw (count, is) goes.occurrences;
+      run = rw (count, span_is) run;
     }
 
 -- the first lexeme of a run is read as if an item were before it on its line
@@ -208,31 +198,14 @@ run-read lines s text p here begins some_bytes ours =
     let both = and_parts (is_c_part s.mode) (is_word_or_sign p) all.0 in
     let m : s.mode ≡ mode.CPart = (grind arith) in
     let plain : holds_plain (byte_at 0 text) ≡ true = here.plain both.1 in
-    let some : IsSome (byte_at 0 text) = plain-some (byte_at 0 text) plain in
-    let place : IsInLine (texts_of lines) 0 (drop ours.0 (text_from 0 lines))
-    = text-place 0 lines ours.0 (subst (λ t. IsSome (byte_at 0 t)) ours.1 some) in
-    let bytes = drop place.column (get_or (texts_of lines) place.line []) in
-    let line : 0 + place.line ≡ place.line = omega arith in
-    let is : text ≡ line_text place.line place.column bytes ++ place.rest
-    = ours.1 ∙ (place.is ∙ ap (λ n. line_text n place.column bytes ++ place.rest) line) in
-    let byte : byte_at 0 text ≡ slice_get bytes 0
-    = ap (byte_at 0) is ∙ front-byte place.line place.column bytes place.rest in
-    let size : run_count text ≡ run_size bytes
-    = ap run_count is ∙ run_count-line place.line place.column bytes place.rest in
-    let begins_run : BeginsRun bytes = run-begins bytes (ap holds_plain (sym byte) ∙ plain) (omega (arith, size, some_bytes)) in
-    let of_line : List ℕ = get_or (texts_of lines) place.line [] in
-    let found : byte_at 0 text ≡ Some (get_or of_line place.column 0)
-    = byte ∙ (get-drop of_line place.column ∙ slice_get-get_or of_line place.column 0 place.inside) in
-    let sign : (get_or of_line place.column 0 == number_sign) ≡ false
-    = ap (holds number_sign) (sym found) ∙ apart-sign s.line.include (byte_at 0 text) all.1 in
+    let some = here.byte (λ e. let never = rw e at both.1 in cc) in
+    let place : IsInLine (texts_of lines) 0 text
+    = rw ours.1 (text-place 0 lines ours.0 (subst (λ t. IsSome (byte_at 0 t)) ours.1 some)) in
     let part : LexerState = in_part (with_item false s.line.line) s.occurrences s.last_line in
-    let run : IsRunRead lines part part text = subst (IsRunRead lines part part) (sym is)
-    (line-run lines (with_item false s.line.line) (λ b. item-stays false b s.line.line) s.occurrences s.last_line
-    place.line place.column place.rest place.real place.inside begins_run sign) in
+    let run : IsRunRead lines part part text
+    = line-run lines (with_item false s.line.line) (λ b. item-stays false b s.line.line) s.occurrences s.last_line
+    text place plain (apart-sign s.line.include (byte_at 0 text) all.1) some_bytes in
     grind (arith, nat_tests, lexeme-apart s text p here, tokens_from-step, occurrences_from-step)
-  where
-    plain-some : (b : Option ℕ) → holds_plain b ≡ true → IsSome b
-    plain-some x h = search rules
 
 -- the token of a run is added
 pub run-reads-on : (lines : List SourceLine) (old new : List Token)

@@ -1,27 +1,12 @@
 -- The unfolded tags that remain of a text.
 use Rattle.std.proofs.Common.{rules}
-use Rattle.std.proofs.Common.{◌≡◌, ◌∙◌, ℕ, ◌-◌, ◌≤◌, List, [], ◌∷◌, length, take, drop, slice_get, refl, ap}
-use Rattle.std.proofs.Common.{sym, arith, Some, None, min, drop-drop}
-use Rattle.std.proofs.lemmas.List.{length-take, take_min, drop_min, drop-take}
-use Rattle.tangle_text.specs.Runs.{chunks, parts_of}
-use Rattle.tangle_text.specs.declared.runs.RunPart.{RunPart}
-use Rattle.tangle_scan.specs.UnfoldedTags.{part_tag, run_tags, tags_left}
+use Rattle.std.proofs.Common.{◌≡◌, ℕ, ◌-◌, ◌≤◌, List, [], ◌∷◌, length, take, drop, refl}
+use Rattle.std.proofs.Common.{min, drop-drop}
+use Rattle.std.proofs.lemmas.List.{take_min, drop_min, drop-take}
+use Rattle.tangle_scan.specs.UnfoldedTags.{run_tags, tags_left}
 use Rattle.tangle_scan.specs.declared.texts.ItemTag.{ItemTag}
 use Rattle.tangle_scan.specs.declared.texts.ItemKind.TheVariants as tag
-use Rattle.tangle_scan.proofs.lemmas.RunTags.{first_part, no_part, no_run_tags}
-
--- the first part of a run with this number of bytes
-
-pub first_tag_is : (bytes : List ℕ) (run n : ℕ) (tag : ItemTag) (p : RunPart)
-    → run ≤ length bytes → n ≡ run → tag ≡ part_tag p → slice_get (parts_of 0 0 (chunks (take n bytes))) 0 ≡ Some p
-    → (tag.size ≤ run) × (run_tags (take run bytes) ≡ tag ∷ run_tags (drop tag.size (take run bytes)))
-first_tag_is bytes run n tag p low same is found =
-    let first = first_part (take run bytes) p
-    (ap (λ k. slice_get (parts_of 0 0 (chunks (take k bytes))) 0) (sym same) ∙ found) in search rules
-
-pub no_tag_is : (bytes : List ℕ) (run n : ℕ)
-    → run ≤ length bytes → n ≡ run → slice_get (parts_of 0 0 (chunks (take n bytes))) 0 ≡ None → run ≡ 0
-no_tag_is bytes run n low same found = omega (arith, no_part (take n bytes) found, length-take n bytes)
+use Rattle.tangle_scan.proofs.lemmas.RunTags.{no_run_tags}
 
 -- nothing remains
 

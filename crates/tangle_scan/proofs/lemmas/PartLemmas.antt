@@ -1,33 +1,30 @@
 -- What one pass over the tokens of a C part read, and what is left.
 use Rattle.std.proofs.lemmas.Bool.Decides.{nat_tests}
-use Rattle.std.proofs.Common.{rules}
+use Rattle.std.proofs.Common.{rules, subst}
 use Rattle.std.proofs.Common.{◌≡◌, ℕ, Bool, true, false, ◌&&◌, ◌||◌, if◌then◌else◌, refl, ap, Option, None, Some}
 use Rattle.std.proofs.Common.{is_some, List, [], ◌∷◌, ◌++◌, sym, ◌∙◌, append_assoc, append-nil, map, arith}
 use Rattle.std.proofs.Math.Bool.{and-false, or-false, or-true}
 use Rattle.tangle_lexer.specs.declared.tokens.Token.{Token}
-use Rattle.tangle_lexer.specs.declared.tokens.SpanKind.TheVariants as span_kind
 use Rattle.tangle_lexer.specs.declared.tokens.Token.TheVariants as token
 use Rattle.tangle_faults.specs.declared.faults.FaultKind.{FaultKind}
 use Rattle.tangle_lexer.specs.Runs.{is_run, part_token, unfolded_token, IsRunOf}
 use Rattle.tangle_text.specs.declared.runs.RunPart.{RunPart}
 use Rattle.tangle_text.specs.declared.runs.RunPart.TheVariants as part
 use Rattle.tangle_text.specs.declared.spans.Span.{Span}
-use Rattle.tangle_text.specs.Runs.{run_parts, has_single_spaces}
+use Rattle.tangle_text.specs.Runs.{run_parts, are_apart}
 use Rattle.tangle_lines.specs.declared.origin.Origin.{Origin}
 use Rattle.tangle_lines.specs.Reading.{SourceLine, origin_at}
 use Rattle.tangle_scan.specs.declared.items.Item.{Item}
-use Rattle.tangle_scan.specs.declared.items.Item.TheVariants as item
 use Rattle.tangle_scan.specs.declared.parts.CountedOrigin.{CountedOrigin}
 use Rattle.tangle_scan.specs.declared.parts.Last.{Last}
 use Rattle.tangle_scan.specs.declared.parts.Last.TheVariants as last
 use Rattle.tangle_scan.specs.declared.parts.PartState.{PartState}
 use Rattle.tangle_scan.specs.Texts.{TextRead, part_item}
 use Rattle.tangle_scan.specs.Rules.{white_inner_end, would_merge, is_constant}
-use Rattle.tangle_scan.specs.Rules.{may_merge, without_joins, is_gap, left_of_run}
+use Rattle.tangle_scan.specs.Rules.{without_joins, is_gap, left_of_run}
 use Rattle.tangle_lexer.specs.SpanBytes.{ends_in, ends_in_backslash}
 use Rattle.tangle_scan.specs.Rules.{has_join, texts_of, is_continued, at_line_front}
-use Rattle.tangle_text.specs.Bytes.{backslash, slash}
-use Rattle.std.proofs.Common.{◌==◌}
+use Rattle.tangle_text.specs.Bytes.{slash}
 use Rattle.tangle_scan.specs.Rules.{blanks, part_items, is_front_gap}
 use Rattle.tangle_scan.specs.LineTruth.{counted_after_line_end}
 use Rattle.tangle_scan.specs.Passes.{IsPassed, from_gap, start_of_gap, items_after, spaced_after, blank_before, origin_of}
@@ -36,16 +33,12 @@ use Rattle.tangle_scan.specs.Passes.{is_joined, is_item, is_touching, items_by_o
 use Rattle.tangle_scan.specs.Passes.{line_item, items_at, counted_after_token, blank_if}
 use Rattle.tangle_scan.specs.declared.turns.Turn.{Turn}
 use Rattle.tangle_scan.specs.declared.turns.Turn.TheVariants as turn
-use Rattle.tangle_scan.specs.Passes.{turn_after, turn_by, turn_after_run, turn_after_line_end, is_whole}
+use Rattle.tangle_scan.specs.Passes.{turn_after, turn_after_run, turn_after_line_end, is_whole}
 use Rattle.tangle_scan.specs.Passes.{is_number_sign}
-use Rattle.tangle_scan.specs.Directives.{is_turn_word}
-use Rattle.tangle_scan.specs.Rules.{span_text}
-use Rattle.tangle_text.specs.Bytes.{number_sign}
-use Rattle.tangle_lexer.specs.SpanBytes.{first_byte}
 use Rattle.tangle_scan.proofs.lemmas.ItemsByOrigin.{part_items-by_origin}
 use Rattle.tangle_scan.proofs.lemmas.RuleLemmas.{has_join-push, is_solid}
 use Rattle.tangle_scan.proofs.lemmas.SpacingLemmas.{spaced-inside}
-use Rattle.tangle_scan.proofs.lemmas.RunItems.{last_token, run-front, run-number, run-ends, run-merges}
+use Rattle.tangle_scan.proofs.lemmas.RunItems.{is_end, last_token, run-ends}
 
 abbrev white_if : Bool → List Token
 white_if b = if b then token.White ∷ [] else []
@@ -239,10 +232,6 @@ passed-join lines whole items kept at es h =
 abbrev ahead : List SourceLine → Token → Turn → Origin → List Token → List Item
 ahead lines e at counted es = items_after lines (Some e) at counted false (without_joins [] (spaced_after (texts_of lines) e es))
 
-abbrev is_end : Token → Bool
-is_end (token.LineEnd line) = true
-is_end _ = false
-
 solid-front : (e : Token) → is_solid e ≡ true → is_front_gap e ≡ false
 solid-front x h = grind arith
 
@@ -329,20 +318,6 @@ passed-item lines whole items kept at next e es solid run item white last turns 
 
 -- a run
 
-plain-part : (p : RunPart) → is_constant (part_token p) ≡ false
-plain-part x = grind arith
-
-part-solid : (p : RunPart) → is_end (part_token p) ≡ false
-part-solid x = grind arith
-
-last-solid : (e : Token) (ps : List RunPart) → is_end e ≡ false → is_end (last_token e ps) ≡ false
-last-solid e [] solid = solid
-last-solid e (p ∷ ps) solid = last-solid (part_token p) ps (part-solid p)
-
-last-plain : (e : Token) (ps : List RunPart) → is_constant e ≡ false → is_constant (last_token e ps) ≡ false
-last-plain e [] plain = plain
-last-plain e (p ∷ ps) plain = last-plain (part_token p) ps (plain-part p)
-
 -- how much of a turn is on the line after the first part of a run, and after the others
 
 abbrev is_settled : Turn → Bool
@@ -350,80 +325,45 @@ is_settled turn.NoItem = false
 is_settled turn.NumberSign = false
 is_settled at = true
 
-stays : (at : Turn) (sign word : Bool) → is_settled at ≡ true → turn_by at sign word ≡ at
-stays at sign word h = grind arith
-
 run-settled : (texts : List (List ℕ)) (at : Turn) (s : Span) → is_settled (turn_after_run texts at s) ≡ true
 run-settled texts at s = grind arith
 
-first-turn : (texts : List (List ℕ)) (at : Turn) (s : Span) (p : RunPart) (ps : List RunPart)
-    → run_parts texts s ≡ p ∷ ps → is_number_sign texts (part_item p) ≡ false → has_single_spaces true (p ∷ ps) ≡ true
-    → turn_after texts at (part_token p) ≡ turn_after_run texts at s
-first-turn texts at s part.Space ps is number spaces = cc
-first-turn texts turn.NoItem s (part.Sign w) ps is number spaces = rw number refl
-first-turn texts turn.NumberSign s p ps is number spaces = rw is refl
-first-turn texts at s p ps is number spaces = refl
-
 -- the parts of a run after the first one
-parts-ahead : (lines : List SourceLine) (e : Token) (at : Turn) (counted : Origin) (ps : List RunPart) (es : List Token)
-    → is_settled at ≡ true → is_constant e ≡ false → has_single_spaces false ps ≡ true
-    → ahead lines e at counted (map part_token ps ++ es)
+parts-ahead : (lines : List SourceLine) (e : Token) (at : Turn) (counted : Origin) (after_word : Bool)
+    (ps : List RunPart) (es : List Token) → is_settled at ≡ true → is_constant e ≡ false
+    → are_apart false after_word ps ≡ true → ahead lines e at counted (map part_token ps ++ es)
     ≡ map part_item ps ++ ahead lines (last_token e ps) at counted es
-parts-ahead lines e at counted [] es settled plain h = refl
-parts-ahead lines e at counted (part.Word s ∷ ps) es settled plain h =
-    rw (plain, and-false (may_merge (texts_of lines) e), stays at false (is_turn_word (span_text (texts_of lines) s)) settled)
-    (ap (λ t. item.Word s ∷ t) (parts-ahead lines (token.Span span_kind.Word s) at counted ps es settled refl h))
-parts-ahead lines e at counted (part.Sign s ∷ ps) es settled plain h =
-    rw (plain, and-false (may_merge (texts_of lines) e), stays at (first_byte (texts_of lines) s == number_sign) false settled)
-    (ap (λ t. item.Sign s ∷ t) (parts-ahead lines (token.Span span_kind.Sign s) at counted ps es settled refl h))
-parts-ahead lines e at counted (part.Space ∷ part.Word s ∷ ps) es settled plain h =
-    rw (plain, and-false (may_merge (texts_of lines) e), stays at false (is_turn_word (span_text (texts_of lines) s)) settled)
-    (ap (λ t. item.Blank ∷ item.Word s ∷ t)
-    (parts-ahead lines (token.Span span_kind.Word s) at counted ps es settled refl h))
-parts-ahead lines e at counted (part.Space ∷ part.Sign s ∷ ps) es settled plain h =
-    rw (plain, and-false (may_merge (texts_of lines) e), stays at (first_byte (texts_of lines) s == number_sign) false settled)
-    (ap (λ t. item.Blank ∷ item.Sign s ∷ t)
-    (parts-ahead lines (token.Span span_kind.Sign s) at counted ps es settled refl h))
-parts-ahead lines e at counted ps es settled plain h = cc
+parts-ahead lines e at counted after_word [] es settled plain h = refl
+parts-ahead lines e at counted after_word (part.Space ∷ p ∷ ps) es settled plain h =
+    grind (
+      arith,
+      parts-ahead lines (part_token p) at counted false ps es,
+      parts-ahead lines (part_token p) at counted true ps es,
+    )
+parts-ahead lines e at counted after_word (p ∷ ps) es settled plain h =
+    grind (
+      arith,
+      parts-ahead lines (part_token p) at counted false ps es,
+      parts-ahead lines (part_token p) at counted true ps es,
+    )
 
 -- a part that is no space, before others
 part-ahead : (lines : List SourceLine) (whole items kept : List Item) (at : PartState) (s : Span) (p : RunPart)
     (ps : List RunPart) (es : List Token) → run_parts (texts_of lines) s ≡ p ∷ ps
-    → is_number_sign (texts_of lines) (part_item p) ≡ false → has_single_spaces true (p ∷ ps) ≡ true
+    → is_number_sign (texts_of lines) (part_item p) ≡ false → are_apart true true (p ∷ ps) ≡ true
     → IsPassed lines whole items kept at (map part_token (p ∷ ps) ++ es)
     → whole ≡ items
     ++ (blank_if (blank_before lines at (part_token p))
     ++ (map part_item (p ∷ ps)
     ++ ahead lines (last_token (part_token p) ps) (turn_after_run (texts_of lines) at.turn s) (origin_of at.counted) es))
-part-ahead lines whole items kept at s p ps es is number spaces h =
+part-ahead lines whole items kept at s p ps es is number apart h =
     grind (
       arith,
       nat_tests,
       item-ahead lines whole items kept at,
       parts-ahead lines,
-      first-turn (texts_of lines) at.turn s p ps is number spaces,
       run-settled (texts_of lines) at.turn s,
     )
-
-run-passed : (lines : List SourceLine) (whole items kept : List Item) (at : PartState) (s : Span)
-    (parts : List RunPart) (es : List Token) → run_parts (texts_of lines) s ≡ parts → IsRunOf (texts_of lines) s
-    → has_single_spaces true parts ≡ true → IsPassed lines whole items kept at (map part_token parts ++ es) →
-    let new : List Item = (items ++ blank_if (blank_before lines at (token.Run s))) ++ map part_item parts in
-    IsPassed lines whole new new
-    (record at { last = last.Item; has_white = false; item = token.Run s; turn = turn_after_run (texts_of lines) at.turn s }) es
-run-passed lines whole items kept at s [] es is run spaces h = cc
-run-passed lines whole items kept at s (p ∷ ps) es is run spaces h =
-    let texts = texts_of lines in
-    let first : blank_before lines at (part_token p) ≡ blank_before lines at (token.Run s) =
-    -- the first part is read as one with what the run is read as one with, and so is the last part
-    grind (arith, nat_tests, run-front texts s p ps is) in
-    item-passed lines whole _ _ (last_token (part_token p) ps) es refl refl
-    (last-solid (part_token p) ps (part-solid p))
-    (run-ends backslash texts refl refl s p ps is run ∙ run.ends)
-    (run-ends slash texts refl refl s p ps is run)
-    (λ f other. grind (arith, nat_tests, run-merges texts s p ps is run, last-plain (part_token p) ps (plain-part p)))
-    (part-ahead lines whole items kept at s p ps es is (run-number texts s p ps is run.begins) spaces h
-    ∙ rw (first, append_assoc, append_assoc) refl)
 
 pub passed-run : (lines : List SourceLine) (whole items kept : List Item) (at : PartState) (s : Span)
     (es : List Token) → IsRunOf (texts_of lines) s
@@ -433,7 +373,14 @@ pub passed-run : (lines : List SourceLine) (whole items kept : List Item) (at : 
     IsPassed lines whole new new
     (record at { last = last.Item; has_white = false; item = token.Run s; turn = turn_after_run (texts_of lines) at.turn s }) es
 passed-run lines whole items kept at s es run h =
-    run-passed lines whole items kept at s (run_parts (texts_of lines) s) es refl run run.spaces h
+    let ends = run-ends (texts_of lines) s run in
+    let passed = subst (λ ps. IsPassed lines whole items kept at (map part_token ps ++ es)) ends.parts h in
+    let last = ends.last in
+    rw ends.parts
+    (item-passed lines whole _ _ (last_token (part_token ends.first) ends.others) es refl refl last.solid
+    (last.joins ∙ run.ends) last.opens (λ f other. grind (arith, nat_tests, last.merges, last.plain))
+    (part-ahead lines whole items kept at s ends.first ends.others es ends.parts ends.number ends.apart passed
+    ∙ rw (ends.merges at.item, append_assoc, append_assoc) refl))
 
 -- the beginning and the end of a part
 

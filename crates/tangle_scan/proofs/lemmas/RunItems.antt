@@ -1,26 +1,25 @@
 -- The first and the last part of a run.
 use Rattle.std.proofs.lemmas.Bool.Decides.{nat_tests}
-use Rattle.std.proofs.Common.{◌≡◌, ◌≤◌, ℕ, ◌+◌, ◌-◌, true, false, ◌==◌, List, [], ◌∷◌, append-nil, length-append}
-use Rattle.std.proofs.Common.{◌++◌, length, drop, get_or, refl, ap, sym, ◌∙◌, arith, length-drop, append_assoc}
-use Rattle.std.proofs.lemmas.Bool.{lt-leb}
-use Rattle.std.proofs.lemmas.List.{get_or-drop, get_or_append_left, length-take-le}
+use Rattle.std.proofs.Common.{◌≡◌, ◌≤◌, ℕ, ◌+◌, ◌-◌, zero, suc, Bool, true, false, ◌==◌, ◌&&◌, ◌||◌, not}
+use Rattle.std.proofs.Common.{List, [], ◌∷◌, ◌++◌, length, drop, get_or, refl, ap, sym, arith, length-drop}
+use Rattle.std.specs.List.{prefix_len}
+use Rattle.std.proofs.lemmas.List.{get_or-drop, get_or_append_left, length-take-le, take-append-drop}
 use Rattle.tangle_files.specs.Bytes.{space}
-use Rattle.tangle_text.specs.Bytes.{is_word_byte}
+use Rattle.tangle_text.specs.Bytes.{is_word_byte, backslash, slash}
 use Rattle.tangle_text.specs.declared.runs.RunPart.{RunPart}
 use Rattle.tangle_text.specs.declared.spans.Span.{Span}
-use Rattle.tangle_text.specs.Runs.{chunks, part_of, parts_of, run_parts}
+use Rattle.tangle_text.specs.Runs.{part_more, part_at, parts_of, run_parts, are_apart}
+use Rattle.tangle_text.specs.Runs.{quote_size, one_more}
 use Rattle.tangle_text.specs.Text.{span_text}
-use Rattle.tangle_text.proofs.RunChunks.{differs, AreWordBytes, IsChunk, AreChunks, joined, chunks_are, chunks_joined}
-use Rattle.tangle_text.proofs.RunChunks.{chunk_passed, span_chunks, part-by, part-word}
+use Rattle.tangle_text.proofs.PartLemmas.{part-fits}
 use Rattle.tangle_lexer.specs.declared.tokens.Token.{Token}
 use Rattle.tangle_lexer.specs.declared.tokens.Token.TheVariants as token
 use Rattle.tangle_lexer.specs.Runs.{is_run, part_token, unfolded_token, IsRunOf}
-use Rattle.tangle_scan.specs.Rules.{may_merge}
 use Rattle.tangle_lexer.specs.SpanBytes.{first_byte, last_byte, ends_in}
-use Rattle.std.proofs.Common.{subst}
-use Rattle.tangle_text.specs.Bytes.{number_sign}
+use Rattle.tangle_scan.specs.Rules.{may_merge, is_character, is_constant}
 use Rattle.tangle_scan.specs.Texts.{part_item}
-use Rattle.tangle_scan.specs.Passes.{is_merging_byte, is_number_sign}
+use Rattle.tangle_scan.specs.Passes.{is_merging_byte, is_number_sign, would_merge_in_run}
+use Rattle.tangle_scan.proofs.lemmas.RunTags.{part-by, front_byte, next_bytes}
 
 -- a token other than a run stands for itself
 pub unfolded-one : (texts : List (List ℕ)) (e : Token) → ((s : Span) → e ≡ token.Run s → ⊥)
@@ -30,132 +29,120 @@ unfolded-one texts x other = grind arith
 pub no-run : (e : Token) → ((s : Span) → e ≡ token.Run s → ⊥) → is_run e ≡ false
 no-run x other = grind arith
 
--- the first part
+-- the last byte of a part
 
-front-byte : (bytes : List ℕ) (column : ℕ) (c rest : List ℕ) → IsChunk c → drop column bytes ≡ c ++ rest
-    → get_or bytes column 0 ≡ get_or c 0 0
-front-byte bytes column c rest h is = grind (arith, nat_tests, get_or-drop column bytes 0 0)
+prefix-last : (test : ℕ → Bool) (b : ℕ) (bs : List ℕ) → test b ≡ true
+    → test (get_or (b ∷ bs) (prefix_len test bs) 0) ≡ true
+prefix-last test b [] h = h
+prefix-last test b (c ∷ bs) h = grind (arith, nat_tests, prefix-last test c bs)
 
-first-merges : (texts : List (List ℕ)) (line column b : ℕ) (bs : List ℕ)
-    → get_or (get_or texts line []) column 0 ≡ b → may_merge texts (part_token (part_of line column (b ∷ bs))) ≡ is_merging_byte b
-first-merges texts line column b bs is = grind arith
-
--- the first part of a run begins with the first byte
-first-part : (texts : List (List ℕ)) (s : Span) (p : RunPart) (ps : List RunPart) → run_parts texts s ≡ p ∷ ps
-    → (bs : List ℕ) × (p ≡ part_of s.line s.start (first_byte texts s ∷ bs))
-unfolding run_parts
-first-part texts s p ps is =
-    by (chunks (span_text texts s)) (chunks_are (span_text texts s)) (span_chunks texts s) is
+quote-last : (close : ℕ) (escaped : Bool) (bs : List ℕ) → get_or (close ∷ bs) (quote_size close escaped bs) 0 ≡ close
+quote-last close escaped [] = refl
+quote-last close escaped (b ∷ bs) =
+    grind (arith, nat_tests, more _ (quote-last close (b == backslash && not escaped) bs))
   where
-    by : (cs : List (List ℕ)) → AreChunks cs
-        → drop s.start (get_or texts s.line []) ≡ joined cs ++ drop (s.end - s.start) (drop s.start (get_or texts s.line []))
-        → parts_of s.line s.start cs ≡ p ∷ ps → (bs : List ℕ) × (p ≡ part_of s.line s.start (first_byte texts s ∷ bs))
-    by [] h all parts = cc
-    by ([] ∷ cs) h all parts = absurd h.0
-    by ((b ∷ bs) ∷ cs) h all parts =
-        let front = front-byte (get_or texts s.line []) s.start (b ∷ bs) _ h.0 (all ∙ append_assoc (b ∷ bs) (joined cs) _) in
-        (bs, (rw front (sym cc)))
-
-pub run-front : (texts : List (List ℕ)) (s : Span) (p : RunPart) (ps : List RunPart) → run_parts texts s ≡ p ∷ ps
-    → may_merge texts (part_token p) ≡ is_merging_byte (first_byte texts s)
-run-front texts s p ps is =
-    let first = first-part texts s p ps is in
-    rw first.1 (first-merges texts s.line s.start (first_byte texts s) first.0 refl)
-
--- a run that does not begin with the sign #
-pub run-number : (texts : List (List ℕ)) (s : Span) (p : RunPart) (ps : List RunPart) → run_parts texts s ≡ p ∷ ps
-    → (first_byte texts s == number_sign) ≡ false → is_number_sign texts (part_item p) ≡ false
-run-number texts s p ps is other =
-    let first = first-part texts s p ps is in
-    rw first.1 (part-by (λ q. is_number_sign texts (part_item q) ≡ false) s.line s.start (first_byte texts s) first.0
-    (λ h. refl) (λ h word. refl) (λ h word. other))
+    more : (n : ℕ) → get_or (close ∷ bs) n 0 ≡ close → get_or (close ∷ b ∷ bs) (one_more n) 0 ≡ close
+    more zero h = refl
+    more (suc n) h = h
 
 -- the last token of a run that begins with this one
-
 abbrev pub last_token : Token → List RunPart → Token
 last_token e [] = e
 last_token e (p ∷ ps) = last_token (part_token p) ps
 
--- the last byte of a chunk, which begins with `b`
-abbrev last_of : ℕ → List ℕ → ℕ
-last_of b bs = get_or (b ∷ bs) (length bs) 0
+abbrev pub is_end : Token → Bool
+is_end (token.LineEnd line) = true
+is_end _ = false
 
--- `P` is true of the last token of a run, if it is true of the token of each chunk with the last byte of the run
-module _ (texts : List (List ℕ)) (s : Span) (P : Token → Type 0)
-    (chunk : (column b : ℕ) (bs : List ℕ) → IsChunk (b ∷ bs) → get_or (get_or texts s.line []) column 0 ≡ b
-    → last_byte texts s ≡ last_of b bs → P (part_token (part_of s.line column (b ∷ bs)))) where
-  last-chunk : (column : ℕ) (c rest : List ℕ) → s.start ≤ column → column + length c ≡ s.end → IsChunk c
-      → drop column (get_or texts s.line []) ≡ c ++ rest → P (part_token (part_of s.line column c))
-  last-chunk column [] rest low size h is = absurd h
-  last-chunk column (b ∷ bs) rest low size h is =
-      chunk column b bs h (front-byte text column (b ∷ bs) rest h is)
-      (rw (lt-leb s.end s.start (omega (arith, size, low)))
-      (ap (λ k. get_or text k 0) (omega (arith, size)) ∙ sym (get_or-drop column text (length bs) 0)
-      ∙ ap (λ t. get_or t (length bs) 0) is ∙ get_or_append_left (b ∷ bs) rest 0 (length bs) (omega arith)))
-    where
-      text : List ℕ
-      text = get_or texts s.line []
+-- a token with which a run ends, whose last byte is `b`
+pub record EndsRun (texts : List (List ℕ)) (e : Token) (b : ℕ) : Type 0 where
+  pub solid : is_end e ≡ false
+  pub plain : is_constant e ≡ false
+  pub merges : may_merge texts e ≡ is_merging_byte b
+  pub joins : ends_in backslash texts e ≡ (b == backslash)
+  pub opens : ends_in slash texts e ≡ (b == slash)
 
-  last-by : (column : ℕ) (c : List ℕ) (cs : List (List ℕ)) (rest : List ℕ) → s.start ≤ column
-      → column + length (joined (c ∷ cs)) ≡ s.end → AreChunks (c ∷ cs)
-      → drop column (get_or texts s.line []) ≡ joined (c ∷ cs) ++ rest
-      → P (last_token (part_token (part_of s.line column c)) (parts_of s.line (column + length c) cs))
-  last-by column c [] rest low size h is =
-      last-chunk column c rest low (omega (arith, size, ap length (append-nil c))) h.0 (is ∙ ap (λ t. t ++ rest) (append-nil c))
-  last-by column c (d ∷ cs) rest low size h is =
-      last-by (column + length c) d cs rest (omega (arith, low)) (omega (arith, size, length-append c (joined (d ∷ cs)))) h.1
-      (chunk_passed column (get_or texts s.line []) c (d ∷ cs) rest is)
+white-ends : (texts : List (List ℕ)) → EndsRun texts token.White space
+white-ends texts = record { solid = refl; plain = refl; merges = refl; joins = refl; opens = refl }
 
-  run-last : (p : RunPart) (ps : List RunPart) → run_parts texts s ≡ p ∷ ps → IsRunOf texts s
-      → P (last_token (part_token p) ps)
-  unfolding run_parts
-  run-last p ps is run = by (chunks bytes) (chunks_are bytes) (span_chunks texts s) size is
-    where
-      bytes : List ℕ
-      bytes = span_text texts s
+part-ends : (texts : List (List ℕ)) (line column b : ℕ) (bs : List ℕ) → get_or (get_or texts line []) column 0 ≡ b
+    → EndsRun texts (part_token (part_at line column (1 + part_more b bs) b)) (get_or (b ∷ bs) (part_more b bs) 0)
+part-ends texts line column b bs is =
+    part-by (λ p. EndsRun texts (part_token p) (get_or (b ∷ bs) (part_more b bs) 0)) line column _ b
+    (λ blank. rw blank (white-ends texts))
+    (λ word. let last = prefix-last is_word_byte b bs word in rw word (grind (arith, nat_tests)))
+    (λ word quote. rw (word, quote, quote-last b false bs) (grind (arith, nat_tests)))
+    (λ word quote. rw (word, quote) (grind (arith, nat_tests)))
 
-      text : List ℕ
-      text = drop s.start (get_or texts s.line [])
+parts-end : (texts : List (List ℕ)) (line column k last : ℕ) (bs rest : List ℕ) (e : Token)
+    → drop column (get_or texts line []) ≡ bs ++ rest → k ≤ length bs → EndsRun texts e (get_or (last ∷ bs) k 0)
+    → EndsRun texts (last_token e (parts_of line column k bs)) (get_or (last ∷ bs) (length bs) 0)
+parts-end texts line column zero last [] rest e is low h = h
+parts-end texts line column (suc k) last [] rest e is low h = absurd (omega arith)
+parts-end texts line column (suc k) last (b ∷ bs) rest e is low h =
+    parts-end texts line (column + 1) k b bs rest e (next_bytes texts line column b bs rest is) (omega arith) h
+parts-end texts line column zero last (b ∷ bs) rest e is low h =
+    parts-end texts line (column + 1) (part_more b bs) b bs rest _ (next_bytes texts line column b bs rest is)
+    (part-fits b bs)
+    (part-ends texts line column b bs (front_byte texts line column b bs rest is))
 
-      size : s.start + length (joined (chunks bytes)) ≡ s.end
-      size = omega (
-        arith,
-        ap length (chunks_joined bytes),
-        run.span.start,
-        length-take-le (s.end - s.start) text (omega (arith, run.span.end, length-drop s.start (get_or texts s.line []))),
-      )
+-- the first part, a word or a sign, is read as one with what the run is read as one with
+first-merges : (texts : List (List ℕ)) (s : Span) (size b : ℕ) (ps : List RunPart) (e : Token) →
+    let p : RunPart = part_at s.line s.start size b in
+    first_byte texts s ≡ b → are_apart true true (p ∷ ps) ≡ true
+    → would_merge_in_run texts e (part_token p) ≡ would_merge_in_run texts e (token.Run s)
+first-merges texts s size b ps x is apart =
+    let e : Token = part_token (part_at s.line s.start size b) in
+    let merges : (may_merge texts e || is_character texts e) ≡ is_merging_byte (first_byte texts s)
+    = grind (arith, nat_tests) in
+    grind (arith, merges)
 
-      by : (cs : List (List ℕ)) → AreChunks cs → text ≡ joined cs ++ drop (s.end - s.start) text
-          → s.start + length (joined cs) ≡ s.end → parts_of s.line s.start cs ≡ p ∷ ps → P (last_token (part_token p) ps)
-      by [] h all size is = cc
-      by (c ∷ cs) h all size is =
-          subst (λ qs. P (last_token token.White qs)) is (last-by s.start c cs _ (omega arith) size h all)
+-- what a run has by its first part, which begins with its first byte, and by its last part
+pub record HasEnds (texts : List (List ℕ)) (s : Span) : Type 0 where
+  pub first : RunPart
+  pub others : List RunPart
+  pub parts : run_parts texts s ≡ first ∷ others
+  pub apart : are_apart true true (first ∷ others) ≡ true
+  pub number : is_number_sign texts (part_item first) ≡ false
+  pub merges : (e : Token) → would_merge_in_run texts e (part_token first) ≡ would_merge_in_run texts e (token.Run s)
+  pub last : EndsRun texts (last_token (part_token first) others) (last_byte texts s)
 
-words-last : (b : ℕ) (bs : List ℕ) → AreWordBytes (b ∷ bs) → is_word_byte (last_of b bs) ≡ true
-words-last b [] h = h.0
-words-last b (c ∷ bs) h = words-last c bs h.1
-
-pub run-merges : (texts : List (List ℕ)) (s : Span) (p : RunPart) (ps : List RunPart)
-    → run_parts texts s ≡ p ∷ ps → IsRunOf texts s
-    → may_merge texts (last_token (part_token p) ps) ≡ is_merging_byte (last_byte texts s)
-run-merges texts s = run-last texts s (λ e. may_merge texts e ≡ is_merging_byte (last_byte texts s)) by
+pub run-ends : (texts : List (List ℕ)) (s : Span) → IsRunOf texts s → HasEnds texts s
+unfolding run_parts
+run-ends texts s run =
+    by (span_text texts s) _ (sym (take-append-drop (s.end - s.start) (drop s.start text))) size refl run.apart
   where
-    by : (column b : ℕ) (bs : List ℕ) → IsChunk (b ∷ bs) → get_or (get_or texts s.line []) column 0 ≡ b
-        → last_byte texts s ≡ last_of b bs
-        → may_merge texts (part_token (part_of s.line column (b ∷ bs))) ≡ is_merging_byte (last_byte texts s)
-    by column b [] h first last = rw last (first-merges texts s.line column b [] first)
-    by column b (c ∷ bs) h first last =
-        first-merges texts s.line column b (c ∷ bs) first ∙ rw (last, h.0, words-last b (c ∷ bs) h) refl
+    text : List ℕ
+    text = get_or texts s.line []
 
--- a byte that is no word byte and no space
-pub run-ends : (n : ℕ) (texts : List (List ℕ)) → is_word_byte n ≡ false → (n == space) ≡ false
-    → (s : Span) (p : RunPart) (ps : List RunPart) → run_parts texts s ≡ p ∷ ps → IsRunOf texts s
-    → ends_in n texts (last_token (part_token p) ps) ≡ (last_byte texts s == n)
-run-ends n texts word white s = run-last texts s (λ e. ends_in n texts e ≡ (last_byte texts s == n)) by
-  where
-    by : (column b : ℕ) (bs : List ℕ) → IsChunk (b ∷ bs) → get_or (get_or texts s.line []) column 0 ≡ b
-        → last_byte texts s ≡ last_of b bs
-        → ends_in n texts (part_token (part_of s.line column (b ∷ bs))) ≡ (last_byte texts s == n)
-    by column b [] h first last = rw last (grind (arith, nat_tests, part-by, differs))
-    by column b (c ∷ bs) h first last =
-        rw (last, part-word s.line column b (c ∷ bs) h.0, differs is_word_byte _ n (words-last b (c ∷ bs) h) word) refl
+    size : s.start + length (span_text texts s) ≡ s.end
+    size = omega (
+      arith,
+      run.span.start,
+      length-take-le (s.end - s.start) (drop s.start text) (omega (arith, run.span.end, length-drop s.start text)),
+    )
+
+    by : (bs rest : List ℕ) → drop s.start text ≡ bs ++ rest → s.start + length bs ≡ s.end → span_text texts s ≡ bs
+        → are_apart true true (parts_of s.line s.start 0 bs) ≡ true → HasEnds texts s
+    by [] rest all fits same apart = cc
+    by (b ∷ bs) rest all fits same apart =
+        let m : ℕ = part_more b bs in
+        let is = front_byte texts s.line s.start b bs rest all in
+        let last : last_byte texts s ≡ get_or (b ∷ bs) (length bs) 0
+        = grind (
+          arith,
+          nat_tests,
+          get_or-drop s.start text (length bs) 0,
+          get_or_append_left (b ∷ bs) rest 0 (length bs) (omega arith),
+        ) in
+        record {
+          first = part_at s.line s.start (1 + m) b;
+          others = parts_of s.line (s.start + 1) m bs;
+          parts = ap (parts_of s.line s.start 0) same;
+          apart = apart;
+          number = part-by (λ q. is_number_sign texts (part_item q) ≡ false) s.line s.start (1 + m) b
+              (λ h. refl) (λ h. refl) (λ h other. refl) (λ h other. run.begins);
+          merges = λ e. first-merges texts s (1 + m) b (parts_of s.line (s.start + 1) m bs) e is apart;
+          last = rw last
+              (parts-end texts s.line s.start 0 space (b ∷ bs) rest token.White all (omega arith) (white-ends texts));
+        }

@@ -1,98 +1,121 @@
 -- The parts of a run have its bytes.
 use Rattle.std.proofs.Common.{rules}
-use Rattle.std.proofs.Common.{◌≡◌, ◌∙◌, ℕ, ◌+◌, ◌-◌, ◌≤◌, true, eqb, List, [], ◌∷◌, ◌++◌, length, map, take, drop}
-use Rattle.std.proofs.Common.{get_or, refl, ap, sym, subst, arith, append_assoc, slice_get, Some, None}
-use Rattle.std.proofs.Common.{length-append}
+use Rattle.std.proofs.lemmas.Bool.Decides.{nat_tests}
+use Rattle.std.proofs.Common.{◌≡◌, ◌∙◌, ℕ, ◌+◌, ◌-◌, ◌≤◌, true, false, zero, suc, List, [], ◌∷◌, ◌++◌}
+use Rattle.std.proofs.Common.{length, map, take, drop, get_or, refl, ap, sym, arith, slice_get, Some, None, drop-drop}
 use Rattle.std.specs.Prelude.{flat_map}
-use Rattle.std.proofs.Math.Seq.{take-append_seam}
-use Rattle.tangle_files.specs.Bytes.{space}
-use Rattle.tangle_text.specs.Runs.{chunks, part_of, parts_of, run_parts}
+use Rattle.std.proofs.lemmas.List.{take-append-le, take-append-drop, length-take-le, get_or-drop}
+use Rattle.tangle_text.specs.Bytes.{is_word_byte}
+use Rattle.tangle_text.specs.Runs.{is_quote, part_more, part_at, parts_of, run_parts}
 use Rattle.tangle_text.specs.Text.{span_text}
-use Rattle.tangle_text.specs.declared.spans.Span.{Span}
-use Rattle.tangle_text.proofs.RunChunks.{IsChunk, AreChunks, joined, first_size, chunks_are, chunks_joined}
-use Rattle.tangle_text.proofs.RunChunks.{chunks_after, chunk_passed, span_chunks, part-by}
 use Rattle.tangle_text.specs.declared.runs.RunPart.{RunPart}
-use Rattle.tangle_scan.specs.Texts.{part_item}
+use Rattle.tangle_text.specs.declared.runs.RunPart.TheVariants as part
+use Rattle.tangle_text.specs.declared.spans.Span.{Span}
+use Rattle.tangle_files.specs.Bytes.{space}
+use Rattle.tangle_text.proofs.PartLemmas.{part-fits}
+use Rattle.tangle_scan.specs.Texts.{part_item, tag_of}
+use Rattle.tangle_scan.specs.declared.items.Item.{Item}
 use Rattle.tangle_scan.specs.ItemBytes.{bytes_in}
-use Rattle.tangle_scan.specs.UnfoldedTags.{chunk_tag, part_tag, run_tags}
-
-pub chunk_size : (c : List ℕ) → IsChunk c → (chunk_tag c).size ≡ length c
-chunk_size c h = search rules
-
-pub part_moved : (line column : ℕ) (c : List ℕ) → part_tag (part_of line column c) ≡ chunk_tag c
-part_moved line column c = search rules
+use Rattle.tangle_scan.specs.UnfoldedTags.{part_tag, run_tags}
 
 pub no_run_tags : run_tags [] ≡ []
 unfolding run_tags
 no_run_tags = refl
 
+-- what holds of a space, a word, a quoted text and a sign holds of the part
+pub part-by : (P : RunPart → Type 0) (line column size b : ℕ) →
+    let s : Span = record { line = line; start = column; end = column + size } in
+    (b ≡ space → P part.Space) → (is_word_byte b ≡ true → P (part.Word s))
+    → (is_word_byte b ≡ false → is_quote b ≡ true → P (part.Quoted s))
+    → (is_word_byte b ≡ false → is_quote b ≡ false → P (part.Sign s)) → P (part_at line column size b)
+part-by P line column size b blank word quoted sign = grind (arith, nat_tests)
+
+pub part_size : (line column b : ℕ) (bs : List ℕ)
+    → (part_tag (part_at line column (1 + part_more b bs) b)).size ≡ suc (part_more b bs)
+part_size line column b bs = grind (arith, nat_tests)
+
+-- the tags of parts, wherever they are
+tags_from : (line column k : ℕ) (bs : List ℕ) → map part_tag (parts_of line column k bs) ≡ run_tags (drop k bs)
+unfolding run_tags
+tags_from line column zero [] = refl
+tags_from line column (suc k) [] = refl
+tags_from line column (suc k) (b ∷ bs) = tags_from line (column + 1) k bs
+tags_from line column zero (b ∷ bs) =
+    let same = tags_from line (column + 1) (part_more b bs) bs ∙ sym (tags_from 0 1 (part_more b bs) bs) in
+    search rules
+
 -- the first part of a run
 
-pub record IsFirstPart (bs : List ℕ) (p : RunPart) : Type 0 where
-  pub fits : (part_tag p).size ≤ length bs
-  pub tags : run_tags bs ≡ part_tag p ∷ run_tags (drop ((part_tag p).size) bs)
-
-pub first_part : (bs : List ℕ) (p : RunPart)
-    → slice_get (parts_of 0 0 (chunks bs)) 0 ≡ Some p → IsFirstPart bs p
+pub first_part : (bs : List ℕ) (p : RunPart) → slice_get (parts_of 0 0 0 bs) 0 ≡ Some p
+    → ((part_tag p).size ≤ length bs) × (run_tags bs ≡ part_tag p ∷ run_tags (drop ((part_tag p).size) bs))
 unfolding run_tags
-first_part bs p is = go (chunks bs) refl
-  where
-    go : (cs : List (List ℕ)) → chunks bs ≡ cs → IsFirstPart bs p
-    go [] e =
-        let none : slice_get (parts_of 0 0 []) 0 ≡ Some p = ap (λ l. slice_get (parts_of 0 0 l) 0) (sym e) ∙ is in
-        cc
-    go (c ∷ cs) e =
-        let first : Some (part_of 0 0 c) ≡ Some p = ap (λ l. slice_get (parts_of 0 0 l) 0) (sym e) ∙ is in
-        let same : part_of 0 0 c ≡ p = cc in
-        let chunk : AreChunks (c ∷ cs) = subst AreChunks e (chunks_are bs) in
-        let size : (part_tag p).size ≡ length c = ap (λ q. (part_tag q).size) (sym same) ∙ chunk_size c chunk.0 in
-        let after : chunks (drop (length c) bs) ≡ cs =
-        ap (λ l. chunks (drop (first_size l) bs)) (sym e) ∙ chunks_after bs ∙ ap (drop 1) e in
-        record {
-          fits = omega (arith, ap length (chunks_joined bs), ap (λ l. length (joined l)) e, length-append c (joined cs));
-          tags = search rules;
-        }
+first_part [] p is = cc
+first_part (b ∷ bs) p is =
+    let after = tags_from 0 1 (part_more b bs) bs in
+    search (rules, part_size 0 0 b bs, part-fits b bs)
 
-pub no_part : (bs : List ℕ) → slice_get (parts_of 0 0 (chunks bs)) 0 ≡ None → length bs ≡ 0
-no_part bs is = go (chunks bs) refl
-  where
-    go : (cs : List (List ℕ)) → chunks bs ≡ cs → length bs ≡ 0
-    go [] e = ap length (sym (chunks_joined bs) ∙ ap joined e)
-    go (c ∷ cs) e =
-        let some : Some (part_of 0 0 c) ≡ None = ap (λ l. slice_get (parts_of 0 0 l) 0) (sym e) ∙ is in
-        cc
+pub no_part : (bs : List ℕ) → slice_get (parts_of 0 0 0 bs) 0 ≡ None → bs ≡ []
+no_part [] is = refl
+no_part (b ∷ bs) is = cc
 
--- the items of a run have its bytes
+-- the items of a run have its bytes, and the tags of its parts
 
-pub part_bytes : (texts : List (List ℕ)) (line column : ℕ) (c rest : List ℕ)
-    → IsChunk c → drop column (get_or texts line []) ≡ c ++ rest
-    → bytes_in texts (part_item (part_of line column c)) ≡ c
-part_bytes texts line column [] rest h is = absurd h
-part_bytes texts line column (b ∷ bs) rest h is =
-    part-by (λ p. bytes_in texts (part_item p) ≡ b ∷ bs) line column b bs (one bs h) (λ _ word. own) (λ _ sign. own)
-  where
-    size : column + length (b ∷ bs) - column ≡ length (b ∷ bs)
-    size = search rules
+tagged : (texts : List (List ℕ)) (p : RunPart) → length (bytes_in texts (part_item p)) ≡ (part_tag p).size
+    → tag_of texts (part_item p) ≡ part_tag p
+tagged texts x h = grind arith
 
-    own : take (column + length (b ∷ bs) - column) (drop column (get_or texts line [])) ≡ b ∷ bs
-    own =
-        ap (λ n. take n (drop column (get_or texts line []))) size
-        ∙ ap (take (length (b ∷ bs))) is ∙ take-append_seam (b ∷ bs) rest
+module _ (texts : List (List ℕ)) (line column b : ℕ) (bs rest : List ℕ)
+    (is : drop column (get_or texts line []) ≡ b ∷ bs ++ rest) where
+  abbrev more : ℕ
+  more = part_more b bs
 
-    one : (l : List ℕ) → IsChunk (b ∷ l) → eqb b space ≡ true → space ∷ [] ≡ b ∷ l
-    one [] chunk same = search rules
-    one (c ∷ cs) words same = search rules
+  abbrev p : RunPart
+  p = part_at line column (1 + more) b
 
-parts_bytes : (texts : List (List ℕ)) (line column : ℕ) (cs : List (List ℕ)) (rest : List ℕ)
-    → AreChunks cs → drop column (get_or texts line []) ≡ joined cs ++ rest
-    → flat_map (bytes_in texts) (map part_item (parts_of line column cs)) ≡ joined cs
-parts_bytes texts line column [] rest h is = refl
-parts_bytes texts line column (c ∷ cs) rest h is = λ i.
-    part_bytes texts line column c (joined cs ++ rest) h.0 (is ∙ append_assoc c (joined cs) rest) i
-    ++ parts_bytes texts line (column + length c) cs rest h.1
-    (chunk_passed column (get_or texts line []) c cs rest is) i
+  part_bytes : bytes_in texts (part_item p) ≡ b ∷ take more bs
+  part_bytes =
+      part-by (λ q. bytes_in texts (part_item q) ≡ b ∷ take more bs) line column (1 + more) b
+      (λ blank. rw blank refl) (λ _. own) (λ _ _. own) (λ _ _. own)
+    where
+      size : column + (1 + more) - column ≡ suc more
+      size = omega arith
 
-pub run_bytes : (texts : List (List ℕ)) (s : Span)
-    → flat_map (bytes_in texts) (map part_item (run_parts texts s)) ≡ span_text texts s
-unfolding run_parts
-run_bytes texts s = search (rules, parts_bytes, chunks_are, span_chunks, chunks_joined)
+      own : take (column + (1 + more) - column) (drop column (get_or texts line [])) ≡ b ∷ take more bs
+      own = rw (size, is) (ap (λ l. b ∷ l) (take-append-le more bs rest (part-fits b bs)))
+
+  part_tagged : tag_of texts (part_item p) ≡ part_tag p
+  part_tagged =
+      let long : length (b ∷ take more bs) ≡ suc more = ap suc (length-take-le more bs (part-fits b bs)) in
+      tagged texts p (ap length part_bytes ∙ long ∙ sym (part_size line column b bs))
+
+  pub front_byte : get_or (get_or texts line []) column 0 ≡ b
+  front_byte = grind (arith, nat_tests, get_or-drop column (get_or texts line []) 0 0)
+
+  pub next_bytes : drop (column + 1) (get_or texts line []) ≡ bs ++ rest
+  next_bytes = sym (drop-drop 1 column (get_or texts line [])) ∙ ap (drop 1) is
+
+module _ (texts : List (List ℕ)) where
+  parts_read : (line column k : ℕ) (bs rest : List ℕ) → drop column (get_or texts line []) ≡ bs ++ rest →
+      let items : List Item = map part_item (parts_of line column k bs) in
+      (flat_map (bytes_in texts) items ≡ drop k bs)
+      × (map (tag_of texts) items ≡ map part_tag (parts_of line column k bs))
+  parts_read line column zero [] rest is = (refl, refl)
+  parts_read line column (suc k) [] rest is = (refl, refl)
+  parts_read line column (suc k) (b ∷ bs) rest is =
+      parts_read line (column + 1) k bs rest (next_bytes texts line column b bs rest is)
+  parts_read line column zero (b ∷ bs) rest is =
+      let m : ℕ = part_more b bs in
+      let after = parts_read line (column + 1) m bs rest (next_bytes texts line column b bs rest is) in (
+        rw (part_bytes texts line column b bs rest is, after.0) (ap (λ l. b ∷ l) (take-append-drop m bs)),
+        λ i. part_tagged texts line column b bs rest is i ∷ after.1 i,
+      )
+
+  pub run_read : (s : Span) →
+      let items : List Item = map part_item (run_parts texts s) in
+      let bytes : List ℕ = span_text texts s in
+      (flat_map (bytes_in texts) items ≡ bytes) × (map (tag_of texts) items ≡ run_tags bytes)
+  unfolding run_parts
+  run_read s =
+      let line : List ℕ = drop s.start (get_or texts s.line []) in
+      let is = parts_read s.line s.start 0 (span_text texts s) _ (sym (take-append-drop (s.end - s.start) line)) in
+      (is.0, is.1 ∙ tags_from s.line s.start 0 (span_text texts s))

@@ -1,16 +1,15 @@
 -- Items and runs are put at the end of a text, and a text is cut back.
 use Rattle.std.proofs.Common.{rules}
-use Rattle.std.proofs.Common.{◌≡◌, ◌∙◌, ◌≤◌, ℕ, ◌+◌, List, [], ◌∷◌, ◌++◌, map, length, take, drop, get_or, refl, sym, subst}
+use Rattle.std.proofs.Common.{◌≡◌, ◌≤◌, ℕ, ◌+◌, List, [], ◌∷◌, ◌++◌, map, length, take, drop, refl, sym, subst}
 use Rattle.std.proofs.Common.{append_assoc, append-nil, arith, length-append, length-drop}
 use Rattle.std.specs.Prelude.{flat_map}
 use Rattle.std.proofs.lemmas.List.{map-append, take_all, take-append-le, drop-append-le}
 use Rattle.std.proofs.lemmas.List.Concat.{flat_map-append}
 use Rattle.std.proofs.Math.Seq.{take-append_seam}
-use Rattle.tangle_text.specs.Runs.{chunks, part_of, parts_of, run_parts}
+use Rattle.tangle_text.specs.Runs.{run_parts}
 use Rattle.tangle_text.specs.Text.{span_text}
 use Rattle.tangle_text.specs.declared.spans.Span.{Span}
 use Rattle.tangle_text.specs.declared.runs.RunPart.{RunPart}
-use Rattle.tangle_text.proofs.RunChunks.{IsChunk, AreChunks, joined, chunks_are, chunk_passed, span_chunks}
 use Rattle.tangle_files.specs.Bytes.{space}
 use Rattle.tangle_scan.specs.declared.items.Item.{Item}
 use Rattle.tangle_scan.specs.declared.items.Item.TheVariants as item
@@ -21,8 +20,8 @@ use Rattle.tangle_scan.specs.ItemBytes.{bytes_in}
 use Rattle.tangle_scan.specs.Passes.{HasSize, cut_to, size_of}
 use Rattle.tangle_scan.specs.Texts.{TextRead, IsTextOf, item_kind, item_origins, item_uses, no_text, part_item, tag_of}
 use Rattle.tangle_scan.specs.Texts.{with_items, with_run}
-use Rattle.tangle_scan.specs.UnfoldedTags.{StandFor, chunk_tag, kind_tags, part_tag, run_tags, tag_sizes, unfolded_tags}
-use Rattle.tangle_scan.proofs.lemmas.RunTags.{chunk_size, part_bytes, part_moved, run_bytes}
+use Rattle.tangle_scan.specs.UnfoldedTags.{StandFor, kind_tags, tag_sizes, unfolded_tags}
+use Rattle.tangle_scan.proofs.lemmas.RunTags.{run_read}
 
 -- tags that have all of their bytes stand for themselves and for those after them
 
@@ -96,40 +95,18 @@ module _ (texts : List (List ℕ)) where
     marks = rw (flat_map-append item_origins items more, h.marks) refl;
   }
 
-  -- the tags of the parts of a run
-
-  kind-tagged : (p : RunPart) → item_kind (part_item p) ≡ (part_tag p).kind
-  kind-tagged x = grind arith
-
-  part-tagged : (line column : ℕ) (c rest : List ℕ)
-      → IsChunk c → drop column (get_or texts line []) ≡ c ++ rest
-      → tag_of texts (part_item (part_of line column c)) ≡ chunk_tag c
-  part-tagged line column c rest h is = search (rules, part_moved, kind-tagged, part_bytes, chunk_size)
-
-  parts-tagged : (line column : ℕ) (cs : List (List ℕ)) (rest : List ℕ)
-      → AreChunks cs → drop column (get_or texts line []) ≡ joined cs ++ rest
-      → map (tag_of texts) (map part_item (parts_of line column cs)) ≡ map chunk_tag cs
-  parts-tagged line column [] rest h is = refl
-  parts-tagged line column (c ∷ cs) rest h is = λ i.
-      part-tagged line column c (joined cs ++ rest) h.0 (is ∙ append_assoc c (joined cs) rest) i
-      ∷ parts-tagged line (column + length c) cs rest h.1
-      (chunk_passed column (get_or texts line []) c cs rest is) i
-
-  run-tagged : (s : Span) → run_tags (span_text texts s) ≡ map (tag_of texts) (map part_item (run_parts texts s))
-  unfolding run_parts run_tags
-  run-tagged s = sym (parts-tagged s.line s.start (chunks (span_text texts s)) _ (chunks_are (span_text texts s)) (span_chunks texts s))
-
   pub text-run : (items : List Item) (s : Span) (text : TextRead) → IsTextOf texts items text
       → IsTextOf texts (items ++ map part_item (run_parts texts s)) (with_run texts text s)
   text-run items s text h =
       let parts = run_parts texts s in
+      let run = run_read texts s in
       -- a run uses no occurrence, and has no mark
       let no_use = of-no-part item_uses (λ x. grind arith) parts in
       let no_mark = of-no-part item_origins (λ x. grind arith) parts in
       record {
-        tags = rw (map-append (tag_of texts) items (map part_item parts), ← run-tagged s)
+        tags = rw (map-append (tag_of texts) items (map part_item parts), run.1)
             (stand_append text.tags _ text.bytes _ _ _ h.tags (stand_one (record { kind = tag.Run; size = length (span_text texts s) }) (span_text texts s) refl));
-        bytes = rw (flat_map-append (bytes_in texts) items (map part_item parts), h.bytes, run_bytes texts s) refl;
+        bytes = rw (flat_map-append (bytes_in texts) items (map part_item parts), h.bytes, run.0) refl;
         uses = rw (flat_map-append item_uses items (map part_item parts), no_use, append-nil (flat_map item_uses items)) h.uses;
         marks = rw (flat_map-append item_origins items (map part_item parts), no_mark, append-nil (flat_map item_origins items)) h.marks;
       }

@@ -9,7 +9,6 @@ use Rattle.tangle_files.specs.Lines.{FileTable}
 use Rattle.tangle_lines.specs.Reading.{SourceLine}
 use Rattle.tangle_text.specs.declared.spans.Span.{Span}
 use Rattle.tangle_text.specs.declared.runs.RunPart.{RunPart}
-use Rattle.tangle_text.specs.declared.runs.RunPart.TheVariants as part
 use Rattle.tangle_text.specs.Runs.{run_parts}
 use Rattle.tangle_lexer.specs.declared.tokens.Token.{Token}
 use Rattle.tangle_lexer.specs.declared.tokens.Token.TheVariants as token
@@ -18,23 +17,21 @@ use Rattle.tangle_lexer.specs.declared.tokens.SpanKind.TheVariants as span_kind
 use Rattle.tangle_lexer.specs.Heads.{is_head}
 use Rattle.tangle_lexer.specs.Runs.{part_token, unfolded_token, unfolded, HasNoRun}
 use Rattle.tangle_scan.specs.Web.{is_all_macros}
-use Rattle.std.proofs.Common.{ℕ, suc, true, ◌++◌, ap, Option, Some, None}
+use Rattle.std.proofs.Common.{ℕ, suc, true, ◌++◌, ap, Option, Some, None, is_some}
 use Rattle.std.specs.List.{All}
-use Rattle.tangle_text.specs.Runs.{has_single_spaces}
+use Rattle.tangle_text.specs.Runs.{are_apart}
 use Rattle.tangle_lexer.specs.Runs.{IsRunIn}
 use Rattle.tangle_scan.specs.Rules.{texts_of}
 use Rattle.tangle_scan.specs.Web.{own_fault, raw_fault, token_faults, quoted_ahead, last_word, word_at_end}
 
--- a test that neither a run nor a part of one passes: the parts are white space, words and signs
+-- a test that neither a run nor a part of one passes: the parts are white space and spans
 
 module _ (test : Token → Bool) (white : test token.White ≡ false)
     (span : (kind : SpanKind) (s : Span) → test (token.Span kind s) ≡ false)
     (run : (s : Span) → test (token.Run s) ≡ false) (texts : List (List ℕ)) where
   any-parts : (xs : List RunPart) → list_any test (map part_token xs) ≡ false
   any-parts [] = refl
-  any-parts (part.Word s ∷ xs) = rw (span span_kind.Word s) (any-parts xs)
-  any-parts (part.Sign s ∷ xs) = rw (span span_kind.Sign s) (any-parts xs)
-  any-parts (part.Space ∷ xs) = rw white (any-parts xs)
+  any-parts (x ∷ xs) = grind (arith, white, span, any-parts xs)
 
   any-token : (t : Token) → list_any test (unfolded_token texts t) ≡ test t
   any-token (token.Run s) = any-parts (run_parts texts s) ∙ sym (run s)
@@ -48,34 +45,38 @@ pub all_macros-unfolded : (texts : List (List ℕ)) (ts : List Token)
     → list_any is_all_macros (unfolded texts ts) ≡ list_any is_all_macros ts
 all_macros-unfolded texts ts = any-unfolded is_all_macros refl (λ kind s. refl) (λ s. refl) texts ts
 
--- no part of a run is a fault or a quoted text
+-- no part of a run is a fault, and no quoted text of a run follows a word
 
-parts-faults : (files : FileTable) (lines : List SourceLine) (word : Option Span) (xs : List RunPart) (ts : List Token)
+parts-faults : (files : FileTable) (lines : List SourceLine) (after_space after_word : Bool) (word : Option Span)
+    (xs : List RunPart) (ts : List Token) → are_apart after_space after_word xs ≡ true
+    → (is_some word ≡ true → after_word ≡ true)
     → token_faults files lines word (map part_token xs ++ ts) ≡ token_faults files lines (last_word word xs) ts
-parts-faults files lines word [] ts = refl
-parts-faults files lines None (part.Word s ∷ xs) ts = parts-faults files lines (Some s) xs ts
-parts-faults files lines (Some w) (part.Word s ∷ xs) ts = parts-faults files lines (Some s) xs ts
-parts-faults files lines word (x ∷ xs) ts = parts-faults files lines None xs ts
+parts-faults files lines after_space after_word word [] ts h may = refl
+parts-faults files lines after_space after_word word (x ∷ xs) ts h may =
+    grind (
+      arith,
+      parts-faults files lines true false None xs ts,
+      parts-faults files lines false false None xs ts,
+      λ (s : Span). parts-faults files lines false true (Some s) xs ts,
+    )
 
 -- a run has parts
-first-word : (word : Option Span) (xs : List RunPart) → has_single_spaces true xs ≡ true
+first-word : (word : Option Span) (xs : List RunPart) → are_apart true true xs ≡ true
     → last_word word xs ≡ last_word None xs
 first-word word [] h = cc
-first-word word (part.Space ∷ xs) h = refl
-first-word word (x ∷ xs) h = refl
+first-word word (x ∷ xs) h = grind arith
 
 -- a run begins with no quoted text, nor do its parts
-ahead-parts : (xs : List RunPart) (ts : List Token) → has_single_spaces true xs ≡ true
+ahead-parts : (xs : List RunPart) (ts : List Token) → are_apart true true xs ≡ true
     → quoted_ahead (map part_token xs ++ ts) ≡ None
 ahead-parts [] ts h = cc
-ahead-parts (part.Space ∷ xs) ts h = refl
-ahead-parts (x ∷ xs) ts h = refl
+ahead-parts (x ∷ xs) ts h = grind arith
 
 ahead-unfolded : (lines : List SourceLine) (ts : List Token) → All (IsRunIn (texts_of lines)) ts
     → quoted_ahead (unfolded (texts_of lines) ts) ≡ quoted_ahead ts
 ahead-unfolded lines [] runs = refl
 ahead-unfolded lines (token.Run s ∷ ts) runs =
-    ahead-parts (run_parts (texts_of lines) s) (unfolded (texts_of lines) ts) (runs 0 (token.Run s) (omega arith)).spaces
+    ahead-parts (run_parts (texts_of lines) s) _ (runs 0 (token.Run s) (omega arith)).apart
 ahead-unfolded lines (token.Fault kind line ∷ ts) runs = ahead-unfolded lines ts (λ k d low. runs (suc k) d (omega arith))
 ahead-unfolded lines (token.Span span_kind.Quoted s ∷ ts) runs = refl
 ahead-unfolded lines (t ∷ ts) runs = grind arith
@@ -86,10 +87,11 @@ pub faults-unfolded : (files : FileTable) (lines : List SourceLine) (word : Opti
 faults-unfolded files lines word [] runs = refl
 faults-unfolded files lines word (token.Run s ∷ ts) runs =
     let run = runs 0 (token.Run s) (omega arith) in
-    parts-faults files lines word (run_parts (texts_of lines) s) (unfolded (texts_of lines) ts)
-    ∙ (ap (λ w. token_faults files lines w (unfolded (texts_of lines) ts)) (first-word word (run_parts (texts_of lines) s) run.spaces)
-    ∙ (faults-unfolded files lines (last_word None (run_parts (texts_of lines) s)) ts (λ k d low. runs (suc k) d (omega arith))
-    ∙ (grind arith)))
+    let parts = run_parts (texts_of lines) s in
+    let more = unfolded (texts_of lines) ts in
+    parts-faults files lines true true word parts more run.apart (λ _. refl)
+    ∙ (ap (λ w. token_faults files lines w more) (first-word word parts run.apart)
+    ∙ (faults-unfolded files lines (last_word None parts) ts (λ k d low. runs (suc k) d (omega arith)) ∙ grind arith))
 faults-unfolded files lines word (t ∷ ts) runs =
     ap (λ q. (raw_fault files lines word q ++ own_fault files lines t)
     ++ token_faults files lines (word_at_end (texts_of lines) t) (unfolded (texts_of lines) ts)) (ahead-unfolded lines (t ∷ ts) runs)

@@ -1,6 +1,6 @@
 use Rattle.std.proofs.Common.{◌∙◌, codes, map, refl, sym, ap, List, option_map}
-use Rattle.clap.specs.Words.{Text}
-use Rattle.ctangle_cli.proofs.RetangleLemmas.{err_gives, no_fault, no_names, some_fault, takes_is, value_is}
+use Rattle.clap.specs.Words.{Text, takes}
+use Rattle.ctangle_cli.proofs.RetangleLemmas.{err_gives, no_fault, no_names, some_fault, value_is}
 use Rattle.ctangle_cli.specs.RetangleArguments.{retangle_app}
 use Rattle.ctangle_cli.proofs.retangle_names.read_values.Goals as goal
 
@@ -9,7 +9,7 @@ returns-in_err-matches-clause-accepted g c =
     let arguments : List Text = map g.S.AsStr.text c.args.arguments.now in
     err_gives c.from_residual-in_err-matches.result _ _ c.from_residual-in_err-matches.ensures.1
     (λ fault gives accepted. gives.1 (c.in_err-matches.ensures.passes
-    (takes_is c.in_ok-command.command retangle_app arguments c.in_ok-command.ensures.app accepted)))
+    (ap (λ app. takes app arguments) c.in_ok-command.ensures.app ∙ accepted)))
 
 pub returns-in_err-matches-clause-usage : goal.returns-in_err-matches-clause-usage
 returns-in_err-matches-clause-usage g c =

@@ -5,7 +5,7 @@ use Rattle.ctangle_cli.proofs.run.run_named.Goals as goal
 
 pub returns-in-None : goal.returns-in-None
 returns-in-None g c = λ arguments is.
-    IsUnstarted (rw (is, c.unstarted.ensures) (c.in-None.ensures.unstarted usage_line))
+    IsUnstarted (rw is (c.in-None.ensures.unstarted usage_line))
 
 pub returns-in-Some : goal.returns-in-Some
 returns-in-Some g c = λ arguments is.

@@ -20,6 +20,6 @@ returns-in-None g c = IsUnanswered [] (rw c.in-Ok.ensures.ok (c.in-None.ensures.
 pub returns : goal.returns
 returns g c =
     let starts = c.in-Some.ensures.started in
-    let ends = c.run_retangle-status.ensures in
-    let goes = ends.history _ _ [] (from_start _ _ _ starts.started) in
-    IsConversation _ _ goes.0 _ c.in-Ok.ensures.ok starts ends.ends.1 goes.1 (stay-read _ _ (started-sound _ _ _ _ starts))
+    let goes = c.run_retangle-status.ensures in
+    IsConversation _ _ _ c.in-Ok.ensures.ok starts goes.1 (goes.2 _ _ [] (from_start _ _ _ starts.started))
+    (stay-read _ _ (started-sound _ _ _ _ starts))

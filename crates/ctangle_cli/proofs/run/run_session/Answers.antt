@@ -1,11 +1,10 @@
 use Rattle.std.proofs.Common.{refl}
-use Rattle.ctangle_cli.specs.Run.TangledEnds.{IsDone, IsCutAtFaults}
-use Rattle.ctangle_cli.proofs.RunLemmas.{tangled_stops}
+use Rattle.ctangle_cli.specs.Run.TangledEnds.{IsDone, IsCutAtFaults, IsUnwritten}
+use Rattle.ctangle_cli.proofs.RunLemmas.{tries_from}
 use Rattle.ctangle_cli.proofs.run.run_session.Goals as goal
 
 pub returns-in-Err : goal.returns-in-Err
 returns-in-Err g c = record {
-  outputs = _;
   faults = _;
   plain = c.faults-faults.ensures;
   ends = IsCutAtFaults c.in-Err.ensures (refl, (refl, refl), refl) refl;
@@ -16,11 +15,18 @@ pub returns-in-Err-create_outputs : goal.returns-in-Err-create_outputs
 returns-in-Err-create_outputs g c =
     let stop = c.in-Err-create_outputs.ensures in
     record {
-      outputs = _;
       faults = _;
       plain = c.faults-faults.ensures;
-      ends = tangled_stops _ _ _ _ _ _ _ c.write_unwritten.result
-          stop.stopped stop.failed stop.no_failure c.in-Ok.ensures c.write_unwritten.ensures;
+      ends = IsUnwritten (record {
+        name = _;
+        fault = _;
+        stops = stop.stopped;
+        why = stop.failed;
+        no_failure = stop.no_failure;
+        between = _;
+        faults_reported = c.in-Ok.ensures;
+        output_reported = tries_from _ _ c.write_unwritten.result _ c.write_unwritten.ensures;
+      }) refl;
       asks_nothing = (stop.asked_stay, stop.failed_stay);
     }
 
@@ -28,7 +34,6 @@ pub returns-in-Ok-create_outputs : goal.returns-in-Ok-create_outputs
 returns-in-Ok-create_outputs g c =
     let made = c.in-Ok-create_outputs.ensures in
     record {
-      outputs = _;
       faults = _;
       plain = c.faults-faults.ensures;
       ends = IsDone c.in-Ok.ensures made.whole made.unfailed c.status.ensures;

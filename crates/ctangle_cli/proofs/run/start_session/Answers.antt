@@ -1,7 +1,9 @@
-use Rattle.std.proofs.Common.{refl}
+use Rattle.std.proofs.Common.{[], append-nil, refl, sym}
 use Rattle.tangle_loading.specs.Endings.{ending_of}
 use Rattle.ctangle_cli.specs.Run.EndsUnstarted.{IsUnloaded}
-use Rattle.ctangle_cli.proofs.RunLemmas.{short_after_loading, tries_from}
+use Rattle.tangle_loading.specs.Endings.EndsEarly.{IsShort}
+use Rattle.tangle_loading.specs.Loading.LoadEnd.{NoMemory}
+use Rattle.ctangle_cli.proofs.RunLemmas.{tries_from}
 use Rattle.ctangle_cli.proofs.run.start_session.Goals as goal
 
 pub returns-in-Err-clause-unstarted : goal.returns-in-Err-clause-unstarted
@@ -10,8 +12,13 @@ returns-in-Err-clause-unstarted g c = λ usage.
     (tries_from _ _ c.write_load.result _ c.write_load.ensures) refl
 
 pub returns-in-Err-start-clause-unstarted : goal.returns-in-Err-start-clause-unstarted
-returns-in-Err-start-clause-unstarted g c = λ usage.
-    IsUnloaded c.args.names.now _ refl (short_after_loading _ _ _ _ c.in-Ok.ensures.ok)
+returns-in-Err-start-clause-unstarted g c =
+    let loads = c.in-Ok.ensures.ok in λ usage. IsUnloaded c.args.names.now NoMemory refl
+    (record {
+      contents = loads.contents;
+      are_its = loads.are_its;
+      gives = IsShort _ [] (sym (append-nil _)) loads.gives.1 refl;
+    })
     (tries_from _ _ c.write_load-in-Err-start.result _ c.write_load-in-Err-start.ensures) refl
 
 pub returns-clause-started : goal.returns-clause-started

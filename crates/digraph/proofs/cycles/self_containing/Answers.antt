@@ -1,14 +1,18 @@
-use Rattle.std.proofs.Common.{arith}
-use Rattle.std.proofs.lemmas.List.{length_push}
-use Rattle.digraph.specs.Graph.{HasUse}
-use Rattle.digraph.specs.Reach.{ContainsItself}
-use Rattle.digraph.proofs.CycleLemmas.{flags_more}
+use Rattle.std.proofs.Common.{◌≡◌, ◌<◌, ◌+◌, ◌↔◌, ℕ, Bool, true, List, [], ◌∷◌, ◌++◌, length, rules, arith}
+use Rattle.std.proofs.lemmas.List.{length_push, get_or_push, get_or_append_left}
+use Rattle.digraph.specs.Flags.{IsFlagged}
 use Rattle.digraph.proofs.cycles.self_containing.Goals as goal
+
+-- one more flag, which says whether `P` holds
+flags_more : (P : ℕ → Type 0) (flags : List Bool) (n : ℕ) (flag : Bool)
+    → length flags ≡ n → ((k : ℕ) → k < n → IsFlagged flags k ↔ P k) → ((flag ≡ true) ↔ P n)
+    → (k : ℕ) → k < n + 1 → IsFlagged (flags ++ flag ∷ []) k ↔ P k
+flags_more P flags n flag size old says k h = search (rules, get_or_push, get_or_append_left)
 
 pub loop-n-preserved : goal.loop-n-preserved
 loop-n-preserved c =
     rw c.in_ok-push.ensures.items (record {
       size = omega (arith, length_push c.loop-n.flags.items c.in_ok-flag.flag, c.loop-n.invariant.size);
-      flags = flags_more (ContainsItself (HasUse c.args.uses.now)) c.loop-n.flags.items c.loop-n.n
+      flags = flags_more _ c.loop-n.flags.items c.loop-n.n
           c.in_ok-flag.flag c.loop-n.invariant.size c.loop-n.invariant.flags c.in_ok-flag.ensures;
     })

@@ -1,5 +1,5 @@
 use Rattle.std.proofs.Common.{rules}
-use Rattle.std.proofs.Common.{◌-◌, append_assoc}
+use Rattle.std.proofs.Common.{append_assoc}
 use Rattle.std.proofs.lemmas.List.{reverse-append}
 use Rattle.digraph.proofs.LinkLemmas.{chain_step, chain_none}
 use Rattle.digraph.proofs.growing.collect.Goals as goal

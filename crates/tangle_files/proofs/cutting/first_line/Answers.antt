@@ -1,18 +1,21 @@
-use Rattle.std.proofs.Common.{rules}
-use Rattle.std.proofs.lemmas.Bool.Decides.{nat_tests}
-use Rattle.std.proofs.Common.{add-one, arith}
-use Rattle.std.proofs.lemmas.List.{take_rest}
-use Rattle.std.proofs.lemmas.Bool.{false_from_ne_true}
-use Rattle.std.proofs.Math.Seq.{drop-length}
-use Rattle.tangle_files.proofs.CuttingLemmas.{raw_lines_at, raw_lines_whole}
+use Rattle.std.proofs.Common.{rules, arith, length, subst}
+use Rattle.std.proofs.lemmas.List.{take_rest, take_all, drop_all}
+use Rattle.memchr.specs.Find.{is_byte}
+use Rattle.memchr.proofs.lemmas.PlaceLemmas.{places_between-first, places_between-none}
+use Rattle.tangle_files.proofs.CuttingLemmas.{AreEnds, text_ends}
 use Rattle.tangle_files.proofs.cutting.first_line.Goals as goal
 
 pub returns-in-Some-clause-lines : goal.returns-in-Some-clause-lines
 returns-in-Some-clause-lines c =
+    let bytes = c.args.bytes.now in
     let h = c.in-Some.ensures in
-    rw (take_rest, add-one)
-    (grind (arith, nat_tests, raw_lines_at, false_from_ne_true))
+    let first = places_between-first (is_byte 10) bytes 0 (length bytes) c.in-Some.end h.0 h.1 in
+    let line = (subst (AreEnds bytes 0) first (text_ends bytes)).1.0 in
+    search (rules, take_rest)
 
 pub returns-in-None-clause-lines : goal.returns-in-None-clause-lines
 returns-in-None-clause-lines c =
-    search (rules, take_rest, drop-length, raw_lines_whole, false_from_ne_true)
+    let bytes = c.args.bytes.now in
+    let none = places_between-none (is_byte 10) bytes 0 (length bytes) (omega arith) c.in-None.ensures in
+    let line = subst (AreEnds bytes 0) none (text_ends bytes) c.requires in
+    search (rules, take_all, drop_all, take_rest)

@@ -32,4 +32,4 @@ returns c shapes out measured formed have =
     let all = flags_more shapes c.args.table.now out c.args.id _ c.insert.new.self.keys true false c.in_ok-form.form.items _
     have is (c.in_ok-form.ensures ∙ ap plain_form c.text.ensures) formed same
     (λ f. ap (λ l. has_form l f) c.in_ok-is_first.ensures.keys ∙ form_more c.args.forms.now.keys c.in_ok-form.form f) in
-    (all.0, all.1, seen ∙ all.2)
+    (all.0, (λ i. (false, seen i)) ∙ all.1)

@@ -1,14 +1,13 @@
 use Rattle.std.proofs.Common.{rules}
-use Rattle.std.proofs.Common.{◌≡◌, ◌∙◌, ◌<◌, ◌++◌, ◌∷◌, [], length, map, suc, take, filter, get_or, ap, append_assoc}
-use Rattle.std.proofs.Common.{sym, arith, ◌||◌}
-use Rattle.std.specs.Prelude.{All, if◌then◌else◌}
+use Rattle.std.proofs.Common.{◌≡◌, ◌∙◌, ◌<◌, length, suc, get_or, append_assoc}
+use Rattle.std.proofs.Common.{arith, append-nil, ◌||◌}
+use Rattle.std.specs.Prelude.{All}
 use Rattle.tangle_bodies.specs.Shapes.{Named, Program}
 use Rattle.tangle_bodies.specs.WebShapes.{name_at, shapes}
 use Rattle.tangle_graph.specs.Measures.{measure_of}
-use Rattle.tangle_graph.specs.Outputs.{main_file, named_file, is_written, is_expandable}
+use Rattle.tangle_graph.specs.Outputs.{named_file, is_written, is_expandable}
 use Rattle.tangle_graph.specs.Outputs.{is_earlier_file, is_main_file}
 use Rattle.tangle_graph.proofs.ListLemmas.{mapped_more}
-use Rattle.tangle_graph.proofs.NodeLemmas.{title_inside}
 use Rattle.tangle_graph.proofs.NodeMeasureLemmas.{piece_by_measure}
 use Rattle.tangle_graph.proofs.outputs.outputs.Goals as goal
 
@@ -35,15 +34,10 @@ loop-id-preserved c =
     let node : c.name-node.result ≡ suc id = omega (arith, c.name-node.ensures, room) in
     let flag : c.entry-measure.result.is_expandable
     ≡ is_expandable (shapes web table) (Named (name_at table id)) =
-    search (rules, title_inside) in
+    search rules in
     let flagged = c.in_ok-named.ensures (shapes web table) c.requires.measures in
     let other : c.has_other_name-is_other.result
     ≡ (is_main_file (shapes web table) table out id || is_earlier_file (shapes web table) table out id) =
-    c.has_other_name-is_other.ensures ∙ (λ i. flagged.main id low i || flagged.earlier id low i) in
-    c.in_ok-push_file-2.ensures
-    ∙ (search rules)
-    ∙ ap (λ l. l ++ (if is_written web table out id then named_file table id ∷ [] else [])) c.loop-id.invariant
-    ∙ append_assoc (main_file web table out) (map (named_file table) (filter (is_written web table out) (take i xs)))
-    (if is_written web table out id then named_file table id ∷ [] else [])
-    ∙ ap (λ l. main_file web table out ++ l)
-    (sym (mapped_more (is_written web table out) (named_file table) xs i 0 c.loop-id-test.true))
+    c.has_other_name-is_other.ensures ∙ (λ i. (flagged id low i).0 || (flagged id low i).1) in
+    let more = mapped_more (is_written web table out) (named_file table) xs i 0 c.loop-id-test.true in
+    search (rules, append_assoc, append-nil)

@@ -1,5 +1,5 @@
 use Rattle.std.proofs.Common.{rules}
-use Rattle.std.proofs.Common.{◌∙◌, sym, ap, true}
+use Rattle.std.proofs.Common.{◌∙◌, sym, ap}
 use Rattle.tangle_names.specs.declared.Resolved.TheVariants.{Name}
 use Rattle.tangle_names.specs.Names.{NameText, One}
 use Rattle.tangle_names.specs.Resolving.{resolved_meaning}

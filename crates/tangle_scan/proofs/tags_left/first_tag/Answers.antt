@@ -1,14 +1,19 @@
-use Rattle.std.proofs.Common.{◌∙◌, ◌-◌, slice_get, ap, sym, arith}
-use Rattle.tangle_scan.proofs.lemmas.LeftLemmas.{first_tag_is, no_tag_is}
+use Rattle.std.proofs.Common.{rules}
+use Rattle.std.proofs.Common.{◌-◌, ◌≡◌, slice_get, take, arith, Some}
+use Rattle.std.proofs.lemmas.List.{length-take, length-take-le}
+use Rattle.tangle_text.specs.Runs.{parts_of}
+use Rattle.tangle_scan.proofs.lemmas.RunTags.{first_part, no_part}
 use Rattle.tangle_scan.proofs.tags_left.first_tag.Goals as goal
 
 pub returns-in-Some : goal.returns-in-Some
 returns-in-Some c =
-    first_tag_is c.args.bytes.now c.args.run (c.args.run - 0) c.tag_of_part.result c.in-Some.part c.requires
-    (omega arith) c.tag_of_part.ensures
-    (ap (λ r. slice_get r 0) (sym c.new.ensures) ∙ sym c.next.ensures.part ∙ c.in-Some.is)
+    let size : c.args.run - 0 ≡ c.args.run = omega arith in
+    let bytes = take c.args.run c.args.bytes.now in
+    let found : slice_get (parts_of 0 0 0 bytes) 0 ≡ Some c.in-Some.part = search rules in
+    let first = first_part bytes c.in-Some.part found in
+    search (rules, length-take-le)
 
 pub returns-in-None : goal.returns-in-None
 returns-in-None c =
-    no_tag_is c.args.bytes.now c.args.run (c.args.run - 0) c.requires (omega arith)
-    (ap (λ r. slice_get r 0) (sym c.new.ensures) ∙ sym c.next.ensures.part ∙ c.in-None.is)
+    let size : c.args.run - 0 ≡ c.args.run = omega arith in
+    search (rules, no_part, length-take)

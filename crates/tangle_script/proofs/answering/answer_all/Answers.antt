@@ -1,8 +1,6 @@
 use Rattle.std.proofs.Common.{arith}
 use Rattle.std.proofs.lemmas.Bool.Decides.{nat_tests}
-use Rattle.std.specs.Option.{option_copied}
-use Rattle.tangle_script.specs.Commands.{found_commands}
-use Rattle.tangle_script.specs.Script.{IsAnswerCut, IsQuitAnswered}
+use Rattle.std.proofs.lemmas.Result.{err_from_is_err_and}
 use Rattle.tangle_script.proofs.ConversationLemmas.{under_at_first, under_last, under_more}
 use Rattle.tangle_script.proofs.answering.answer_all.Goals as goal
 
@@ -13,16 +11,8 @@ pub loop-found-preserved : goal.loop-found-preserved
 loop-found-preserved g c =
     grind (arith, nat_tests, under_more)
 
-pub returns-in-Err-clause-answered : goal.returns-in-Err-clause-answered
-returns-in-Err-clause-answered g c =
-    under_last g.P.Project.answers _ _ _ _ _ c.in-Some.found.rest.now
-    (found_commands c.in-Some.found.line.now (option_copied c.in-Some.found.text))
-    c.loop-found.invariant c.in-Some.ensures.commands (IsAnswerCut g.P.Project.answers)
-    c.in-Err.ensures
-
-pub returns-in-Ok-true-clause-answered : goal.returns-in-Ok-true-clause-answered
-returns-in-Ok-true-clause-answered g c =
-    let line = rw c.in-Ok-true.field-0-test at c.in-Ok-true.ensures in
-    under_last g.P.Project.answers _ _ _ _ _ c.in-Some.found.rest.now
-    (found_commands c.in-Some.found.line.now (option_copied c.in-Some.found.text))
-    c.loop-found.invariant c.in-Some.ensures.commands (IsQuitAnswered g.P.Project.answers) line.1
+pub returns-in_err-answer_line-clause-answered : goal.returns-in_err-answer_line-clause-answered
+returns-in_err-answer_line-clause-answered g c =
+    let left = err_from_is_err_and c.from_residual.result c.from_residual.ensures.1 in
+    rw (left.1, left.2) (under_last c.loop-found.invariant _ _ c.in-Some.found.rest.now c.in-Some.ensures.commands
+    c.in_err-answer_line.ensures)

@@ -1,10 +1,17 @@
-use Rattle.std.proofs.Common.{false, refl, sym, ◌∙◌}
-use Rattle.tangle_text.proofs.SeparatorLemmas.{separates-at, column-longest}
+use Rattle.std.proofs.Common.{sym, ◌∙◌, arith}
+use Rattle.tangle_text.proofs.ItemLemmas.{column-ends, column-plain, item-start, no-quote, no-quote-front}
 use Rattle.tangle_text.proofs.runs.run_end.Goals as goal
 
-pub returns-else-has_separator-clause-end : goal.returns-else-has_separator-clause-end
-returns-else-has_separator-clause-end c =
+pub returns-else-is_at_quote-clause-end : goal.returns-else-is_at_quote-clause-end
+returns-else-is_at_quote-clause-end c =
     let bytes = c.args.bytes.now in
     let end = c.end_of-end.result in
-    column-longest bytes c.args.from end c.end_of-end.ensures.end
-    (separates-at bytes end _ _ false refl refl (sym c.has_separator.ensures ∙ c.if-has_separator.false))
+    let single = c.end_of-end.ensures.end in
+    let start = item-start bytes end c.item_start.result (column-ends bytes c.args.from end single) c.item_start.ensures in
+    let none = no-quote bytes end c.item_start.result start (sym c.is_at_quote.ensures ∙ c.if-is_at_quote.false) in
+    omega (
+      arith,
+      none,
+      column-plain bytes c.args.from end single (omega (arith, single)) (λ more word. no-quote-front bytes end c.item_start.result
+          c.item_start.ensures (sym c.is_at_quote.ensures ∙ c.if-is_at_quote.false)),
+    )

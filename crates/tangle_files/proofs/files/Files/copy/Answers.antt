@@ -1,12 +1,9 @@
 use Rattle.std.proofs.Common.{rules}
-use Rattle.std.proofs.Common.{◌∙◌}
 use Rattle.tangle_files.proofs.TableLemmas.{files_of-clone}
 use Rattle.tangle_files.proofs.files.Files.copy.Goals as goal
 
 pub invariant_of-result : goal.invariant_of-result
-invariant_of-result c =
-    search (rules, files_of-clone)
+invariant_of-result c = search (rules, files_of-clone)
 
 pub returns : goal.returns
-returns c =
-    files_of-clone c.self.inside.table.entries c.in_ok-table.table.entries c.in_ok-table.ensures.cases ∙ c.self.view_is
+returns c = search (rules, files_of-clone)

@@ -2,7 +2,7 @@ use Rattle.std.proofs.Common.{◌<◌, ◌+◌, [], ◌∷◌, ◌++◌, length,
 use Rattle.std.proofs.lemmas.List.{get_or_default}
 use Rattle.std.proofs.lemmas.List.Elements.{All-push}
 use Rattle.tangle_lines.specs.Reading.{IsShort, WaitingLine}
-use Rattle.tangle_lines.proofs.PassingLemmas.{line_of, passes-next, unawaited, waiting-next}
+use Rattle.tangle_lines.proofs.PassingLemmas.{line_of, passes-next}
 use Rattle.tangle_lines.proofs.waiting.OpenFile.take_plain.Goals as goal
 
 pub loop-index-preserved : goal.loop-index-preserved
@@ -24,8 +24,7 @@ loop-index-preserved c =
       short = λ all. rw pushed (All-push IsShort c.loop-index.lines.items (line_of w) (c.loop-index.invariant.short all)
           (c.plain_count-count.ensures.short i c.loop-index-test.true));
       passed = λ rest.
-          passes-next c.args.changes.now c.args.lines.now.items c.loop-index.lines.items c.push.new.self.items _ _ _ i (i + 1) w
-          (c.loop-index.invariant.passed rest) refl
-          (waiting-next c.self.inside.file c.self.inside.is_changed c.self.inside.depth c.in-OfFile.read i file_lines rest inside)
-          pushed (unawaited c.args.changes.now w here.unawaited) here.plain;
+          passes-next c.args.changes.now c.args.lines.now.items c.loop-index.lines.items c.push.new.self.items _
+          c.self.inside.file c.self.inside.is_changed c.self.inside.depth c.in-OfFile.read i file_lines rest w refl
+          inside pushed here (c.loop-index.invariant.passed rest);
     }
