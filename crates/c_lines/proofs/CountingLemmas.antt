@@ -11,8 +11,8 @@ use Rattle.std.proofs.lemmas.Slice.Eq.{bytes_eq-Decides}
 use Rattle.c_tokens.specs.Bytes.{line_feed}
 use Rattle.c_tokens.specs.Grammar.{is_token, is_punctuator}
 use Rattle.c_tokens.specs.Reading.{elements, tokens}
-use Rattle.c_lines.specs.Counting.{Place, PlacedElement, LineOfTokens, LineCount, TokenRead, start_of_text, places, with_places, elements_at, tokens_at}
-use Rattle.c_lines.specs.Counting.{lines, lines_from, begins_directive, directive, begins_group, turns_group, region_after}
+use Rattle.c_lines.specs.Counting.{Place, PlacedElement, LineOfTokens, LineCount, TokenRead, places, with_places, tokens_at}
+use Rattle.c_lines.specs.Counting.{lines, begins_directive, directive, begins_group, turns_group, region_after}
 use Rattle.c_lines.specs.Counting.{counted, count_after, read_of, reads, c_reads}
 
 abbrev texts_of : List PlacedElement → List (List ℕ)
@@ -76,5 +76,4 @@ reads-tokens count (line ∷ ls) =
 
 pub all-counted : (file text : List ℕ) → tokens_of (c_reads [] file text) ≡ tokens text
 all-counted file text =
-    reads-tokens (record { row = 0; origin = record { file = file; line = 1 } }) (lines_from start_of_text text)
-    ∙ lines-tokens (elements_at start_of_text text) [] ∙ token-texts start_of_text text
+    search (rules, reads-tokens, lines-tokens, token-texts)

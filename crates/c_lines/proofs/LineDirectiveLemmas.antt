@@ -2,7 +2,7 @@
 use Rattle.std.proofs.Common.{rules}
 use Rattle.std.proofs.Common.{◌≡◌, ℕ, true, false, List, [], ◌∷◌, ◌++◌, map, length, codes, arith}
 use Rattle.std.proofs.Common.{refl, ap, ◌∙◌}
-use Rattle.std.specs.Prelude.{◌&&◌, not}
+use Rattle.std.specs.Prelude.{not}
 use Rattle.std.specs.List.{list_any, list_all}
 use Rattle.std.proofs.lemmas.Bool.{and_parts, and_from, or_right, false≢true}
 use Rattle.std.proofs.lemmas.Bool.Decides.{nat_tests}
@@ -67,9 +67,7 @@ space-first rest = apart-tokens (space ∷ []) rest (and_from (keep_lines (space
 
 space-after : (a rest : List ℕ) → is_whole a ≡ true → tokens (a ++ space ∷ rest) ≡ tokens a ++ tokens rest
 space-after a rest whole =
-    apart-tokens a (space ∷ rest) (and_from (is_whole a && keep_lines a (space ∷ rest)) (have_border (spliced a) (spliced (space ∷ rest)))
-    (and_from (is_whole a) (keep_lines a (space ∷ rest)) whole (search rules)) (search (rules, spliced-other, white-next)))
-    ∙ ap (λ ts. tokens a ++ ts) (space-first rest)
+    grind (arith, nat_tests, apart-tokens, and_from, spliced-other, white-next, space-first)
 
 word-tokens : tokens (codes "#line") ≡ codes "#" ∷ codes "line" ∷ []
 unfolding is_element is_token is_punctuator

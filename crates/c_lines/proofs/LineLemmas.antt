@@ -7,7 +7,6 @@ use Rattle.std.specs.List.{list_all, concat, join_with_byte, AllByRecursion}
 use Rattle.std.specs.Str.{bytes_eq}
 use Rattle.std.proofs.lemmas.Bool.{and_from, not-true, false≢true}
 use Rattle.std.proofs.lemmas.List.{drop-append-le}
-use Rattle.std.proofs.lemmas.List.Elements.{All-drop, All-from_recursion, recursion_from_All}
 use Rattle.std.proofs.lemmas.List.Folds.{list_any-append}
 use Rattle.std.proofs.lemmas.Slice.Eq.{bytes_eq-Decides}
 use Rattle.std.proofs.lemmas.Bool.Decides.{nat_tests}
@@ -125,32 +124,6 @@ line-first p l rest whole joined kept =
 pub line-last : (p : Place) (l : List ℕ) → IsOneLine l → lines_from p l ≡ record { tokens = tokens_at p l; end = None } ∷ []
 line-last p l joined =
     ap (lines []) (sym (append-nil (elements_at p l))) ∙ lines-over [] (elements_at p l) [] (none-feed-at p l joined)
-
--- where tokens are
-
-tokens-placed-by : (Q : Place → Type 0) (ps : List Place) (es : List (List ℕ)) → list_all has_bytes es ≡ true →
-    length (concat es) ≤ length ps → AllByRecursion Q ps → AllByRecursion (λ e. Q e.place) (filter is_kept (with_places ps es))
-tokens-placed-by Q ps [] some within all = tt
-tokens-placed-by Q ps ([] ∷ es) some within all = absurd (false≢true some)
-tokens-placed-by Q [] ((b ∷ e) ∷ es) some within all = absurd (omega arith)
-tokens-placed-by Q (p ∷ ps) ((b ∷ e) ∷ es) some within all =
-    let rest = tokens-placed-by Q (drop (length e) ps) es some (omega (arith, within, length-append e (concat es), length-drop (length e) ps))
-    (recursion_from_All Q _ (All-drop Q (length e) ps (All-from_recursion Q ps all.1))) in search rules
-
--- what holds of the place of each byte of a text holds of that of each token
-pub tokens-placed : (Q : Place → Type 0) (p : Place) (l : List ℕ) → AllByRecursion Q (places p l) →
-    AllByRecursion (λ e. Q e.place) (tokens_at p l)
-tokens-placed Q p l all =
-    tokens-placed-by Q (places p l) (elements l) (elements-some 0 (spliced l)) (omega (arith, elements-fill p l)) all
-
--- a text and one byte more
-
-pub places-more : (Q : Place → Type 0) (p : Place) (l : List ℕ) (b : ℕ) → AllByRecursion Q (places p l) → Q (place_after p l) →
-    AllByRecursion Q (places p (l ++ b ∷ []))
-places-more Q p [] b all next = (next, tt)
-places-more Q p (x ∷ []) b all next = search rules
-places-more Q p (x ∷ y ∷ l) b all next =
-    search (rules, places-more Q (next_place (next_place p x) y) l b, places-more Q (next_place p x) (y ∷ l) b)
 
 -- all lines of a text
 

@@ -194,10 +194,8 @@ opened-longer prefix Q z word begins quote ends several =
     (all-last is_identifier_byte prefix Q z (identifier-bytes (prefix ++ Q ∷ z) identifier)))
     (both_ways _ (opened-first prefix Q z begins quote).1)
     (λ literal. elim (literal-parts prefix Q z literal) [
-      | inl o ↦ both_ways (is_word_byte o.quote) (quote-not is_word_byte refl refl o.quote o.quotes)
-          (all-last is_word_byte o.prefix o.quote o.rest (subst (λ t. list_all is_word_byte t ≡ true) o.same word))
-      | inr inside ↦ both_ways (is_word_byte Q || ends_quoted Q z)
-          (or_from (is_word_byte Q) (ends_quoted Q z) (quote-not is_word_byte refl refl Q quote) ends) inside.1
+      | inl o ↦ grind (arith, nat_tests, both_ways, quote-not, all-last)
+      | inr inside ↦ search (rules, both_ways, or_from, quote-not)
     ])
     (λ punctuator. let none = punctuator-is (list_all (λ b. not (is_plain_byte b))) refl
     (prefix ++ Q ∷ z) punctuator in
@@ -299,8 +297,7 @@ number-border before x a c q border number =
           (cut-fails is_number_byte refl (has_bytes a) d c cut)
       | inr at ↦
           let parts = and_parts (not (is_number element && number_goes_on d c)) (is_at_operator d c) at in
-          let front : is_number (x ∷ a) ≡ true = number-front x a c q parts.1 number in
-          search (rules, and_from, one-element, token-element, number-token, number-goes-on)
+          grind (arith, nat_tests, number-front, and_from, one-element, token-element, number-token, number-goes-on)
     ]
 
 -- only a quoted text goes on over a border

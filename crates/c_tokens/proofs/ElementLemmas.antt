@@ -7,8 +7,8 @@ use Rattle.std.proofs.Common.{append-nil, arith}
 use Rattle.std.specs.Prelude.{◌&&◌, ◌||◌, not, ◌==◌}
 use Rattle.std.proofs.lemmas.Bool.{and_parts, or_cases, or_left, or_right}
 use Rattle.std.proofs.lemmas.Bool.{not-true}
-use Rattle.c_tokens.specs.Bytes.{backslash, line_feed, is_word_byte}
-use Rattle.c_tokens.specs.Grammar.{is_identifier_byte, is_identifier}
+use Rattle.c_tokens.specs.Bytes.{backslash, line_feed}
+use Rattle.c_tokens.specs.Grammar.{is_identifier}
 use Rattle.c_tokens.specs.Grammar.{is_token, is_comment}
 use Rattle.c_tokens.specs.Grammar.{is_white_character, is_element}
 use Rattle.c_tokens.specs.Reading.{spliced, elements_from}
@@ -36,8 +36,7 @@ token-element t h = or_right (is_white_character t || is_comment t) (is_token t)
 
 word-identifier : (t : List ℕ) → is_plain_word t ≡ true → is_identifier t ≡ true
 word-identifier t h =
-    let bytes = all-weaker is_word_byte is_identifier_byte (λ b. or_left (is_word_byte b) (b == backslash)) in
-    search (rules, and_parts, and_from, bytes, separated-names, word-separated)
+    search (rules, all-weaker, or_left, and_parts, and_from, separated-names, word-separated)
 
 pub plain-token : (t : List ℕ) → is_plain t ≡ true → is_token t ≡ true
 unfolding is_token

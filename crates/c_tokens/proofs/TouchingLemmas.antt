@@ -8,9 +8,9 @@ use Rattle.std.proofs.lemmas.Bool.{and_parts, or_cases, or_left, or_right}
 use Rattle.std.proofs.lemmas.List.Elements.{filter-append}
 use Rattle.c_tokens.specs.Bytes.{full_stop, is_digit, space, backslash, line_feed, is_word_byte, is_quote}
 use Rattle.c_tokens.specs.Grammar.{is_character, is_string}
-use Rattle.c_tokens.specs.Grammar.{is_token, is_comment}
+use Rattle.c_tokens.specs.Grammar.{is_comment}
 use Rattle.c_tokens.specs.Grammar.{is_element}
-use Rattle.c_tokens.specs.Reading.{spliced, elements_from, elements, tokens, ends_in_comment}
+use Rattle.c_tokens.specs.Reading.{spliced, elements_from, tokens, ends_in_comment}
 use Rattle.c_tokens.specs.Touching.{TextKind, is_separator, is_operator, is_plain_word, is_plain, IsOfKind}
 use Rattle.c_tokens.specs.Borders.{is_plain_byte, last_byte, keep_lines}
 use Rattle.c_tokens.specs.Touching.{kinds_may_touch}
@@ -19,7 +19,6 @@ use Rattle.c_tokens.proofs.GrammarLemmas.{IsLiteral, literal-last, literal-from_
 use Rattle.c_tokens.proofs.GrammarLemmas.{number-first}
 use Rattle.c_tokens.proofs.LongerLemmas.{separators, operators, listed-not, all-last-byte}
 use Rattle.c_tokens.specs.Borders.{is_unfinished}
-use Rattle.std.specs.Prelude.{filter}
 use Rattle.c_tokens.specs.Grammar.{is_number}
 use Rattle.c_tokens.proofs.ElementLemmas.{single-element, one-element, plain-element, spliced-both, keep-other, last-append}
 use Rattle.c_tokens.proofs.BorderLemmas.{border-literal, apart-tokens}
@@ -51,9 +50,7 @@ elements-separator a s h closed =
 other-separator : (a : List ℕ) (s : ℕ) → ends_in_comment a ≡ false → is_separator s ≡ true →
     tokens (a ++ s ∷ []) ≡ tokens a ++ tokens (s ∷ [])
 other-separator a s closed h =
-    let kept = keep-other a s [] (listed-not (λ b. b == line_feed) separators refl s h) in
-    ap (λ t. filter is_token (elements_from 0 t)) (spliced-both a (s ∷ []) kept)
-    ∙ ap (filter is_token) (elements-separator (spliced a) s h closed) ∙ filter-append is_token (elements a) (elements (s ∷ []))
+    search (rules, keep-other, listed-not, separators, spliced-both, elements-separator, filter-append)
 
 -- other texts that may touch have a border
 

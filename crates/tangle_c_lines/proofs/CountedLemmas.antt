@@ -1,9 +1,10 @@
 -- The tokens of a file are counted as they are written.
 use Rattle.std.proofs.Common.{◌≡◌, ℕ, Bool, true, false, List, [], ◌∷◌, ◌++◌}
-use Rattle.std.proofs.Common.{None, refl, sym, subst, append-nil, zero-le}
+use Rattle.std.proofs.Common.{None, refl, sym, subst, append-nil}
 use Rattle.std.specs.Prelude.{if◌then◌else◌}
 use Rattle.c_tokens.specs.Bytes.{line_feed}
-use Rattle.c_lines.specs.Counting.{start_of_text}
+use Rattle.c_lines.specs.Counting.{start_of_text, LineCount, LineOfTokens, reads}
+use Rattle.std.specs.List.{AllByRecursion}
 use Rattle.tangle_files.specs.declared.marks.MarkMode.TheVariants.{Full}
 use Rattle.tangle_lines.specs.Reading.{SourceRead}
 use Rattle.tangle_scan.proofs.laws.WebLaws.{web-line-truth}
@@ -18,13 +19,16 @@ use Rattle.tangle_expansion.specs.Numbers.{NumbersRead, expansion_bytes}
 use Rattle.tangle_expansion.specs.Outputs.{front_bytes}
 use Rattle.tangle_expansion.proofs.LineTruth.{node_is_located}
 use Rattle.tangle_c_tokens.specs.Files.{SourceHasNoLineFeed, numbers_in, shapes_in, ReachesWholePieces}
-use Rattle.tangle_c_lines.specs.CountedLines.{no_class, classes_of_bytes, classes_of_file, bytes_of_file, FilesAreCountedAsWritten, SourceLinesAreLow}
+use Rattle.tangle_c_lines.specs.CountedLines.{no_class, classes_of_bytes, classes_of_file, bytes_of_file}
+use Rattle.tangle_c_lines.specs.CountedLines.{FilesAreCountedAsWritten, SourceLinesAreLow, IsSeen}
+use Rattle.tangle_c_tokens.proofs.FeedLemmas.{KeepsFeed}
 use Rattle.tangle_c_tokens.proofs.AllMacroLemmas.{macros-keep}
 use Rattle.tangle_c_tokens.proofs.FileLemmas.{AreWrittenByPieces, file-is_read}
-use Rattle.tangle_c_lines.proofs.ByteLemmas.{FileOfBytes}
+use Rattle.c_lines.proofs.LineLemmas.{each-line}
+use Rattle.tangle_c_lines.proofs.ByteLemmas.{FileOfBytes, IsOwn}
 use Rattle.tangle_c_lines.proofs.LineEndLemmas.{at_front, last-read}
-use Rattle.tangle_c_lines.proofs.RunLemmas.{IsReadOn, keeps_after, loose-read}
-use Rattle.tangle_c_lines.proofs.SymbolLemmas.{AreKept, symbols-read, keeps_after-from}
+use Rattle.tangle_c_lines.proofs.RunLemmas.{IsReadOn, loose-read}
+use Rattle.tangle_c_lines.proofs.SymbolLemmas.{AreKept, symbols-read}
 use Rattle.tangle_c_lines.proofs.FitLemmas.{node-fits}
 use Rattle.tangle_c_lines.proofs.LowLemmas.{mark-low}
 use Rattle.tangle_c_lines.proofs.KeptLemmas.{node-kept}
@@ -42,9 +46,9 @@ module _ (pieces : AreWrittenByPieces) (source : SourceRead) (clear : SourceHasN
   abbrev classes_in : Title → List ByteClass
   classes_in node = classes levels source web node
 
-  module _ (all : List ByteClass) (text : List ℕ) where
+  module _ (all : List ByteClass) where
     abbrev file : FileOfBytes
-    file = record { names = web.file_names; classes = all; bytes = text }
+    file = record { names = web.file_names; classes = all }
 
     -- after the macros
     abbrev Property : Bool → Title → Bool → Type 0
@@ -58,8 +62,8 @@ module _ (pieces : AreWrittenByPieces) (source : SourceRead) (clear : SourceHasN
         (Property has_piece node)
     after-macros false node ready = λ r choices kept s pending. last-read file r choices None [] s
     after-macros true node ready =
-        symbols-read web (table_of web) clear.names (mark-low source low) (macros-keep (texts_of source.lines) web.macros) all text
-        (symbols_of node) (classes_in node) true None
+        symbols-read web (table_of web) clear.names (mark-low source low)
+        (macros-keep (texts_of source.lines) web.macros) all (symbols_of node) (classes_in node) true None
         (node-fits source levels node (web-line-truth source) clear.lines)
         (subst (AreKept true) (append-nil (symbols_of node)) (node-kept source clear.lines levels node (ready refl).1 [] tt))
 
@@ -67,31 +71,25 @@ module _ (pieces : AreWrittenByPieces) (source : SourceRead) (clear : SourceHasN
     property false node = tt
     property true node = node_is_located source web levels node true None (web-line-truth source)
 
-    front-keeps : (has_macros : Bool) → keeps_after true (front_bytes numbers has_macros) ≡ true
+    front-keeps : (has_macros : Bool) → KeepsFeed (front_bytes numbers has_macros)
     front-keeps false = refl
-    front-keeps true = keeps_after-from true numbers.macros refl (macros-keep (texts_of source.lines) web.macros)
+    front-keeps true = macros-keep (texts_of source.lines) web.macros
 
   pub file-counted : FilesAreCountedAsWritten source
   file-counted name has_macros has_piece node whole ready seen choices =
       let all : List ByteClass = classes_of_file source has_macros has_piece node in
       let text : List ℕ = bytes_of_file source has_macros has_piece node in
-      loose-read (file all text) true (front_bytes numbers has_macros) _ _ (Property all text has_piece node)
-      (subst (λ (kept : Bool). IsReadOn (file all text) kept None
-      (if has_piece then expansion_bytes numbers (symbols_of node) ++ line_feed ∷ [] else [])
-      (if has_piece then classes_of_bytes numbers (symbols_of node) (classes_in node) ++ no_class ∷ [] else [])
-      (Property all text has_piece node)) (sym (front-keeps all text has_macros))
-      (after-macros all text has_piece node ready))
-      (at_front start_of_text true (record { row = 0; origin = record { file = name; line = 1 } })) choices refl
-      (record {
-        own = λ now. tt;
-        plain = tt;
+      let each = each-line start_of_text text
+      (file-is_read pieces source Full clear has_macros has_piece node whole ready).lines in
+      let start : LineCount = record { row = 0; origin = record { file = name; line = 1 } } in
+      subst (λ (ls : List LineOfTokens). AllByRecursion (IsOwn (file all)) (reads choices true start ls)) (sym each)
+      (loose-read (file all) (front_bytes numbers has_macros) _ _ (Property all has_piece node)
+      (front-keeps all has_macros) (after-macros all has_piece node ready)
+      (at_front start_of_text true start) choices refl (record {
+        at = refl;
+        fits = tt;
         counts = tt;
-        row = zero-le;
-        joined = refl;
-        whole = (file-is_read pieces source Full clear has_macros has_piece node whole ready).lines;
-        borders = tt;
-        seen = seen;
+        border = refl;
+        seen = subst (AllByRecursion (IsSeen all)) each seen;
         classes_are = refl;
-        bytes_are = refl;
-        line_is = refl;
-      }) (property all text has_piece node)
+      }) (property all has_piece node))

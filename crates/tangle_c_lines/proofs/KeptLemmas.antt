@@ -23,6 +23,7 @@ use Rattle.tangle_c_tokens.specs.Pieces.{Passage, row_of_piece}
 use Rattle.tangle_c_tokens.specs.Files.{IsWholePassage, ReachesWholePieces, shapes_in}
 use Rattle.tangle_c_lines.proofs.KeptMarks.{MarksAreKept, IsWholeText, after_feed, feed-kept, marks-kept}
 use Rattle.tangle_c_tokens.proofs.FeedLemmas.{kept-last}
+use Rattle.tangle_c_tokens.proofs.OneLineLemmas.{texts-on_line}
 use Rattle.tangle_c_tokens.proofs.TextLemmas.{is_kept}
 use Rattle.tangle_c_tokens.proofs.ListLemmas.{all-front, all-back, each}
 use Rattle.tangle_c_tokens.proofs.ListLemmas.{all-each}
@@ -96,7 +97,7 @@ module _ (source : SourceRead) (clear : SourceLinesHaveNoLineFeed source.lines) 
   piece-kept b occurrence line row pieces are more whole =
       let own = row_of_piece (texts_of lines) (piece_at lines b occurrence line)
       (part_tokens (texts_of lines) b.tokens) in (
-        marks-kept lines (λ occurrence. []) [] line b.tokens
+        marks-kept lines (λ occurrence. []) [] line b.tokens (texts-on_line lines clear (part_tokens (texts_of lines) b.tokens) are)
             (all-each (IsWholePassage source) (IsWholeText (texts_of lines) (λ occurrence. []) []) _ (λ p whole. search rules)
             (all-front (IsWholePassage source) own row whole).1),
         more (all-back (IsWholePassage source) own row whole),

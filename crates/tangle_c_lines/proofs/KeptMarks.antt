@@ -15,6 +15,7 @@ use Rattle.tangle_scan.specs.declared.items.Item.{Item}
 use Rattle.tangle_scan.specs.declared.items.Item.TheVariants as item
 use Rattle.tangle_scan.specs.ItemBytes.{bytes_in, piece_item_bytes}
 use Rattle.tangle_scan.specs.Rules.{texts_of, part_tokens, part_items}
+use Rattle.tangle_c_tokens.proofs.OneLineLemmas.{AreOnLine}
 use Rattle.tangle_c_tokens.specs.Groups.{Group}
 use Rattle.tangle_c_tokens.specs.Pieces.{Passage, OfPart, OfMark, mark_place, row_after, line_feed_follows, IsWholePart}
 use Rattle.tangle_c_tokens.proofs.LayoutLemmas.{is_inner, is_mark, IsUseItem, OfUse, OfMacros, Meets, IsPart, piece-lays}
@@ -88,8 +89,8 @@ module _ (lines : List SourceLine) (used : ℕ → List ℕ) (macros : List ℕ)
       → AreKept row xs → AreKept (OfPart part ∷ row) (own ++ xs)
   part-kept part [] row xs is next whole so_far kept = next whole.1 so_far kept
   part-kept part (x ∷ own) row xs is next whole so_far kept =
-      own-kept (x ∷ own) xs so_far [] is.inner (λ none. kept (or_left (is_inner x) (is_mark x) (and_parts (is_inner x) (list_all is_inner own) is.inner).0))
-      (λ line last. next whole.1 line (λ on. last (ap is_kept is.bytes ∙ whole.0.kept (follows is.meets on))))
+      own-kept (x ∷ own) xs so_far [] is.items.inner (λ none. kept (or_left (is_inner x) (is_mark x) (and_parts (is_inner x) (list_all is_inner own) is.items.inner).0))
+      (λ line last. next whole.1 line (λ on. last (ap is_kept is.items.bytes ∙ whole.0.kept (follows is.meets on))))
     where
       follows : Meets lines used none macros part xs → is_within xs ≡ true → line_feed_follows texts used macros part ≡ true
       follows meets on = search rules
@@ -101,12 +102,12 @@ module _ (lines : List SourceLine) (used : ℕ → List ℕ) (macros : List ℕ)
   use-kept e x es origin row xs (OfMacros line) next whole so_far kept = next whole.1 [] (λ on. refl)
 
   -- the marks of a piece, if its row is whole
-  pub marks-kept : (line : ℕ) (es : List Token)
+  pub marks-kept : (line : ℕ) (es : List Token) → AreOnLine texts false (part_tokens texts es)
       → AreWhole (row_after texts [] (flat_map mark_place (part_items lines line es)) (part_tokens texts es))
       → MarksAreKept texts [] (part_items lines line es)
-  marks-kept line es whole =
+  marks-kept line es on whole =
       piece-lays lines used none macros AreKept (λ whole so_far kept. tt)
       (λ row xs next whole so_far kept. next whole (so_far ++ space ∷ []) (λ on. kept-last so_far space []))
       (λ row xs next whole so_far kept. next whole (after_feed so_far) (λ on. feed-kept so_far))
       (λ origin row xs next whole so_far kept. (kept refl, next whole.1 [] (λ on. refl)))
-      use-kept part-kept line es whole [] (λ on. refl)
+      use-kept part-kept line es on whole [] (λ on. refl)

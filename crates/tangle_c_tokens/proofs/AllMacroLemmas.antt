@@ -13,7 +13,7 @@ use Rattle.tangle_scan.specs.Web.{Block, blocks, macro_of}
 use Rattle.tangle_c_tokens.specs.Reading.{IsReadAsTexts}
 use Rattle.tangle_c_tokens.specs.Kinds.{AreTexts}
 use Rattle.tangle_c_tokens.specs.LineFeeds.{SourceLinesHaveNoLineFeed}
-use Rattle.tangle_c_tokens.proofs.OneLineLemmas.{macro-on_line}
+use Rattle.tangle_c_tokens.proofs.OneLineLemmas.{texts-on_line}
 use Rattle.tangle_c_tokens.specs.Macros.{GroupsAreReadAlone, macro_texts}
 use Rattle.tangle_c_tokens.proofs.MacroLemmas.{macro-by-groups}
 use Rattle.tangle_c_tokens.proofs.kind_lemmas.WebTexts.{macro_tokens_of, macros-by, blocks-have}
@@ -38,8 +38,8 @@ module _ (lines : List SourceLine) (rest : List ℕ) (ts : List (List ℕ))
       → AreRead macros tokens → AreRead (macro_items (texts_of lines) b.tokens ∷ macros) (macro_tokens_of lines b ∷ tokens)
   one-more b macros tokens are next alone =
       simp append_assoc
-      (simp append_assoc at (macro-by-groups (texts_of lines) _ _ (next alone.1) (macro_tokens_of lines b) are alone.0
-      (macro-on_line lines none _ are)))
+      (simp append_assoc at (macro-by-groups (texts_of lines) _ _ (next alone.1) (macro_tokens_of lines b)
+      (texts-on_line lines none _ are) alone.0))
 
   pub macros-whole : AreRead (flat_map (macro_of lines) (blocks 0 (all_tokens lines))) (all_macro_tokens lines)
   macros-whole = macros-by lines AreRead (λ alone. read) one-more (blocks 0 (all_tokens lines)) (blocks-have lines none)

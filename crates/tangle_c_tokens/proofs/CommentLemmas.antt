@@ -15,7 +15,7 @@ use Rattle.std.proofs.lemmas.List.Folds.{list_all-append}
 use Rattle.c_tokens.specs.Bytes.{line_feed, space, slash, asterisk, backslash}
 use Rattle.c_tokens.specs.Grammar.{is_token, is_punctuator, is_comment, ends_once}
 use Rattle.c_tokens.specs.Reading.{spliced, elements, elements_from, tokens}
-use Rattle.c_tokens.specs.Borders.{last_element, last_byte}
+use Rattle.c_tokens.specs.Borders.{last_element}
 use Rattle.c_tokens.specs.Borders.{have_border}
 use Rattle.c_tokens.proofs.ElementLemmas.{one-element, comment-element, last-append}
 use Rattle.c_lines.proofs.JoinedLemmas.{feeds_taken}
@@ -70,7 +70,6 @@ comment-border : (inside b : List ℕ) → list_all is_inside inside ≡ true �
 comment-border inside [] all = refl
 comment-border inside (c ∷ b) all =
     let t = comment inside in
-    let d : ℕ = last_byte asterisk (inside ++ asterisk ∷ slash ∷ []) in
     let is : is_comment (last_element [] (elements_from 0 t)) ≡ true =
     grind (arith, nat_tests, one-element slash, comment-element t, comment-is inside all) in
     search (rules, or_right, last-append)

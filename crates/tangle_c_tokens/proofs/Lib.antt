@@ -4,7 +4,6 @@ pub mod TextLemmas
 pub mod GroupLemmas
 pub mod DecimalLemmas
 pub mod OneLineLemmas
-pub mod EdgeLemmas
 pub mod MacroLemmas
 pub mod WebLemmas
 pub mod LayoutLemmas
@@ -12,12 +11,9 @@ pub mod PieceLemmas
 pub mod WorkedMacros
 pub mod WorkedPieces
 pub mod CommentLemmas
-pub mod PartLemmas
-pub mod UseLemmas
 pub mod TableLemmas
 pub mod FeedLemmas
 pub mod MarkLemmas
 pub mod AllMacroLemmas
-pub mod NodeLemmas
 pub mod FileLemmas
 pub mod WorkedFiles

@@ -4,11 +4,6 @@ use Rattle.std.specs.List.{AllByRecursion, Contains}
 use Rattle.std.proofs.lemmas.List.Elements.{All-append, All-drop, All-from_recursion, All-take, Contains-get_or}
 use Rattle.std.proofs.lemmas.List.Elements.{recursion_from_All}
 
-pub all-both : {X : Type 0} (P Q : X → Type 0) (xs : List X) → AllByRecursion P xs → AllByRecursion Q xs
-    → AllByRecursion (λ x. P x × Q x) xs
-all-both P Q [] p q = tt
-all-both P Q (x ∷ xs) p q = ((p.0, q.0), all-both P Q xs p.1 q.1)
-
 pub all-each : {X : Type 0} (P Q : X → Type 0) (xs : List X) → ((x : X) → P x → Q x) → AllByRecursion P xs → AllByRecursion Q xs
 all-each P Q [] f h = tt
 all-each P Q (x ∷ xs) f h = (f x h.0, all-each P Q xs f h.1)

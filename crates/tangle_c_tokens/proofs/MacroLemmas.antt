@@ -1,12 +1,13 @@
 -- The tokens of the bytes of a macro are those of its groups.
 use Rattle.std.proofs.Common.{rules}
 use Rattle.std.proofs.Common.{arith}
-use Rattle.std.proofs.Common.{◌≡◌, ℕ, Bool, true, false, ◌&&◌, not, List, [], ◌∷◌}
+use Rattle.std.proofs.Common.{◌≡◌, ℕ, Bool, true, false, ◌&&◌, ◌||◌, not, List, [], ◌∷◌}
 use Rattle.std.proofs.Common.{◌++◌, map, flat_map}
 use Rattle.std.proofs.Common.{append_assoc, append-nil, Option, Some, None, refl, ap, sym, ◌∙◌}
 use Rattle.std.proofs.Common.{subst, codes}
 use Rattle.std.specs.List.{AllByRecursion}
-use Rattle.std.proofs.lemmas.Bool.{and_parts, cond_both, not-true}
+use Rattle.std.specs.Option.{IfSome}
+use Rattle.std.proofs.lemmas.Bool.{cond_both}
 use Rattle.c_tokens.specs.Bytes.{line_feed, backslash}
 use Rattle.c_tokens.specs.Grammar.{is_element, is_token, is_punctuator}
 use Rattle.c_tokens.specs.Reading.{spliced}
@@ -22,13 +23,12 @@ use Rattle.tangle_scan.proofs.lemmas.RuleLemmas.{macro_blanks-item}
 use Rattle.tangle_scan.proofs.laws.MacroEnds.{items_from, end-items}
 use Rattle.tangle_c_tokens.specs.Reading.{IsReadAsTexts}
 use Rattle.tangle_c_tokens.specs.Edges.{begins_as, ends_as, last_number_goes_on}
-use Rattle.tangle_c_tokens.specs.Kinds.{item_kind, AreTexts}
-use Rattle.tangle_c_tokens.specs.Groups.{Group, group_before, groups_after, groups, group_text}
-use Rattle.tangle_c_tokens.specs.Macros.{text_of, GroupsAreReadAlone, macro_texts}
-use Rattle.tangle_c_tokens.proofs.EdgeLemmas.{are_apart_at_edges, IsApart, apart-groups}
+use Rattle.tangle_c_tokens.specs.Kinds.{item_kind, is_range}
+use Rattle.tangle_c_tokens.specs.Groups.{Group, group_before, groups_after, group_text}
+use Rattle.tangle_c_tokens.specs.Macros.{text_of, stay_apart, IsReadAlone, GroupsAreReadAlone, macro_texts}
 use Rattle.tangle_c_tokens.proofs.kind_lemmas.TableKinds.{same-table}
-use Rattle.tangle_c_tokens.proofs.OneLineLemmas.{IsGroupOnLine}
-use Rattle.c_lines.proofs.JoinedLemmas.{lines-one}
+use Rattle.tangle_c_tokens.proofs.OneLineLemmas.{HasItsEdges, AreOnLine, IsLast, one-more, next-edges, written-on_line}
+use Rattle.c_lines.proofs.JoinedLemmas.{ends_back, lines-one}
 use Rattle.tangle_c_tokens.proofs.GroupLemmas.{last-item, text-more, group-one}
 use Rattle.tangle_c_tokens.proofs.TextLemmas.{feed-between, feed-front, space-between}
 use Rattle.tangle_c_tokens.proofs.TextLemmas.{taken-between, taken-front, kinds-border}
@@ -69,21 +69,33 @@ module _ (texts : List (List ℕ)) (tail : List ℕ) (ts : List (List ℕ))
   front-border a in_name white (e ∷ es) meets =
       search (rules, front-border a in_name true es, front-border a false false es, front-item in_name white e es)
 
-  meets-next : (items : List Token) (e f : Token) → may_touch texts e f ≡ true →
-      are_apart_at_edges texts (group_text texts (items ++ e ∷ [])) (Some e) (Some f) ≡ true →
-      Meets (spliced (group_text texts (items ++ e ∷ []))) (Some f)
-  meets-next items e f may apart more =
+  apart-edges : (text : List ℕ) (e f : Token) → HasItsEdges texts e → HasItsEdges texts f → may_touch texts e f ≡ true
+      → stay_apart texts text (Some e) (Some f) ≡ true → (ends_as (item_kind texts e) (text_of texts e) ≡ true)
+      × ((begins_as (item_kind texts f) (text_of texts f) ≡ true)
+      × (last_number_goes_on (spliced text) (text_of texts f) ≡ false))
+  apart-edges text e f of_e of_f may apart = by (is_range e) (is_range f) of_e.ends of_f.begins (rw may at apart)
+    where
+      by : {ends begins goes_on : Bool} (range next_range : Bool) → (range ≡ false → ends ≡ true)
+          → (next_range ≡ false → begins ≡ true)
+          → ((not range || ends) && (not next_range || begins) && not goes_on) ≡ true
+          → (ends ≡ true) × ((begins ≡ true) × (goes_on ≡ false))
+      by range next_range of_ends of_begins all = grind arith
+
+  meets-next : (items : List Token) (e f : Token) → HasItsEdges texts e → HasItsEdges texts f
+      → may_touch texts e f ≡ true
+      → stay_apart texts (group_text texts (items ++ e ∷ [])) (Some e) (Some f) ≡ true
+      → Meets (spliced (group_text texts (items ++ e ∷ []))) (Some f)
+  meets-next items e f of_e of_f may apart more =
       let k = item_kind texts e in
       let g : TextKind = item_kind texts f in
-      let a : List ℕ = group_text texts (items ++ e ∷ []) in
-      let inner = and_parts (ends_as k (text_of texts e)) (begins_as g (text_of texts f)) (and_parts (ends_as k (text_of texts e) && begins_as g (text_of texts f)) (not (last_number_goes_on (spliced a) (text_of texts f))) (rw may at apart)).0 in
-      grind (arith, nat_tests, kinds-border k g, same-table texts e f, text-more (text_of texts) items e, ends-as k, not-true)
+      let inner = apart-edges (group_text texts (items ++ e ∷ [])) e f of_e of_f may apart in
+      grind (arith, nat_tests, kinds-border k g, same-table texts e f, text-more (text_of texts) items e, ends-as k)
 
-  meets-if_no_blank : (in_name : Bool) (items : List Token) (e : Token) (next : Option Token) →
-      has_blank_at_line_end texts in_name (Some e) next ≡ false →
-      are_apart_at_edges texts (group_text texts (items ++ e ∷ [])) (Some e) next ≡ true →
-      Meets (spliced (group_text texts (items ++ e ∷ []))) next
-  meets-if_no_blank in_name items e next none apart = search (rules, meets-next)
+  meets-if_no_blank : (in_name : Bool) (items : List Token) (e : Token) (next : Option Token) → HasItsEdges texts e
+      → IfSome next (HasItsEdges texts) → has_blank_at_line_end texts in_name (Some e) next ≡ false
+      → stay_apart texts (group_text texts (items ++ e ∷ [])) (Some e) next ≡ true
+      → Meets (spliced (group_text texts (items ++ e ∷ []))) next
+  meets-if_no_blank in_name items e next of_e of_next none apart = search (rules, meets-next)
 
   -- The bytes from these tokens on are read as their groups.
 
@@ -91,24 +103,27 @@ module _ (texts : List (List ℕ)) (tail : List ℕ) (ts : List (List ℕ))
   texts_in gs = map (λ (group : Group). group_text texts group.items) gs
 
   abbrev AreReadAlone : List Group → Type 0
-  AreReadAlone gs = AllByRecursion (IsApart texts) gs
+  AreReadAlone gs = AllByRecursion (IsReadAlone texts) gs
 
   abbrev ReadsAs : List Group → List ℕ → Type 0
   ReadsAs gs bytes = AreReadAlone gs → IsReadAsTexts (texts_in gs ++ ts) bytes
 
   -- at the front of a line
   abbrev ReadsFront : List Token → Type 0
-  ReadsFront es = (in_name white : Bool) → ReadsAs (groups_after [] es) (bytes_from in_name None white es)
+  ReadsFront es = AreOnLine texts false es → (in_name white : Bool)
+      → ReadsAs (groups_after [] es) (bytes_from in_name None white es)
 
   -- directly after an item
   abbrev ReadsWithin : List Token → Type 0
-  ReadsWithin es = (in_name : Bool) (items : List Token) (e : Token) → ReadsAs (groups_after (items ++ e ∷ []) es)
+  ReadsWithin es = (in_name : Bool) (items : List Token) (e : Token) → IsLast texts items e
+      → AreOnLine texts (ends_back false (group_text texts (items ++ e ∷ []))) es
+      → ReadsAs (groups_after (items ++ e ∷ []) es)
       (group_text texts (items ++ e ∷ []) ++ bytes_from in_name (Some e) false es)
 
   -- after a group
   abbrev ReadsAfter : Bool → Bool → List Token → Type 0
-  ReadsAfter in_name white es = (items : List Token) (e : Token)
-      → IsApart texts (record { items = items ++ e ∷ []; rest = es }) → AreReadAlone (groups_after [] es)
+  ReadsAfter in_name white es = (items : List Token) (e : Token) → IsLast texts items e → AreOnLine texts false es
+      → IsReadAlone texts (record { items = items ++ e ∷ []; rest = es }) → AreReadAlone (groups_after [] es)
       → IsReadAsTexts (group_text texts (items ++ e ∷ []) ∷ texts_in (groups_after [] es) ++ ts)
       (group_text texts (items ++ e ∷ []) ++ bytes_from in_name (Some e) white es)
 
@@ -119,87 +134,95 @@ module _ (texts : List (List ℕ)) (tail : List ℕ) (ts : List (List ℕ))
 
   -- from after a group to what is directly after an item
   closed : (items : List Token) (e : Token) (rest : List Token) (bytes : List ℕ) (gs : List Group) →
-      (IsApart texts (record { items = items ++ e ∷ []; rest = rest }) → AreReadAlone gs →
+      (IsReadAlone texts (record { items = items ++ e ∷ []; rest = rest }) → AreReadAlone gs →
       IsReadAsTexts (group_text texts (items ++ e ∷ []) ∷ texts_in gs ++ ts) bytes) →
       ReadsAs (group_before rest (items ++ e ∷ []) ++ gs) bytes
   closed items e rest bytes gs reads = grind (arith, nat_tests, group-one items e rest)
 
   at-end : (in_name white : Bool) → ReadsAfter in_name white []
-  at-end in_name white items e alone rest =
+  at-end in_name white items e last on alone rest =
       let t = group_text texts (items ++ e ∷ []) in
-      feed-between t tail (lines-one t alone.whole alone.one) (alone.ended refl) ts read
+      feed-between t tail (lines-one t alone.whole last.one) (alone.ended refl) ts read
 
   at-line_end : (line : ℕ) (es : List Token) → ReadsFront es → (in_name white : Bool)
       → ReadsAfter in_name white (token.LineEnd line ∷ es)
-  at-line_end line es front in_name white items e alone rest =
+  at-line_end line es front in_name white items e last on alone rest =
       let t : List ℕ = group_text texts (items ++ e ∷ []) in
       let after : List ℕ = bytes_from false None false es in
-      let next = front false false rest in
-      let apart = ap (λ last. are_apart_at_edges texts t last (next_item es)) (sym (last-item None items e))
+      let next = front on false false rest in
+      let apart = ap (λ last. stay_apart texts t last (next_item es)) (sym (last-item None items e))
       ∙ alone.apart refl in
       cond_both (has_blank_at_line_end texts in_name (Some e) (next_item es)) (token.White ∷ []) []
       (λ blanks. IsReadAsTexts (t ∷ texts_in (groups_after [] es) ++ ts)
       (t ++ (flat_map (macro_item_bytes texts) (unmarked_items (blanks ++ token.LineEnd line
       ∷ macro_blanks texts false None false es)) ++ line_feed ∷ tail)))
-      (λ is. space-between t (backslash ∷ line_feed ∷ after) alone.whole alone.one _ (taken-front after _ next))
-      (λ is. taken-between t after alone.whole alone.one
-      (front-border (spliced t) false false es (meets-if_no_blank in_name items e (next_item es) is apart)) _ next)
+      (λ is. space-between t (backslash ∷ line_feed ∷ after) alone.whole last.one _ (taken-front after _ next))
+      (λ is. taken-between t after alone.whole last.one
+      (front-border (spliced t) false false es
+      (meets-if_no_blank in_name items e (next_item es) last.edges (next-edges texts es false on) is apart)) _ next)
 
   at-item : (e : Token) (es : List Token) → is_front_gap e ≡ false →
       ((items : List Token) → groups_after items (e ∷ es) ≡ groups_after (items ++ e ∷ []) es)
       → ReadsWithin es → Reads (e ∷ es)
   at-item e es item more within = record {
-    front = λ in_name white alone. subst (IsReadAsTexts (texts_in (groups_after [] (e ∷ es)) ++ ts))
-        (sym (front-item in_name white e es item)) (first (in_name && not white && is_name_part e) alone);
-    within = λ in_name items before alone.
+    front = λ on in_name white alone. subst (IsReadAsTexts (texts_in (groups_after [] (e ∷ es)) ++ ts))
+        (sym (front-item in_name white e es item)) (first on (in_name && not white && is_name_part e) alone);
+    within = λ in_name items before last on alone.
         let after : List ℕ = bytes_from (in_name && true && is_name_part e) (Some e) false es in
         let t : List ℕ = group_text texts (items ++ before ∷ []) in
+        let next = one-more texts (items ++ before ∷ []) e es item last.one on in
         subst (IsReadAsTexts (texts_in (groups_after (items ++ before ∷ []) (e ∷ es)) ++ ts))
         (search (rules, append_assoc, text-more))
         (subst (λ gs. ReadsAs gs (group_text texts ((items ++ before ∷ []) ++ e ∷ []) ++ after))
         (sym (more (items ++ before ∷ [])))
-        (within (in_name && true && is_name_part e) (items ++ before ∷ []) e) alone);
-    after_white = λ in_name items before alone rest.
+        (within (in_name && true && is_name_part e) (items ++ before ∷ []) e next.0 next.1) alone);
+    after_white = λ in_name items before last on alone rest.
         let after = text_of texts e ++ bytes_from (in_name && false && is_name_part e) (Some e) false es in
         let t : List ℕ = group_text texts (items ++ before ∷ []) in
         subst (IsReadAsTexts (t ∷ texts_in (groups_after [] (e ∷ es)) ++ ts))
         (sym (ap (λ bs. t ++ bs) (search (rules, macro_blanks-item, item-bytes))))
-        (space-between t after alone.whole alone.one _ (first (in_name && false && is_name_part e) rest));
+        (space-between t after alone.whole last.one _ (first on (in_name && false && is_name_part e) rest));
   }
     where
-      first : (in_name : Bool) → ReadsAs (groups_after [] (e ∷ es))
+      first : AreOnLine texts false (e ∷ es) → (in_name : Bool) → ReadsAs (groups_after [] (e ∷ es))
           (text_of texts e ++ bytes_from in_name (Some e) false es)
-      first in_name = rw (more []) (simp append-nil at (within in_name [] e))
+      first on in_name =
+          let next = one-more texts [] e es item refl on in
+          rw (more []) (simp append-nil at (within in_name [] e next.0 next.1))
 
   -- white space and line ends change nothing of a group before them
   same-group : (items : List Token) (es : List Token)
-      → IsApart texts (record { items = items; rest = token.White ∷ es }) →
-      IsApart texts (record { items = items; rest = es })
+      → IsReadAlone texts (record { items = items; rest = token.White ∷ es }) →
+      IsReadAlone texts (record { items = items; rest = es })
   same-group items es alone = grind (arith, nat_tests)
 
   reads : (es : List Token) → Reads es
   reads [] = record {
-    front = λ in_name white alone. feed-front tail ts read;
-    within = λ in_name items e. subst (λ gs. ReadsAs gs (group_text texts (items ++ e ∷ []) ++ line_feed ∷ tail))
-        (sym (group-one items e [])) (λ alone. at-end in_name false items e alone.0 alone.1);
+    front = λ on in_name white alone. feed-front tail ts read;
+    within = λ in_name items e last on. subst
+        (λ gs. ReadsAs gs (group_text texts (items ++ e ∷ []) ++ line_feed ∷ tail))
+        (sym (group-one items e [])) (λ alone. at-end in_name false items e last tt alone.0 alone.1);
     after_white = λ in_name. at-end in_name true;
   }
   reads (token.White ∷ es) =
       let next = reads es in
       record {
-        front = λ in_name white. next.front in_name true;
-        within = λ in_name items e. closed items e (token.White ∷ es)
+        front = λ on in_name white. next.front on in_name true;
+        within = λ in_name items e last on. closed items e (token.White ∷ es)
             (group_text texts (items ++ e ∷ []) ++ bytes_from in_name (Some e) true es) (groups_after [] es)
-            (λ alone. next.after_white in_name items e (same-group (items ++ e ∷ []) es alone));
-        after_white = grind (arith, nat_tests, same-group);
+            (λ alone. next.after_white in_name items e last on (same-group (items ++ e ∷ []) es alone));
+        after_white = λ in_name items e last on alone. next.after_white in_name items e last on
+            (same-group (items ++ e ∷ []) es alone);
       }
   reads (token.LineEnd line ∷ es) =
       let next = reads es in
       record {
-        front = λ in_name white alone. taken-front (bytes_from false None false es) _ (next.front false false alone);
-        within = λ in_name items e. closed items e (token.LineEnd line ∷ es)
+        front = λ on in_name white alone. taken-front (bytes_from false None false es) _
+            (next.front on false false alone);
+        within = λ in_name items e last on. closed items e (token.LineEnd line ∷ es)
             (group_text texts (items ++ e ∷ []) ++ bytes_from in_name (Some e) false
-            (token.LineEnd line ∷ es)) (groups_after [] es) (at-line_end line es next.front in_name false items e);
+            (token.LineEnd line ∷ es)) (groups_after [] es)
+            (at-line_end line es next.front in_name false items e last on);
         after_white = λ in_name. at-line_end line es next.front in_name true;
       }
   reads (e ∷ es) = let next = reads es in at-item e es refl (λ items. refl) next.within
@@ -208,19 +231,17 @@ module _ (texts : List (List ℕ)) (tail : List ℕ) (ts : List (List ℕ))
   unfolding is_element is_token is_punctuator
   define-whole = refl
 
-  pub macro-by-groups : (es : List Token) → AreTexts texts es → GroupsAreReadAlone texts es →
-      AllByRecursion (IsGroupOnLine texts) (groups (written_tokens texts es)) →
+  pub macro-by-groups : (es : List Token) → AreOnLine texts false es → GroupsAreReadAlone texts es →
       IsReadAsTexts (macro_texts texts es ++ ts) (macro_bytes texts (unmarked_items (macro_blanks texts true None false es)) ++ tail)
-  macro-by-groups es are alone one =
+  macro-by-groups es on alone =
       let written = written_tokens texts es in
       let text = flat_map (macro_item_bytes texts) (items_from texts true None false written) in
       subst (IsReadAsTexts (macro_texts texts es ++ ts))
       (search (rules, end-items, append_assoc))
       (space-between (codes "#define") (bytes_from true None false written) define-whole refl _
-      ((reads written).front true false (apart-groups texts es are alone one)))
+      ((reads written).front (written-on_line texts es false on) true false alone))
 
 -- the bytes of a macro alone
-pub one-macro : (texts : List (List ℕ)) (es : List Token) → AreTexts texts es →
-    AllByRecursion (IsGroupOnLine texts) (groups (written_tokens texts es)) → GroupsAreReadAlone texts es →
+pub one-macro : (texts : List (List ℕ)) (es : List Token) → AreOnLine texts false es → GroupsAreReadAlone texts es →
     IsReadAsTexts (macro_texts texts es) (macro_bytes texts (unmarked_items (macro_blanks texts true None false es)))
-one-macro texts es are one alone = simp append-nil at (macro-by-groups texts [] [] no-text es are alone one)
+one-macro texts es on alone = simp append-nil at (macro-by-groups texts [] [] no-text es on alone)

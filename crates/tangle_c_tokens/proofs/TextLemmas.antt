@@ -4,7 +4,7 @@ use Rattle.std.proofs.Common.{arith}
 use Rattle.std.proofs.Common.{◌⊎◌}
 use Rattle.std.proofs.Common.{◌≡◌, ℕ, Bool, true, false, List, [], ◌∷◌, ◌++◌, refl, ap, sym, subst}
 use Rattle.std.proofs.Common.{inl, inr, ◌∙◌, append-nil, append_assoc}
-use Rattle.std.specs.Prelude.{◌&&◌, ◌==◌, not, filter, flat_map}
+use Rattle.std.specs.Prelude.{◌==◌, not, filter, flat_map}
 use Rattle.std.specs.List.{list_any}
 use Rattle.std.proofs.lemmas.Bool.{or_right}
 use Rattle.std.proofs.lemmas.Bool.{false≢true, not-true}
@@ -20,7 +20,7 @@ use Rattle.c_tokens.proofs.BorderLemmas.{border-elements}
 use Rattle.c_tokens.proofs.ElementLemmas.{spliced-both, keep-other}
 use Rattle.c_lines.specs.JoinedLines.{LinesAreWhole}
 use Rattle.c_lines.proofs.LineLemmas.{keep-feed}
-use Rattle.c_lines.proofs.JoinedLemmas.{IsOneLine, lines-apart, lines-feed, lines-whole, taken-append, spliced-other, white-next, white-before, keep-is, back-append, begins_feed}
+use Rattle.c_lines.proofs.JoinedLemmas.{IsOneLine, lines-apart, lines-feed, lines-whole, taken-append, spliced-other, white-next, white-before, keep-is, back-append}
 use Rattle.tangle_c_tokens.specs.Reading.{IsReadAsTexts}
 use Rattle.tangle_c_tokens.specs.Edges.{first_byte_passes, last_byte_passes, begins_as, ends_as, last_number_goes_on}
 use Rattle.std.proofs.lemmas.Bool.Decides.{nat_tests}
@@ -152,9 +152,7 @@ feed-between a rest lines kept ts read = feed-apart a rest lines kept ts (feed-f
 -- a line end that is taken out
 
 keep-taken : (a rest : List ℕ) → keep_lines (a ++ backslash ∷ line_feed ∷ []) rest ≡ true
-keep-taken a rest =
-    keep-is (a ++ backslash ∷ line_feed ∷ []) rest
-    ∙ ap (λ back. not (back && begins_feed rest)) (back-append false a (backslash ∷ line_feed ∷ []))
+keep-taken a rest = grind (arith, nat_tests, keep-is, back-append false a (backslash ∷ line_feed ∷ []))
 
 pub taken-between : (a rest : List ℕ) → is_whole a ≡ true → IsOneLine a → have_border (spliced a)
     (spliced rest) ≡ true → Follows (a ∷ []) rest (a ++ backslash ∷ line_feed ∷ rest)

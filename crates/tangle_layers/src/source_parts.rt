@@ -2,16 +2,19 @@
 use std::alloc::Global;
 use tangle_lexer::{LexerBuffers, Token, first_state, next_block};
 use tangle_lines::{NoMemory, Source};
-use tangle_scan::{Item, is_macro, items_of_macro};
+use tangle_scan::{is_macro, tokens_of_macro};
 use tangle_text::{Reader, Span};
 
-/// The spans of the runs and the other texts of all C parts, and the items of each macro, in their
-/// order.
+/// The spans of the runs and the other texts of all C parts, and the tokens of each macro, spaced as
+/// they are written.
 ///
 /// # Errors
 ///
 /// `NoMemory`, where an allocation failed.
-pub fn read_parts(alloc: Global, source: &Source) -> Result<(Vec<Span>, Vec<Vec<Item>>), NoMemory> {
+pub fn read_parts(
+    alloc: Global,
+    source: &Source,
+) -> Result<(Vec<Span>, Vec<Vec<Token>>), NoMemory> {
     let mut spans = Vec::new(alloc);
     let mut macros = Vec::new(alloc);
     let mut buffers = LexerBuffers {
@@ -24,9 +27,9 @@ pub fn read_parts(alloc: Global, source: &Source) -> Result<(Vec<Span>, Vec<Vec<
     while let Some(head) = next_head {
         (state, next_head) = next_block(source, &mut buffers, &mut reader, state)?;
         if let Token::MacroStart(_) = head {
-            let items = items_of_macro(alloc, source, &buffers.tokens)?;
-            if is_macro(source, &items) {
-                macros.push(items)?;
+            let spaced = tokens_of_macro(alloc, source, &buffers.tokens)?;
+            if is_macro(source, &spaced) {
+                macros.push(spaced)?;
             }
         } else {
             // Documentation has no spans.

@@ -3,8 +3,9 @@ use crate::listing::Listing;
 use crate::source_parts::read_parts;
 use std::alloc::Global;
 use std::slice::Iter;
+use tangle_lexer::{SpanKind, Token};
 use tangle_lines::{NoMemory, Sink, Source};
-use tangle_scan::{Item, ItemKind, ItemTag, Piece, PieceText, Span, Web};
+use tangle_scan::{ItemKind, ItemTag, Piece, PieceText, Span, Web};
 use tangle_text::{RunPart, RunParts};
 
 /// Lists the items of the run with this text.
@@ -101,18 +102,24 @@ fn text_of<'a>(source: &Source<'a>, span: Span) -> &'a [u8] {
     source.line(span.line as usize).get(range).unwrap_or(&[])
 }
 
-fn list_macro_item<S: Sink>(out: &mut Listing<S>, source: &Source, item: Item) {
-    match item {
-        Item::Word(span) => out.begin_text(b"word", Some(&span), 0, text_of(source, span)),
-        Item::Sign(span) => out.begin_text(b"sign", Some(&span), 0, text_of(source, span)),
-        Item::Quoted(span) => out.begin_text(b"quoted", Some(&span), 0, text_of(source, span)),
-        Item::QuoteBreak => out.begin_inner(b"quote break"),
-        Item::Verbatim(span) => out.begin_text(b"verbatim", Some(&span), 0, text_of(source, span)),
-        Item::AsciiConstant(value) => {
+fn list_macro_token<S: Sink>(out: &mut Listing<S>, source: &Source, token: Token) {
+    match token {
+        Token::Run(span) => return list_run(out, Some(&span), text_of(source, span)),
+        Token::Span(kind, span) => {
+            let word: &[u8] = match kind {
+                SpanKind::Word => b"word",
+                SpanKind::Sign => b"sign",
+                SpanKind::Quoted => b"quoted",
+                SpanKind::Verbatim => b"verbatim",
+            };
+            out.begin_text(word, Some(&span), 0, text_of(source, span));
+        }
+        Token::QuoteBreak(_) => out.begin_inner(b"quote break"),
+        Token::AsciiConstant(value, _) => {
             out.begin_inner(b"code");
             out.number(value);
         }
-        Item::Blank => out.begin_inner(b"blank"),
+        Token::White => out.begin_inner(b"blank"),
         _ => out.begin_inner(b"line end"),
     }
     out.end();
@@ -139,12 +146,12 @@ pub fn list_parts<S: Sink>(
             list_tag(out, web, &mut left, &mut spans, *tag);
         }
     }
-    for (number, items) in macros.iter().enumerate() {
+    for (number, tokens) in macros.iter().enumerate() {
         out.begin(b"macro");
         out.number(number);
         out.end();
-        for item in items {
-            list_macro_item(out, source, *item);
+        for token in tokens {
+            list_macro_token(out, source, *token);
         }
     }
     if web.has_all_macros() {

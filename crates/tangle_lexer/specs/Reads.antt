@@ -1,5 +1,5 @@
 -- What the steps of the lexer do: they add tokens and occurrences, and pass over cells.
-use Rattle.std.specs.Prelude.{◌≡◌, ℕ, ◌+◌, List, [], ◌∷◌, ◌++◌, drop, Option, Some, None}
+use Rattle.std.specs.Prelude.{◌≡◌, ℕ, ◌+◌, List, [], ◌∷◌, ◌++◌, drop, true, Option, Some, None}
 use Rattle.std.specs.List.{All}
 use Rattle.tangle_lines.specs.Reading.{SourceLine}
 use Rattle.tangle_lexer.specs.declared.tokens.Token.{Token}
@@ -13,7 +13,7 @@ use Rattle.tangle_lexer.specs.declared.names.Equals.TheVariants as equals
 use Rattle.tangle_lexer.specs.Lexemes.{Lexeme, OccurrenceOnLine}
 use Rattle.tangle_lexer.specs.Occurrences.{OccurrenceRead, occurrence_of}
 use Rattle.tangle_lexer.specs.Heads.{HasNoHead}
-use Rattle.tangle_lexer.specs.Runs.{unfolded, HasNoRun, IsRunIn}
+use Rattle.tangle_lexer.specs.Runs.{unfolded, first_is_alone, IsRunIn}
 use Rattle.tangle_lexer.specs.Steps.{tokens_from, occurrences_from}
 
 -- A lexeme was read: its tokens were added, its cells were removed from the text ahead, and the
@@ -53,7 +53,7 @@ pub record ReadsOn (lines : List SourceLine) (old new : List Token)
   pub occurrences : occurrences_from after rest ≡ occurrences_from from text
   pub ours : IsRestOf lines rest
 
--- no head was added, and runs in C parts alone
+-- No head was added, and outside of C parts no run before the first item.
 pub record AddsSimple (m : Mode) (old new : List Token) : Type 0 where
   pub no_head : HasNoHead old → HasNoHead new
-  pub no_run : (m ≡ mode.CPart → ⊥) → HasNoRun old → HasNoRun new
+  pub alone : (m ≡ mode.CPart → ⊥) → first_is_alone old ≡ true → first_is_alone new ≡ true

@@ -1,6 +1,7 @@
 -- The tokens of runs. A run of words, signs, quoted texts and single spaces of one line is one token
--- while a C part is read.
-use Rattle.std.specs.Prelude.{◌≡◌, ◌==◌, ℕ, Bool, true, false, List, [], ◌∷◌, map, flat_map}
+-- while C text is read.
+use Rattle.std.specs.Prelude.{◌≡◌, ◌==◌, ℕ, Bool, true, false, not, if◌then◌else◌, List, [], ◌∷◌, map}
+use Rattle.std.specs.Prelude.{flat_map}
 use Rattle.std.specs.List.{list_any}
 use Rattle.tangle_lexer.specs.declared.tokens.SpanKind.TheVariants as span_kind
 use Rattle.tangle_lexer.specs.declared.tokens.Token.{Token}
@@ -11,6 +12,7 @@ use Rattle.tangle_text.specs.declared.spans.Span.{Span}
 use Rattle.tangle_text.specs.Runs.{run_parts, are_apart}
 use Rattle.tangle_text.specs.Bytes.{number_sign, backslash}
 use Rattle.tangle_text.specs.Text.{IsSpan}
+use Rattle.tangle_lexer.specs.LinesOfParts.{is_between_items}
 use Rattle.tangle_lexer.specs.SpanBytes.{first_byte, last_byte}
 
 -- the token of a part of a run
@@ -33,8 +35,14 @@ abbrev pub is_run : Token → Bool
 is_run (token.Run s) = true
 is_run _ = false
 
-abbrev pub HasNoRun : List Token → Type 0
-HasNoRun tokens = list_any is_run tokens ≡ false
+-- some of these tokens is an item
+abbrev pub has_item : List Token → Bool
+has_item tokens = list_any (λ t. not (is_between_items t)) tokens
+
+-- no run is before the first item of these tokens, nor begins with it
+abbrev pub first_is_alone : List Token → Bool
+first_is_alone [] = true
+first_is_alone (t ∷ ts) = if is_between_items t then first_is_alone ts else not (is_run t)
 
 -- A range of a line that begins with a word or with a sign other than `#`, and does not end in a
 -- backslash. Each space has another part directly before and after it, and no quoted text is

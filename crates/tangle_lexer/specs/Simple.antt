@@ -1,5 +1,5 @@
 -- Simple lexemes, which most of C text consists of: words, white space, signs and line ends.
-use Rattle.std.specs.Prelude.{◌≡◌, ◌<◌, ℕ, Bool, true, false, ◌&&◌, not, List, length}
+use Rattle.std.specs.Prelude.{◌≡◌, ◌<◌, ℕ, Bool, true, false, ◌&&◌, ◌||◌, not, List, length}
 use Rattle.std.specs.Prelude.{if◌then◌else◌, Option, None, Some, IsSome}
 use Rattle.tangle_lines.specs.Bytes.{is_white}
 use Rattle.tangle_lexer.specs.declared.modes.Mode.{Mode}
@@ -14,6 +14,8 @@ use Rattle.tangle_text.specs.Bytes.{number_sign, holds, is_opener, is_word_byte}
 use Rattle.tangle_text.specs.Text.{Cell, byte_at}
 use Rattle.tangle_text.specs.Runs.{holds_plain}
 use Rattle.tangle_lexer.specs.Lexemes.{is_c_part}
+use Rattle.tangle_lexer.specs.declared.tokens.Token.{Token}
+use Rattle.tangle_lexer.specs.Runs.{has_item}
 use Rattle.tangle_lexer.specs.CText.{kind_at}
 
 -- the simple lexeme that begins with a byte, unless the byte may open something longer
@@ -55,6 +57,7 @@ is_apart include.AtStart b = not (holds number_sign b)
 is_apart include.Elsewhere b = not (holds number_sign b)
 is_apart _ b = false
 
--- a run may begin with a simple lexeme that begins with this byte
-abbrev pub begins_run : Mode → IncludeState → SimpleLexeme → Option ℕ → Bool
-begins_run m inc kind b = is_c_part m && is_word_or_sign kind && is_apart inc b
+-- a run may begin with a simple lexeme that begins with this byte: in a macro after its first item
+abbrev pub begins_run : List Token → Mode → IncludeState → SimpleLexeme → Option ℕ → Bool
+begins_run tokens m inc kind b =
+    is_word_or_sign kind && is_apart inc b && (is_c_part m || has_item tokens)

@@ -5,7 +5,7 @@ ghost use Rattle.std.specs.List.{All};
 ghost use Rattle.tangle_text.specs.Text.{IsRestOf, texts_of};
 ghost use Rattle.tangle_lexer.specs.declared.modes.Mode.TheVariants as mode;
 ghost use Rattle.tangle_lexer.specs.declared.tokens.Token.TheVariants as token;
-ghost use Rattle.tangle_lexer.specs.Runs.{unfolded, HasNoRun, IsRunIn};
+ghost use Rattle.tangle_lexer.specs.Runs.{unfolded, first_is_alone, IsRunIn};
 ghost use Rattle.tangle_lexer.specs.Steps.{tokens_from, occurrences_from};
 ghost use Rattle.tangle_lexer.specs.Steps as spec;
 ghost use Rattle.tangle_lexer.specs.Occurrences.{occurrence_of};
@@ -50,7 +50,8 @@ fn pop_head(tokens: &mut Vec<Token>) -> Option<Token>
 /// has to be the number of occurrences in `buffers`. The tokens before the head, with the faults
 /// among them, replace those in `buffers`. The occurrences that were read are added to those in
 /// `buffers`. Returns the state after the head, and the head itself, or `None` at the end of the
-/// text. In C parts runs take the place of the words, signs, quoted texts and spaces in them.
+/// text. Runs take the place of the words, signs, quoted texts and spaces in
+/// them, in a macro after its first item.
 ///
 /// # Errors
 ///
@@ -69,8 +70,8 @@ pub fn next_block(
     ensures ours { OnOk result (IsRestOf source.now.lines reader.new) }
     ensures runs { OnOk result
         (All (IsRunIn (texts_of source.now.lines)) buffers.new.tokens.items) }
-    ensures no_run { OnOk result
-        ((from.mode ≡ mode.CPart → ⊥) → HasNoRun buffers.new.tokens.items) }
+    ensures alone { OnOk result ((from.mode ≡ mode.CPart → ⊥)
+        → first_is_alone buffers.new.tokens.items ≡ true) }
     ensures no_head { OnOk result (HasNoHead buffers.new.tokens.items) }
     ensures head { IfOk result (λ next. IfSome next.1 (λ head. is_head_token head ≡ true)) }
     ensures in_macro { IfOk result (λ next. (line : ℕ) → next.1 ≡ Some (token.MacroStart line)

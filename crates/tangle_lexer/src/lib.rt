@@ -19,4 +19,4 @@ pub use lexer::{first_state, next_block};
 pub use line_laws::{directives_are_lines_of_c, the_lexer_knows_directives};
 pub use modes::{IncludeState, LexerState, Mode};
 pub use occurrences::{Occurrence, OccurrenceRole};
-pub use tokens::{LexerBuffers, SpanKind, Token};
+pub use tokens::{LexerBuffers, SpanKind, Token, is_between_items};

@@ -1,17 +1,18 @@
 //! A loop for the simple lexemes: words, white space, signs and line ends, which are most of C
-//! text. In a C part a run of words, signs, quoted texts and single spaces is read at once.
+//! text. A run of words, signs, quoted texts and single spaces is read at once.
 ghost use Rattle.std.specs.Prelude.{◌≡◌, ◌≤◌, ◌<◌, true, List, length, IfOk, IfSome, OnOk};
 ghost use Rattle.tangle_lines.specs.Reading.{SourceLine};
 ghost use Rattle.tangle_text.specs.Text.{IsRestOf};
 ghost use Rattle.tangle_lexer.specs.Lexemes.{with_line};
 ghost use Rattle.tangle_lexer.specs.Reads.{IsRead, ReadsOn, AddsSimple};
 ghost use Rattle.tangle_lexer.specs.Simple.{IsSimple, simple_kind};
+ghost use Rattle.tangle_lexer.specs.Runs as runs;
 ghost use Rattle.tangle_lexer.specs.Simple as spec;
 ghost use Rattle.tangle_lexer.specs.Steps.{c_lexeme};
 
 use crate::modes::{IncludeState, LexerState, LineState, Mode};
 use crate::steps::{line_end, sign, white_space, word};
-use crate::tokens::Token;
+use crate::tokens::{Token, is_between_items};
 use std::alloc::AllocError;
 use tangle_text::{Reader, Unit, holds, is_sign_byte, is_white, is_word_byte};
 
@@ -74,19 +75,29 @@ fn simple_step(
     }
 }
 
-/// Whether a run may begin with a simple lexeme that begins with this byte. It may with a word and
-/// with a sign other than `#` of a C part, unless `#include` was begun before it.
-#[inline(always)]
-fn begins_run(state: LexerState, simple: SimpleLexeme, byte: Option<u8>) -> bool
-    ensures { result ≡ spec.begins_run state.mode state.line.include simple byte }
+/// Whether some of these tokens is an item.
+// It is called in macros alone, and mostly stops at the second token. So it is not inlined.
+#[inline(never)]
+fn has_item(tokens: &[Token]) -> bool
+    ensures { result ≡ runs.has_item tokens.now }
 {
-    matches!(state.mode, Mode::CPart)
-        && matches!(simple, SimpleLexeme::Word | SimpleLexeme::Sign)
+    tokens.iter().any(|token| !is_between_items(*token))
+}
+
+/// Whether a run may begin with a simple lexeme that begins with this byte. It may with a word and
+/// with a sign other than `#`, unless `#include` was begun before it; in a macro, after its first
+/// item, which begins the macro's name.
+#[inline(always)]
+fn begins_run(tokens: &[Token], state: LexerState, simple: SimpleLexeme, byte: Option<u8>) -> bool
+    ensures { result ≡ spec.begins_run tokens.now state.mode state.line.include simple byte }
+{
+    matches!(simple, SimpleLexeme::Word | SimpleLexeme::Sign)
         && matches!(
             state.line.include,
             IncludeState::AtStart | IncludeState::Elsewhere
         )
         && !holds(b'#', byte)
+        && (matches!(state.mode, Mode::CPart) || has_item(tokens))
 }
 
 /// Reads the run that begins here, or else this simple lexeme. `line` is how the line of C was read
@@ -108,7 +119,7 @@ fn run_or_simple(
     ensures shorter { OnOk result (length reader.new < length reader.old) }
 {
     let state = from.with_line(*line);
-    if begins_run(state, simple, reader.byte()) {
+    if begins_run(tokens, state, simple, reader.byte()) {
         if let Some(run) = reader.take_run() {
             tokens.push(Token::Run(run))?;
             line.set(state.elsewhere().line);
@@ -120,8 +131,8 @@ fn run_or_simple(
     Ok(())
 }
 
-/// Reads simple lexemes of C text, and in C parts runs in place of those that they consist of, up
-/// to a byte that may open something longer. In limbo and in documentation it reads nothing.
+/// Reads simple lexemes of C text, and runs in place of those that they consist of, up to a byte
+/// that may open something longer. In limbo and in documentation it reads nothing.
 pub fn read_simple(
     tokens: &mut Vec<Token>,
     reader: &mut Reader,

@@ -1,6 +1,7 @@
 //! The tokens that the lexer reads, and the buffers that it fills.
 ghost use Rattle.std.specs.Prelude.{◌≡◌, ◌++◌, OnOk};
 ghost use Rattle.tangle_lexer.specs.Lexemes.{fault_if};
+ghost use Rattle.tangle_lexer.specs.LinesOfParts as parts;
 
 use crate::occurrences::Occurrence;
 use std::alloc::AllocError;
@@ -35,8 +36,8 @@ pub enum Token {
     NamedPart(u32, usize),
     /// A range of a line: a word, a sign, or a range of a quoted or verbatim text.
     Span(SpanKind, Span),
-    /// A run: a range of a line of words, signs, quoted texts and single spaces in a C part. Its
-    /// words, signs and quoted texts are spans, and each of its spaces is white space.
+    /// A run: a range of a line of words, signs, quoted texts and single spaces. Its words, signs
+    /// and quoted texts are spans, and each of its spaces is white space.
     Run(Span),
     /// A line end inside a quoted text, after a backslash, with the line that it ends. The text is
     /// cut there.
@@ -58,6 +59,16 @@ pub enum Token {
     AllMacros(u32),
     /// A fault, with its line.
     Fault(FaultKind, u32),
+}
+
+/// Whether a token is no item, but what may be between two of them.
+pub fn is_between_items(token: Token) -> bool
+    ensures { result ≡ parts.is_between_items token }
+{
+    matches!(
+        token,
+        Token::White | Token::LineEnd(_) | Token::InnerLineEnd(_) | Token::Join | Token::Fault(..)
+    )
 }
 
 /// The vectors that the lexer fills.

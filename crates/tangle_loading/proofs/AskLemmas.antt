@@ -1,17 +1,17 @@
 -- Asking for names, one after another.
 use Rattle.std.proofs.Common.{rules}
 use Rattle.std.proofs.Common.{◌≡◌, ◌∙◌, ◌⊎◌, inl, inr, ℕ, zero, suc, ◌≤◌, ◌<◌, ◌+◌, Bool, true, false, cond, List, [], ◌∷◌, ◌++◌}
-use Rattle.std.proofs.Common.{None, Ok, Err, ap, sym, refl, length, take, drop, get_or, append-nil, append_assoc}
-use Rattle.std.specs.Prelude.{filter, map}
+use Rattle.std.proofs.Common.{None, Ok, Err, ap, sym, refl, length, drop, get_or, append-nil, append_assoc}
+use Rattle.std.specs.Prelude.{map}
 use Rattle.std.specs.List.{AllByRecursion, IsDistinct, list_any}
 use Rattle.std.specs.Str.{bytes_eq}
 use Rattle.std.specs.declared.vec.Vec.{Vec}
 use Rattle.std.specs.Global.{Global}
 use Rattle.std.proofs.lemmas.Bool.{cond_both, or_cases}
 use Rattle.std.proofs.lemmas.Cmp.{nat_list_eq_equiv}
-use Rattle.std.proofs.lemmas.List.{map-append, take-append-drop}
+use Rattle.std.proofs.lemmas.List.{drop_more, map-append}
 use Rattle.std.proofs.lemmas.List.Folds.{list_any-append}
-use Rattle.std.proofs.lemmas.List.Elements.{filter-append, filter_more}
+use Rattle.std.proofs.lemmas.List.Elements.{filter-append}
 use Rattle.std.proofs.lemmas.Map.Keys.{IsDistinct-push}
 use Rattle.std.proofs.lemmas.Slice.Eq.{bytes_eq-Decides}
 use Rattle.tangle_faults.specs.Faults.{FaultRead}
@@ -102,9 +102,7 @@ module _ (contents : Contents) where
   is_asked : (needed : Bool) (asked : List (List ℕ)) (loaded : Loaded) (name : List ℕ) (files : FileTable)
       → (ask contents needed asked loaded name).loaded ≡ Ok files
       → IsAsked (ask contents needed asked loaded name).asked name
-  is_asked needed asked (Err ending) name files e = absurd (cc)
-  is_asked needed asked (Ok before) name files e =
-      search (rules, cond_both, list_any-append)
+  is_asked needed asked loaded name files e = search (rules, cond_both, list_any-append)
 
   pub become_asked : (needed : Bool) (names : List (List ℕ)) (load : Load) (files : FileTable)
       → (ask_all contents needed load names).loaded ≡ Ok files
@@ -117,21 +115,18 @@ module _ (contents : Contents) where
         become_asked needed names next files e,
       )
 
-  -- a name that was asked for is not asked for again
-  ask_same : (needed : Bool) (load : Load) (name : List ℕ) (asked : List (List ℕ)) (loaded : Loaded)
-      → Extends (ask contents needed load.asked load.loaded name) (so_far asked loaded)
+  -- names that were asked for are not asked for again
+  ask_same : (needed : Bool) (asked : List (List ℕ)) (loaded : Loaded) (name : List ℕ) → IsAsked asked name
       → ask contents needed asked loaded name ≡ so_far asked loaded
-  ask_same needed load name asked (Err ending) x = refl
-  ask_same needed load name asked (Ok files) x = asked_is needed asked files name true
-      (still_asked _ _ name x (is_asked needed load.asked load.loaded name _ (x.files files refl).1))
+  ask_same needed asked (Err ending) name is = refl
+  ask_same needed asked (Ok files) name is = asked_is needed asked files name true is
 
-  pub asked_again : (needed : Bool) (names : List (List ℕ)) (load : Load)
-      → ask_all contents needed (ask_all contents needed load names) names ≡ ask_all contents needed load names
-  asked_again needed [] load = refl
-  asked_again needed (name ∷ names) load =
-      let next = ask contents needed load.asked load.loaded name in
-      ap (λ l. ask_all contents needed l names) (ask_same needed load name _ _ (all_extend needed names next))
-      ∙ asked_again needed names next
+  pub asked_stay : (needed : Bool) (names : List (List ℕ)) (load : Load) → AllByRecursion (IsAsked load.asked) names
+      → ask_all contents needed load names ≡ load
+  asked_stay needed [] load all = refl
+  asked_stay needed (name ∷ names) load all =
+      ap (λ l. ask_all contents needed l names) (ask_same needed load.asked load.loaded name all.0)
+      ∙ asked_stay needed names load all.1
 
   -- no two of the names asked for are the same
   abbrev pub AsksOnce : Load → Type 0
@@ -169,24 +164,14 @@ module _ (contents : Contents) where
 pub missed-append : (xs ys : List FaultRead) → missed_in (xs ++ ys) ≡ missed_in xs ++ missed_in ys
 missed-append xs ys = search (rules, filter-append, map-append)
 
-pub missed_more : (faults : List FaultRead) (i : ℕ) (fault : FaultRead)
+pub missed_next : (faults : List FaultRead) (i : ℕ) (fault : FaultRead)
     → i < length faults → fault ≡ get_or faults i fault → is_missed fault ≡ true
-    → missed_in (take (i + 1) faults) ≡ missed_in (take i faults) ++ fault.subject ∷ []
-missed_more faults i fault inside is e =
-    ap (map (λ f. f.subject)) (filter_more is_missed faults i fault inside)
-    ∙ map-append (λ f. f.subject) (filter is_missed (take i faults)) _
-    ∙ ap (λ f. missed_in (take i faults) ++ missed_in (f ∷ [])) (sym is)
-    ∙ ap (λ b. missed_in (take i faults) ++ map (λ f. f.subject) (cond b (fault ∷ []) [])) e
-
-pub missed_all : (faults : List FaultRead) (i : ℕ)
-    → missed_in faults ≡ missed_in (take i faults) ++ missed_in (drop i faults)
-missed_all faults i =
-    ap missed_in (sym (take-append-drop i faults)) ∙ missed-append (take i faults) (drop i faults)
+    → missed_in (drop i faults) ≡ fault.subject ∷ missed_in (drop (i + 1) faults)
+missed_next faults i fault inside is e = rw (drop_more faults i fault inside, ← is, e) refl
 
 -- one more name is kept
 pub asked_of_keys : (ks : List (Vec ℕ Global)) (k : Vec ℕ Global) → IsFresh (map (λ k. k.items) ks) k.items
     → map (λ k. k.items) (cond (list_any (λ m. bytes_eq k.items m.items) ks) ks (ks ++ k ∷ []))
     ≡ map (λ k. k.items) ks ++ k.items ∷ []
 asked_of_keys ks k fresh =
-    ap (λ b. map (λ k. k.items) (cond b ks (ks ++ k ∷ []))) (list_any-map (bytes_eq k.items) (λ k. k.items) ks ∙ fresh)
-    ∙ map-append (λ k. k.items) ks (k ∷ [])
+    rw (list_any-map (bytes_eq k.items) (λ k. k.items) ks, fresh) (map-append (λ k. k.items) ks (k ∷ []))

@@ -1,4 +1,4 @@
-mod AskLemmas
+pub mod AskLemmas
 mod LoadLemmas
 mod NoMissingLemmas
 mod RoundLemmas

@@ -14,7 +14,7 @@ use Rattle.tangle_faults.specs.Faults.{FaultRead, PlaceRead, fault_at}
 use Rattle.tangle_lines.specs.Inclusion.{included_name}
 use Rattle.tangle_lines.specs.Change.{Change}
 use Rattle.tangle_lines.specs.Changes.{Found, before, changes_from, line_kind_of, next_phase}
-use Rattle.tangle_files.specs.Lines.{FileTable, lines_at, file_number_or_count}
+use Rattle.tangle_files.specs.Lines.{FileTable, file_number_or_count}
 use Rattle.tangle_lines.specs.Reading.{WaitingLine, after, begins, change_here, change_lines, change_number}
 use Rattle.tangle_lines.specs.Reading.{change_step, changes_in, source_line_limit}
 use Rattle.tangle_lines.specs.Reading.{line_step, mismatch_faults, place_of, plain_step, reads_in}
@@ -145,11 +145,4 @@ missing_is_empty files roles no_missing =
     let web = file_number_or_count files roles.web in
     let file = change_number files roles.change in
     let found = found_fine files no_missing roles.change in
-    both_miss_none (changes_in files roles.change).faults _ found.none
-    (reads_miss_none files no_missing file (suc source_line_limit)
-    (record {
-      waiting = waiting_lines web false 1 1 (lines_at files web);
-      changes = (changes_in files roles.change).changes;
-      taken = 0;
-    })
-    (found.named, lines_miss_alike files no_missing web false 1 1 (lines_at files web) ∙ no_missing web))
+    search (rules, both_miss_none, reads_miss_none, lines_miss_alike)

@@ -8,11 +8,11 @@ use Rattle.std.proofs.lemmas.List.Elements.{All-from_recursion}
 use Rattle.tangle_files.specs.Lines.{FileTable}
 use Rattle.tangle_files.specs.Adding.{has_file, most_files}
 use Rattle.tangle_files.specs.Roles.{RolesRead, fits, has_file_if_any}
-use Rattle.tangle_loading.specs.Loading.{Contents, Load, Loaded, bad_name, first_round}
+use Rattle.tangle_loading.specs.Loading.{Contents, Load, Loaded, ask_all, bad_name, first_round}
 use Rattle.tangle_loading.specs.Loading.{load_of, load_unless, missing_in, missing_of, named_in, round_after}
 use Rattle.tangle_loading.specs.Loading.{rounds_after, so_far}
 use Rattle.tangle_loading.proofs.AskLemmas.{AreThere, AsksOnce, Extends, HasFew, IsAsked, IsKept, all_extend}
-use Rattle.tangle_loading.proofs.AskLemmas.{all_keep, asked_again, become_asked, extend_more, extends_same, few_more}
+use Rattle.tangle_loading.proofs.AskLemmas.{all_keep, asked_stay, become_asked, extend_more, extends_same, few_more}
 use Rattle.tangle_loading.proofs.AskLemmas.{once_more, rounds_keep, there_more}
 use Rattle.tangle_loading.proofs.TableLemmas.{same_table}
 
@@ -45,7 +45,9 @@ module _ (contents : Contents) (roles : RolesRead) where
   pub round_stays : (load : Load) (files : FileTable) → load.loaded ≡ Ok files → (round load).loaded ≡ Ok files
       → round (round load) ≡ round load
   round_stays load files old new =
-      search (rules, asked_again)
+      ap (λ l. ask_all contents false (round load) (missing_in l roles)) (new ∙ sym old)
+      ∙ asked_stay contents false (missing_in load.loaded roles) (round load)
+      (become_asked contents false (missing_in load.loaded roles) load files new)
 
   -- enough rounds are left
   abbrev HasRounds : ℕ → Load → Type 0

@@ -43,11 +43,8 @@ grows_by needed files next name answer e = search (rules, stays)
 
 -- a table that has grown and is no longer is the same table
 pub same_table : (files next : FileTable) → Grows files next → length next ≤ length files → next ≡ files
-same_table files next g same = by g.0 g.1
-  where
-    by : (more : FileTable) → next ≡ files ++ more → next ≡ files
-    by [] is = is ∙ append-nil files
-    by (x ∷ more) is = absurd (omega (arith, ap length is, length-append files (x ∷ more)))
+same_table files next ([], is) same = is ∙ append-nil files
+same_table files next (x ∷ more, is) same = absurd (omega (arith, ap length is, length-append files (x ∷ more)))
 
 pub longer : (files next : FileTable) → Grows files next → (length next ≡ length files → ⊥) → length files < length next
 longer files next g other = omega (arith, ap length g.1, length-append files g.0)

@@ -81,23 +81,25 @@ pub record Knows (start : FolderRead) (known : Contents → Contents) (asked : L
   pub others : (name : List ℕ) → list_any (bytes_eq name) asked ≡ false
       → (contents : Contents) → known contents name ≡ contents name
 
--- where loading has come to: with what is known now, put into any contents
-abbrev pub StepTo : (Contents → Load) → FolderRead → (Contents → Contents) → FolderRead
-    → List (List ℕ) → Loaded → Type 0
-StepTo load start known new asked (Ok files) =
+-- where a step has come to, with what is known now put into any contents: these names are left, or
+-- loading has ended
+abbrev pub StepTo : (Contents → Load) → (Contents → Load → Load) → FolderRead
+    → (Contents → Contents) → FolderRead → List (List ℕ) → Loaded → Type 0
+StepTo load rest start known new asked (Ok files) =
     (more : Contents → Contents) × Knows start (λ contents. known (more contents)) asked new
-    × ((contents : Contents) → load (known (more contents)) ≡ so_far asked (Ok files))
-StepTo load start known new asked (Err ending) =
+    × ((contents : Contents) → load (known (more contents))
+    ≡ rest (known (more contents)) (so_far asked (Ok files)))
+StepTo load rest start known new asked (Err ending) =
     (contents : Contents) × HasContents start (known contents)
     × EndsEarly (load (known contents)) start new ending
 
--- a step of loading, which asks for these names
-pub record Step (needed : Bool) (names : List (List ℕ)) (old : FolderRead) (before : Load)
+-- a step of loading, which asks for these names until others are left
+pub record Step (needed : Bool) (names left : List (List ℕ)) (old : FolderRead) (before : Load)
     (new : FolderRead) (after : Load) : Type 0 where
   pub to : (start : FolderRead) (known : Contents → Contents)
       → Knows start known before.asked old
-      → StepTo (λ contents. ask_all contents needed before names) start known new
-      after.asked after.loaded
+      → StepTo (λ contents. ask_all contents needed before names)
+      (λ contents load. ask_all contents needed load left) start known new after.asked after.loaded
 
 -- whether a line includes a file that isn't in the table
 abbrev pub misses_name : FileTable → Option (List ℕ) → Bool

@@ -8,7 +8,7 @@ ghost use Rattle.tangle_folders.specs.Folder.{file_limit};
 ghost use Rattle.tangle_files.specs.Roles.{fits};
 ghost use Rattle.tangle_loading.specs.Endings.{IncludesNoMissing, IsGiven, LoadGives};
 ghost use Rattle.tangle_loading.specs.Endings.{Step, ending_of, given, misses_file, refused_as};
-ghost use Rattle.tangle_loading.specs.Loading.{add_bytes, bad_name, is_missed, is_missing_kind};
+ghost use Rattle.tangle_loading.specs.Loading.{add_bytes, bad_name, is_missed};
 ghost use Rattle.tangle_loading.specs.Loading.{missed_in, missing_of, named_in, so_far};
 ghost use Rattle.tangle_loading.specs.Loading.LoadEnd.{CannotRead};
 
@@ -128,7 +128,7 @@ fn read_once<F: Folder>(
     name: &[u8],
     needed: bool,
 ) -> Result<(), LoadFault>
-    ensures { Step needed (name.now ∷ []) (F.state folder.old) (so_far asked.old (Ok files.old))
+    ensures { Step needed (name.now ∷ []) [] (F.state folder.old) (so_far asked.old (Ok files.old))
         (F.state folder.new) (so_far asked.new (given files.new result)) }
 {
     if asked.contains(name) {
@@ -153,7 +153,7 @@ fn read_needed<F: Folder>(
     files: &mut Files,
     asked: &mut Asked,
 ) -> Result<(), LoadFault>
-    ensures { Step true (roles.now.web ∷ named_in roles.now.change) (F.state folder.old)
+    ensures { Step true (roles.now.web ∷ named_in roles.now.change) [] (F.state folder.old)
         (so_far asked.old (Ok files.old)) (F.state folder.new)
         (so_far asked.new (given files.new result)) }
 {
@@ -164,16 +164,10 @@ fn read_needed<F: Folder>(
     }
 }
 
-fn is_missing(kind: FaultKind) -> bool
-    ensures { result ≡ is_missing_kind kind }
-{
-    matches!(kind, FaultKind::IncludeMissing)
-}
-
 fn is_missed(fault: &Fault) -> bool
     ensures { result ≡ is_missed fault.now }
 {
-    is_missing(fault.kind()) && is_file_name(fault.subject())
+    fault.kind() == FaultKind::IncludeMissing && is_file_name(fault.subject())
 }
 
 // Reads the missing files that these faults of reading name. A file stays missing where the folder
@@ -185,7 +179,7 @@ fn read_inclusions<F: Folder>(
     asked: &mut Asked,
     faults: &[Fault],
 ) -> Result<(), LoadFault>
-    ensures { Step false (missed_in faults.now) (F.state folder.old)
+    ensures { Step false (missed_in faults.now) [] (F.state folder.old)
         (so_far asked.old (Ok files.old)) (F.state folder.new)
         (so_far asked.new (given files.new result)) }
 {

@@ -14,42 +14,34 @@ use Rattle.tangle_names.specs.Resolving.{first_file_number, first_number, names_
 use Rattle.tangle_names.proofs.KeyLemmas.{position_or_len-map, position-map}
 
 -- an occurrence that is written like this, without role and origin
-plain : NameText × Bool × Bool → OccurrenceRead
+abbrev plain : NameText × Bool × Bool → OccurrenceRead
 plain w =
     record { text = w.0; is_abbreviation = w.1; is_file = w.2; role = Mention; origin = record { file = 0; line = 0 } }
 
-bare : OccurrenceRead → OccurrenceRead
-unfolding plain
+abbrev bare : OccurrenceRead → OccurrenceRead
 bare o = plain (written_form o)
 
-module _ where
-  full-bare : (os : List OccurrenceRead) → full_names (map bare os) ≡ full_names os
-  unfolding plain bare
-  full-bare [] = refl
-  full-bare (o ∷ os) = grind (arith, nat_tests, full-bare os)
+full-bare : (os : List OccurrenceRead) → full_names (map bare os) ≡ full_names os
+full-bare [] = refl
+full-bare (o ∷ os) = grind (arith, nat_tests, full-bare os)
 
 module _ (os : List OccurrenceRead) where
   names-bare : names_in_order (map bare os) ≡ names_in_order os
-  unfolding plain bare
   names-bare = search (rules, full-bare, map-map)
 
   resolved-bare : map (resolve (map bare os)) (map bare os) ≡ map (resolve os) os
-  unfolding plain bare
   resolved-bare = search (rules, full-bare, map-map)
 
   first-bare : (name : NameText) → first_number (map bare os) name ≡ first_number os name
-  unfolding plain bare
   first-bare name = search (rules, full-bare, position_or_len-map)
 
   first_file-bare : (name : NameText) → first_file_number (map bare os) name ≡ first_file_number os name
-  unfolding plain bare
   first_file-bare name = search (rules, full-bare, position-map)
 
   table-bare : table_over (map bare os) ≡ table_over os
   table-bare = search (rules, names-bare, resolved-bare, first-bare, first_file-bare)
 
 bare-alike : (old new : List OccurrenceRead) → AreWrittenAlike old new → map bare old ≡ map bare new
-unfolding bare
 bare-alike old new alike =
     sym (map-map plain written_form old) ∙ (ap (map plain) alike ∙ map-map plain written_form new)
 

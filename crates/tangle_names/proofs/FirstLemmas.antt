@@ -1,12 +1,13 @@
 -- The first occurrences of names.
 use Rattle.std.proofs.Common.{rules}
 use Rattle.std.proofs.lemmas.Bool.Decides.{nat_tests}
-use Rattle.std.proofs.Common.{◌≡◌, ◌≢◌, ◌<◌, ◌∙◌, inl, inr, ℕ, Bool, true, false, cond, ◌&&◌}
-use Rattle.std.proofs.Common.{List, [], length, get_or, refl, ap, sym, arith, Option, Some, None}
+use Rattle.std.proofs.Common.{◌≡◌, ◌<◌, ◌∙◌, inl, inr, ℕ, Bool, true, false, cond, ◌&&◌}
+use Rattle.std.proofs.Common.{List, [], length, get_or, refl, ap, sym, subst, arith, Option, Some, None}
 use Rattle.std.specs.Prelude.{slice_get, nat_lt, IsSome, find}
 use Rattle.std.specs.List.{position_or_len}
+use Rattle.std.specs.Bool.{Decides}
 use borrow.Author.Tests.{ltb-true}
-use Rattle.std.proofs.lemmas.Bool.{eq-eqb, eqb-true, and_parts}
+use Rattle.std.proofs.lemmas.Bool.{and_parts}
 use Rattle.std.proofs.lemmas.Option.{slice_get_cases, slice_get_within, get_or_from_slice_get}
 use Rattle.std.proofs.lemmas.List.Elements.{Contains-get_or}
 use Rattle.std.proofs.lemmas.List.Folds.{find_at}
@@ -35,21 +36,14 @@ found_passes q xs x found =
     ap q (sym (get_or_from_slice_get xs n x x found)) ∙ passes_at_first q xs x (slice_get_within xs n x found)
 
 -- an occurrence resolves to a name if it means the name
-numbered : (id : ℕ) (r : Resolved) → is_number id r ≡ true → r ≡ Name id
-numbered id (Name n) is = ap Name (eqb-true n id is)
-numbered id r is = absurd (cc)
+numbered : (id : ℕ) (r : Resolved) → Decides (is_number id r) (r ≡ Name id)
+numbered id r = grind (arith, nat_tests)
 
-resolves_as : (os : List OccurrenceRead) (id : ℕ) (o : OccurrenceRead) → id < length (names_in_order os)
-    → resolves_to os (get_or (names_in_order os) id []) o ≡ true → resolve os o ≡ Name id
-resolves_as os id o h is = numbered id (resolve os o)
-    (is_number-means (names_in_order os) (meaning (full_names os) o) id (distinct_names os) h ∙ is)
-
-resolves_not : (os : List OccurrenceRead) (id : ℕ) (o : OccurrenceRead) → id < length (names_in_order os)
-    → resolves_to os (get_or (names_in_order os) id []) o ≡ false → resolve os o ≢ Name id
-resolves_not os id o h is = λ same.
-    let means = is_number-means (names_in_order os) (meaning (full_names os) o) id (distinct_names os) h in
-    let clash : true ≡ false = sym (eq-eqb id id refl) ∙ sym (ap (is_number id) same) ∙ means ∙ is in
-    cc
+resolves : (os : List OccurrenceRead) (id : ℕ) (o : OccurrenceRead) → id < length (names_in_order os)
+    → Decides (resolves_to os (get_or (names_in_order os) id []) o) (resolve os o ≡ Name id)
+resolves os id o h = subst (λ b. Decides b (resolve os o ≡ Name id))
+    (is_number-means (names_in_order os) (meaning (full_names os) o) id (distinct_names os) h)
+    (numbered id (resolve os o))
 
 pub some_of : {X : Type 0} (o : Option X) → IsSome o → (x : X) × (o ≡ Some x)
 some_of o h = search rules
@@ -59,7 +53,7 @@ pub first_law : (os : List OccurrenceRead) (id : ℕ)
 first_law os id h =
     let name = get_or (names_in_order os) id [] in
     let found = some_of (find (resolves_to os name) os) (occur os name (Contains-get_or (names_in_order os) id [] h)) in
-    grind (arith, nat_tests, find_at, resolves_as os id found.0 h, found_passes, resolves_not os id, none_before)
+    grind (arith, nat_tests, find_at, resolves os id, found_passes, none_before)
 
 pub file_law : (os : List OccurrenceRead) (id : ℕ) → id < length (names_in_order os)
     → IsFirstAsFileIfAny os id (first_file_number os (get_or (names_in_order os) id []))
@@ -80,10 +74,10 @@ file_law os id h = by (nat_lt (position_or_len as_file os) (length os)) refl
             occurrence = found.0;
             at = found.2;
             is_file = passes.0;
-            resolves = resolves_as os id found.0 h passes.1;
+            resolves = (resolves os id found.0 h).0 passes.1;
             no_earlier = λ n o less read file.
-                grind (arith, nat_tests, resolves_not os id o h, none_before as_file os o n less read);
+                grind (arith, nat_tests, resolves os id o h, none_before as_file os o n less read);
           })
       | inr past ↦ absurd (omega (arith, ltb-true (position_or_len as_file os) (length os) is))
     ]
-    by false is = λ o c file. grind (arith, nat_tests, resolves_not os id o h, none_passes as_file os o)
+    by false is = λ o c file. grind (arith, nat_tests, resolves os id o h, none_passes as_file os o)

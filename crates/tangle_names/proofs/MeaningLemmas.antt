@@ -5,7 +5,7 @@ use Rattle.std.proofs.Common.{inl, inr, Contains, map, ◌||◌, arith, get_or, 
 use Rattle.std.specs.List.{list_all, list_any, position_or_len}
 use Rattle.std.proofs.lemmas.List.Elements.{All-contains, Contains-get_or}
 use Rattle.std.proofs.lemmas.List.Folds.{list_any-from_Any, list_any_none}
-use Rattle.std.proofs.lemmas.List.Sums.{AllPass-from_list_all, list_all-from_AllPass, fails_before_first}
+use Rattle.std.proofs.lemmas.List.Sums.{AllPass-from_list_all, fails_before_first}
 use Rattle.std.proofs.lemmas.Map.Views.{Contains-from_any}
 use Rattle.std.specs.Str.{bytes_eq}
 use Rattle.std.proofs.lemmas.Slice.Eq.{bytes_eq-Decides}
@@ -14,10 +14,6 @@ use Rattle.tangle_names.specs.Laws.{BothBegin, IsOnlyWith}
 use Rattle.tangle_names.specs.Sorted.{SameTexts}
 use Rattle.std.proofs.lemmas.Bool.{cases_Bool, cond_both, false_from_ne_true}
 use Rattle.tangle_names.proofs.ContainsLemmas.{here, there, no_item, cons_cases, into_filter, out_of_filter}
-
-pub list_all-from : {X : Type 0} (q : X → Bool) (xs : List X)
-    → ((u : X) → Contains xs u → q u ≡ true) → list_all q xs ≡ true
-list_all-from q xs h = list_all-from_AllPass q xs (λ i d low. h (get_or xs i d) (Contains-get_or xs i d low))
 
 pub list_all-at : {X : Type 0} (q : X → Bool) (xs : List X) (u : X) → list_all q xs ≡ true → Contains xs u → q u ≡ true
 list_all-at q xs u h c = All-contains (λ v. q v ≡ true) xs u (AllPass-from_list_all q xs h) c

@@ -1,20 +1,16 @@
 -- The name that is meant is among the names, and keeps its number.
-use Rattle.std.proofs.Common.{◌≡◌, ◌+◌, ◌∙◌, ◌||◌, ◌<◌, ℕ, true, List, [], ◌∷◌, ◌++◌, length, map, drop, fold, get_or}
-use Rattle.std.proofs.Common.{refl, ap, sym, arith, rules, take}
+use Rattle.std.proofs.Common.{◌≡◌, ◌∙◌, ◌||◌, true, List, [], ◌∷◌, fold}
+use Rattle.std.proofs.Common.{refl, sym, arith}
 use Rattle.std.specs.List.{list_any, position_or_len}
 use Rattle.std.specs.Str.{bytes_eq}
 use Rattle.std.proofs.Math.Bool.{or-false}
 use Rattle.std.proofs.lemmas.Cmp.{nat_list_eq_equiv}
-use Rattle.std.proofs.lemmas.List.{drop_more, map_push, take_more}
 use Rattle.std.proofs.lemmas.Bool.Decides.{nat_tests}
 use Rattle.std.proofs.lemmas.List.Folds.{list_any-append, position_or_len_push}
 use Rattle.std.proofs.lemmas.Slice.Eq.{bytes_eq-Decides}
 use Rattle.tangle_lexer.specs.Occurrences.{OccurrenceRead}
-use Rattle.tangle_names.specs.declared.Resolved.{Resolved}
 use Rattle.tangle_names.specs.Names.{NameText, Meaning, One, full_names, meaning, means}
 use Rattle.tangle_names.specs.Resolving.{meanings, names_in_order, resolved_meaning, resolves_to, with_name}
-use Rattle.tangle_names.specs.Sorted.{meaning_of}
-use Rattle.tangle_names.specs.declared.sorted.Meaning.{Meaning as Found}
 use Rattle.tangle_names.proofs.MeaningLemmas.{any_inside, any-map}
 
 -- a name is among the names after these meanings if it was before them, or if one of them means it
@@ -45,28 +41,10 @@ number-kept t [] ts h = refl
 number-kept t (m ∷ ms) ts h =
     grind (arith, nat_tests, number-kept t ms (with_name ts m), number-with t ts m, named-with t ts m)
 
-resolved-first : (ms : List Meaning) (ts : List NameText) (m : Meaning)
+pub resolved-first : (ms : List Meaning) (ts : List NameText) (m : Meaning)
     → resolved_meaning (fold with_name ts (m ∷ ms)) m ≡ resolved_meaning ts m
 resolved-first ms ts (One t) =
     let own = number-with t ts (One t) in
     let named = named-with t ts (One t) in
     grind (arith, nat_tests, number-kept t ms (with_name ts (One t)), own, nat_list_eq_equiv.refl t)
 resolved-first ms ts m = refl
-
--- one more meaning: the names at the end stay the same, and so does its number among them
-pub one_more : (ms : List Found) (i : ℕ) (d : Found)
-    (old new all : List NameText) (done more : List Resolved) (r : Resolved)
-    → i < length ms → new ≡ with_name old (meaning_of (get_or ms i d))
-    → r ≡ resolved_meaning old (meaning_of (get_or ms i d))
-    → more ≡ done ++ r ∷ [] → fold with_name old (map meaning_of (drop i ms)) ≡ all
-    → done ≡ map (resolved_meaning all) (map meaning_of (take i ms))
-    → (fold with_name new (map meaning_of (drop (i + 1) ms)) ≡ all)
-    × (more ≡ map (resolved_meaning all) (map meaning_of (take (i + 1) ms)))
-one_more ms i d old new all done more r h named number pushed sofar before =
-    let m = meaning_of (get_or ms i d) in
-    let rest = map meaning_of (drop (i + 1) ms) in
-    let is : fold with_name (with_name old m) rest ≡ all =
-    sym (ap (λ l. fold with_name old (map meaning_of l)) (drop_more ms i d h)) ∙ sofar in
-    let same = number ∙ sym (resolved-first rest old m) ∙ ap (λ names. resolved_meaning names m) is in
-    let taken = take_more ms i d h in
-    (ap (λ names. fold with_name names rest) named ∙ is, search (rules, map_push))

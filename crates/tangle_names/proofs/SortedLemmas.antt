@@ -26,7 +26,7 @@ use Rattle.tangle_names.specs.Sorted.{BeginsAt, IsInOrder, SameTexts, borrowed_n
 use Rattle.tangle_names.proofs.MeaningLemmas.{Fits, list_any-none, list_any-some}
 use Rattle.tangle_names.proofs.OrderLemmas.{begins-above, begins-between}
 
-size : (sorted : List (Bor NameText)) → length (borrowed_names sorted) ≡ length sorted
+pub size : (sorted : List (Bor NameText)) → length (borrowed_names sorted) ≡ length sorted
 size sorted = length-map sorted (λ (b : Bor NameText). b.now)
 
 pub at_text : (sorted : List (Bor NameText)) (k : ℕ) (d : Bor NameText)
@@ -228,9 +228,3 @@ pub begins_another-read : (sorted : List (Bor NameText)) (i : ℕ) (d : Bor Name
     → BeginsAt (borrowed_names sorted) (get_or sorted i d).now (i + 1)
     → begins_another (borrowed_names sorted) (get_or (borrowed_names sorted) i []) ≡ true
 begins_another-read sorted i d up inside next = search (rules, begins-next, at_text)
-
-pub begins_none-read : (sorted : List (Bor NameText)) (i : ℕ) (d : Bor NameText)
-    → IsInOrder (borrowed_names sorted) → i < length sorted
-    → (BeginsAt (borrowed_names sorted) (get_or sorted i d).now (i + 1) → ⊥)
-    → begins_another (borrowed_names sorted) (get_or (borrowed_names sorted) i []) ≡ false
-begins_none-read sorted i d up inside alone = search (rules, size, begins-none, at_text)

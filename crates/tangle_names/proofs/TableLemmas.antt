@@ -2,7 +2,7 @@
 use Rattle.std.proofs.Common.{rules}
 use Rattle.std.proofs.Common.{◌≡◌, ◌<◌, ◌∙◌, ℕ, zero, suc, Bool, true, cond, not, ◌&&◌, List}
 use Rattle.std.proofs.Common.{[], ◌∷◌, length, map, filter, fold, get_or, ap, sym, subst, arith, inl, inr}
-use Rattle.std.proofs.Common.{None, Contains}
+use Rattle.std.proofs.Common.{Contains}
 use Rattle.std.specs.List.{list_any, position_or_len}
 use Rattle.std.specs.Str.{bytes_eq}
 use Rattle.std.proofs.lemmas.Bool.Decides.{nat_tests}
@@ -13,15 +13,15 @@ use Rattle.std.proofs.lemmas.List.Elements.{Contains-get_or}
 use Rattle.std.proofs.lemmas.Slice.Eq.{bytes_eq-Decides}
 use Rattle.std.proofs.lemmas.Bool.{false_from_ne_true}
 use Rattle.std.proofs.lemmas.Simd.{map-map}
-use Rattle.tangle_names.specs.declared.first_numbers.Counted.TheVariants.{All, Files}
+use Rattle.tangle_names.specs.declared.first_numbers.Counted.{Counted}
 use Rattle.tangle_names.specs.declared.Resolved.{Resolved}
 use Rattle.tangle_lexer.specs.Occurrences.{OccurrenceRead}
 use Rattle.tangle_names.specs.Names.{NameText, Meaning, One, full_names, meaning, means, only_with}
 use Rattle.tangle_names.specs.Names.{prefix, begins_with}
 use Rattle.tangle_names.specs.Resolving.{meanings, names_in_order, resolve, resolved_meaning, resolves_to}
-use Rattle.tangle_names.specs.Resolving.{with_name, first_file_number, first_number}
+use Rattle.tangle_names.specs.Resolving.{with_name}
 use Rattle.tangle_names.specs.Faults.{begins_another}
-use Rattle.tangle_names.specs.Numbers.{begins_another_by_number, first_by_number, is_number, number_below}
+use Rattle.tangle_names.specs.Numbers.{begins_another_by_number, first_by_number, is_counted, is_number}
 use Rattle.tangle_names.specs.Sorted.{SameTexts}
 use Rattle.tangle_names.proofs.ContainsLemmas.{into_filter, into_map}
 use Rattle.tangle_names.proofs.MeaningLemmas.{Fits, list_any-none, list_any-some, only_with-fits}
@@ -82,19 +82,6 @@ names_are_full os t c =
     meant_name os o.1 t (o.0, o.2, o.3) (means-one t (meaning (full_names os) o.1) o.4)
 
 -- properties of a name by its number
-pub first-known : (os : List OccurrenceRead) (id : ℕ) → id < length (names_in_order os)
-    → first_by_number (resolve os) All os id ≡ first_number os (get_or (names_in_order os) id [])
-first-known os id h = λ i. position_or_len
-    (λ (o : OccurrenceRead).
-    is_number-means (names_in_order os) (meaning (full_names os) o) id (distinct_names os) h i) os
-
-pub first_file-known : (os : List OccurrenceRead) (id : ℕ) → id < length (names_in_order os)
-    → first_by_number (resolve os) Files os id
-    ≡ position_or_len (λ (o : OccurrenceRead). o.is_file && resolves_to os (get_or (names_in_order os) id []) o) os
-first_file-known os id h = λ i. position_or_len
-    (λ (o : OccurrenceRead). o.is_file
-    && is_number-means (names_in_order os) (meaning (full_names os) o) id (distinct_names os) h i) os
-
 any-at : (q : NameText → Bool) (xs : List NameText) (n : NameText)
     → Contains xs n → list_any (λ (t : NameText). q t && bytes_eq n t) xs ≡ q n
 any-at q xs n c = elim (cases_Bool (q n)) [
@@ -135,20 +122,15 @@ by_numbers f names xs d size known =
     ext_get_or d xs (map f names) (omega arith) (λ id h.
     let inside : id < length names = omega arith in known id inside ∙ sym (get_or-map f names id [] d inside))
 
-pub first_occurrences_are : (os : List OccurrenceRead) (numbers : List ℕ) → length numbers ≡ length (names_in_order os)
-    → ((id : ℕ) → id < length (names_in_order os) → get_or numbers id 0 ≡ first_by_number (resolve os) All os id)
-    → numbers ≡ map (first_number os) (names_in_order os)
-first_occurrences_are os numbers size known =
-    by_numbers (first_number os) (names_in_order os) numbers 0 size (λ id h. known id h ∙ first-known os id h)
-
-pub first_file_occurrences_are : (os : List OccurrenceRead) (numbers : List ℕ)
+pub firsts_are : (os : List OccurrenceRead) (counted : Counted) (numbers : List ℕ)
     → length numbers ≡ length (names_in_order os)
-    → ((id : ℕ) → id < length (names_in_order os) → get_or numbers id 0 ≡ first_by_number (resolve os) Files os id)
-    → map (number_below (length os)) numbers ≡ map (first_file_number os) (names_in_order os)
-first_file_occurrences_are os numbers size known =
-    let below = number_below (length os) in
-    by_numbers (first_file_number os) (names_in_order os) (map below numbers) None (length-map numbers below ∙ size)
-    (λ id h. get_or-map below numbers id 0 None (omega arith) ∙ ap below (known id h ∙ first_file-known os id h))
+    → ((id : ℕ) → id < length (names_in_order os) → get_or numbers id 0 ≡ first_by_number (resolve os) counted os id)
+    → numbers
+    ≡ map (λ name. position_or_len (λ o. is_counted counted o && resolves_to os name o) os) (names_in_order os)
+firsts_are os counted numbers size known =
+    by_numbers (λ name. position_or_len (λ o. is_counted counted o && resolves_to os name o) os) (names_in_order os)
+    numbers 0 size (λ id h. known id h ∙ (λ i. position_or_len (λ (o : OccurrenceRead). is_counted counted o
+    && is_number-means (names_in_order os) (meaning (full_names os) o) id (distinct_names os) h i) os))
 
 pub resolved_are : (os : List OccurrenceRead) (ms : List Meaning) (texts : List NameText) (rs : List Resolved)
     → ms ≡ meanings os → texts ≡ names_in_order os → rs ≡ map (resolved_meaning texts) ms → rs ≡ map (resolve os) os

@@ -1,7 +1,7 @@
 -- Names by their numbers, from which the table is built. Most of these definitions are cited only
 -- by private contracts.
-use Rattle.std.specs.Prelude.{◌≡◌, ◌<◌, ℕ, Bool, true, false, nat_lt, ◌==◌, ◌&&◌, ◌||◌, ◌+◌, List, [], ◌∷◌}
-use Rattle.std.specs.Prelude.{length, flat_map, map, slice_get, slice_index_or, Option}
+use Rattle.std.specs.Prelude.{◌≡◌, ◌<◌, ℕ, Bool, true, false, nat_lt, ◌==◌, ◌&&◌, ◌||◌, List}
+use Rattle.std.specs.Prelude.{length, map, slice_get, slice_index_or, Option}
 use Rattle.std.specs.Prelude.{Some, None, option_to_list, if◌then◌else◌}
 use Rattle.std.specs.List.{list_any, position_or_len}
 use Rattle.tangle_lexer.specs.declared.occurrences.OccurrenceRole.{OccurrenceRole}
@@ -9,12 +9,12 @@ use Rattle.tangle_lexer.specs.declared.occurrences.OccurrenceRole.TheVariants.{U
 use Rattle.tangle_names.specs.declared.first_numbers.Counted.{Counted}
 use Rattle.tangle_names.specs.declared.first_numbers.Counted.TheVariants.{All, Files, Uses}
 use Rattle.tangle_names.specs.declared.Resolved.{Resolved}
-use Rattle.tangle_names.specs.declared.Resolved.TheVariants.{Name, NoFullName}
+use Rattle.tangle_names.specs.declared.Resolved.TheVariants.{Name}
 use Rattle.tangle_faults.specs.declared.faults.FaultKind.TheVariants as kind
 use Rattle.tangle_faults.specs.Faults.{fault_about, FaultRead}
 use Rattle.tangle_scan.specs.Web.{WebRead}
 use Rattle.tangle_lexer.specs.Occurrences.{OccurrenceRead}
-use Rattle.tangle_names.specs.Faults.{resolution_fault, named_place_of}
+use Rattle.tangle_names.specs.Faults.{named_place_of}
 use Rattle.tangle_names.specs.Names.{NameText, One}
 use Rattle.tangle_names.specs.Resolving.{resolved_meaning}
 use Rattle.tangle_names.specs.Faults.{begins_another}
@@ -57,32 +57,11 @@ pub record Flags (old new : List Bool) (flagged : Bool) (resolved : Resolved) : 
   pub flags : (id : ℕ) → id < length old → slice_index_or new id false
       ≡ (slice_index_or old id false || (flagged && is_number id resolved))
 
--- the numbers of the items that pass, where the first item has the number `k`
-abbrev pub numbers_from : {X : Type 0} → (X → Bool) → ℕ → List X → List ℕ
-numbers_from q k [] = []
-numbers_from q k (x ∷ xs) = if q x then k ∷ numbers_from q (k + 1) xs else numbers_from q (k + 1) xs
-
--- an occurrence with this resolution resolves to no name
-abbrev pub is_unresolved : Resolved → Bool
-is_unresolved (Name id) = false
-is_unresolved _ = true
-
--- the fault of the occurrence with this number, by its resolution
-abbrev pub fault_of_number : WebRead → List Resolved → ℕ → List FaultRead
-fault_of_number web resolved n =
-    flat_map (resolution_fault web.file_names (slice_index_or resolved n NoFullName))
-    (option_to_list (slice_get web.occurrences n))
-
 -- the warning for a name that begins another and whose first occurrence has this number
 abbrev pub warning : WebRead → ℕ → NameText → List FaultRead
 warning web first name =
     map (λ o. fault_about kind.PrefixName (named_place_of web.file_names o.origin) name)
     (option_to_list (slice_get web.occurrences first))
-
--- the warning for the name with this number
-abbrev pub warning_of_number : WebRead → List NameText → List ℕ → ℕ → List FaultRead
-warning_of_number web names first_occurrences id =
-    warning web (slice_index_or first_occurrences id 0) (slice_index_or names id [])
 
 -- the name with this number begins another of the texts
 abbrev pub begins_another_by_number : List NameText → List NameText → ℕ → Bool

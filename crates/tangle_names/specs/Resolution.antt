@@ -5,7 +5,7 @@ use Rattle.tangle_lexer.specs.Occurrences.{OccurrenceRead}
 use Rattle.tangle_names.specs.declared.resolution.Resolution.{Resolution}
 use Rattle.tangle_names.specs.Faults.{begins_another}
 use Rattle.tangle_names.specs.NameTable.{TableRead, table_over}
-use Rattle.tangle_names.specs.Numbers.{is_unresolved, number_below, numbers_from}
+use Rattle.tangle_names.specs.Numbers.{number_below}
 
 -- a resolution as a table
 abbrev pub table_read : Resolution → TableRead
@@ -17,15 +17,11 @@ table_read r = record {
       map (number_below (length r.resolved.items)) r.first_file_occurrences.items;
 }
 
--- The other numbers follow from the names and from the resolution of the occurrences: each name has
--- a first occurrence, and the occurrences without a name and the names that begin others are
--- listed.
+-- Each name has a first occurrence and a flag, which says whether the name begins another.
 pub record ResolutionInvariant (r : Resolution) : Type 0 where
   pub first_occurrences : length r.first_occurrences.items ≡ length r.names.keys
   pub first_file_occurrences : length r.first_file_occurrences.items ≡ length r.names.keys
-  pub unresolved : r.unresolved.items ≡ numbers_from is_unresolved 0 r.resolved.items
-  pub beginning_numbers : r.beginning_numbers.items
-      ≡ numbers_from (begins_another r.names.keys) 0 r.names.keys
+  pub begins : r.begins.items ≡ map (begins_another r.names.keys) r.names.keys
 
 -- the resolution is that of the occurrences
 pub record IsResolutionOf (os : List OccurrenceRead) (r : Resolution) : Type 0 where

@@ -3,13 +3,12 @@ ghost use Rattle.std.specs.Prelude.{◌≡◌, ◌<◌, ℕ, [], IfOk, length, s
 ghost use Rattle.tangle_names.specs.declared.Resolved.TheVariants.{Name};
 ghost use Rattle.tangle_names.specs.Faults.{begins_another};
 ghost use Rattle.tangle_names.specs.Names.{One};
-ghost use Rattle.tangle_names.specs.Numbers.{begins_another_by_number};
-ghost use Rattle.tangle_names.specs.Numbers.{numbers_from, Flags};
+ghost use Rattle.tangle_names.specs.Numbers.{begins_another_by_number, Flags};
 ghost use Rattle.tangle_names.specs.Resolving.{resolved_meaning};
 ghost use Rattle.tangle_names.specs.Sorted.{IsInOrder, borrowed_names};
 
 use crate::keys::NameSet;
-use crate::numbers::{number, push_if};
+use crate::numbers::number;
 use crate::sorted::begins_at;
 use std::alloc::{AllocError, Global};
 
@@ -53,15 +52,4 @@ fn flag(flags: &mut Vec<bool>, id: usize)
     if id < flags.len() {
         flags[id] = true;
     }
-}
-
-/// The numbers whose flags are set.
-pub(crate) fn flagged_numbers(alloc: Global, flags: &[bool]) -> Result<Vec<usize>, AllocError>
-    ensures { IfOk result (λ v. v.items ≡ numbers_from (λ flag. flag) 0 flags.now) }
-{
-    let mut numbers = Vec::new(alloc);
-    for number in 0..flags.len() {
-        push_if(&mut numbers, flags[number], number)?;
-    }
-    Ok(numbers)
 }

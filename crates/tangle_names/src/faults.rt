@@ -1,13 +1,13 @@
 //! The faults of names.
-ghost use Rattle.std.specs.Prelude.{◌≡◌, ◌<◌, ◌++◌, ◌∷◌, [], All, IfOk, OnOk, flat_map, length};
+ghost use Rattle.std.specs.Prelude.{◌≡◌, ◌++◌, ◌∷◌, [], IfOk, OnOk, flat_map, if◌then◌else◌, map};
 ghost use Rattle.tangle_faults.specs.Faults.{fault_about};
-ghost use Rattle.tangle_names.specs.Faults.{name_faults, named_place_of, resolution_fault};
-ghost use Rattle.tangle_names.specs.Numbers.{fault_of_number};
-ghost use Rattle.tangle_names.specs.Numbers.{warning, warning_of_number};
+ghost use Rattle.tangle_names.specs.Faults.{name_faults, named_place_of, prefix_fault};
+ghost use Rattle.tangle_names.specs.Faults.{resolution_fault, resolution_faults};
+ghost use Rattle.tangle_names.specs.Numbers.{warning};
 ghost use Rattle.tangle_names.specs.Resolution.{IsResolutionOf};
+ghost use Rattle.tangle_names.specs.Resolving.{names_in_order, resolve};
 
 use crate::Resolved;
-use crate::keys::NameKey;
 use crate::resolution::Resolution;
 use std::alloc::Global;
 use tangle_lines::{Fault, FaultKind, NoMemory, Origin};
@@ -50,52 +50,39 @@ fn add_resolution_fault(
     }
 }
 
-/// Adds the fault of the occurrence with this number, if it resolves to no name.
-fn add_fault_of_number(
+/// Adds the faults of the occurrences that resolve to no name.
+fn add_resolution_faults(
     alloc: Global,
     faults: &mut Vec<Fault>,
     web: &Web,
     resolved: &[Resolved],
-    number: usize,
 ) -> Result<(), NoMemory>
-    requires { length resolved.now ≡ length web.now.occurrences }
-    ensures { OnOk result (faults.new.items
-        ≡ faults.old.items ++ fault_of_number web.now resolved.now number) }
+    requires { resolved.now ≡ map (resolve web.now.occurrences) web.now.occurrences }
+    ensures { OnOk result (faults.new.items ≡ faults.old.items ++ resolution_faults
+        web.now.file_names (resolve web.now.occurrences) web.now.occurrences) }
 {
-    if let Some(occurrence) = web.occurrences().get(number) {
-        add_resolution_fault(alloc, faults, web, occurrence, resolved[number])?;
+    let occurrences = web.occurrences();
+    for number in 0..occurrences.len() {
+        add_resolution_fault(alloc, faults, web, &occurrences[number], resolved[number])?;
     }
     Ok(())
 }
 
-/// Adds the faults of those of the numbered occurrences that resolve to no name.
-fn add_faults_of_numbers(
-    alloc: Global,
-    faults: &mut Vec<Fault>,
-    web: &Web,
-    resolved: &[Resolved],
-    numbers: &[usize],
-) -> Result<(), NoMemory>
-    requires { length resolved.now ≡ length web.now.occurrences }
-    ensures { OnOk result (faults.new.items
-        ≡ faults.old.items ++ flat_map (fault_of_number web.now resolved.now) numbers.now) }
-{
-    for number in numbers {
-        add_fault_of_number(alloc, faults, web, resolved, *number)?;
-    }
-    Ok(())
-}
-
-/// Adds the warning that a name begins another, at the occurrence with this number.
+/// Adds the warning that a name begins another, if it does, at the occurrence with this number.
 fn add_warning(
     alloc: Global,
     faults: &mut Vec<Fault>,
     web: &Web,
+    begins: bool,
     first: usize,
     name: &[u8],
 ) -> Result<(), NoMemory>
-    ensures { OnOk result (faults.new.items ≡ faults.old.items ++ warning web.now first name.now) }
+    ensures { OnOk result (faults.new.items
+        ≡ faults.old.items ++ (if begins then warning web.now first name.now else [])) }
 {
+    if !begins {
+        return Ok(());
+    }
     if let Some(occurrence) = web.occurrences().get(first) {
         let origin = occurrence.origin();
         add_fault(alloc, faults, web, FaultKind::PrefixName, origin, name)?;
@@ -103,29 +90,22 @@ fn add_warning(
     Ok(())
 }
 
-/// Adds the warnings for the names with these numbers, each of which begins another.
+/// Adds the warnings for the names that begin others.
 fn add_warnings(
     alloc: Global,
     faults: &mut Vec<Fault>,
     web: &Web,
-    names: &[NameKey<'_>],
-    first_occurrences: &[usize],
-    ids: &[usize],
+    resolution: &Resolution,
 ) -> Result<(), NoMemory>
-    requires first_occurrences { length first_occurrences.now ≡ length names.now }
-    requires inside { All (λ id. id < length names.now) ids.now }
+    requires { IsResolutionOf web.now.occurrences resolution.now }
     ensures { OnOk result (faults.new.items ≡ faults.old.items
-        ++ flat_map (warning_of_number web.now names.now first_occurrences.now)
-        ids.now) }
+        ++ flat_map (prefix_fault web.now) (names_in_order web.now.occurrences)) }
 {
-    for id in ids {
-        add_warning(
-            alloc,
-            faults,
-            web,
-            first_occurrences[*id],
-            names[*id].bytes(),
-        )?;
+    let names = resolution.names.as_slice();
+    for id in 0..names.len() {
+        let begins = resolution.begins[id];
+        let first = resolution.first_occurrences[id];
+        add_warning(alloc, faults, web, begins, first, names[id].bytes())?;
     }
     Ok(())
 }
@@ -140,17 +120,7 @@ pub(crate) fn faults(
     ensures { IfOk result (λ v. v.items ≡ name_faults web.now) }
 {
     let mut faults = Vec::new(alloc);
-    let resolved = &resolution.resolved;
-    add_faults_of_numbers(alloc, &mut faults, web, resolved, &resolution.unresolved)?;
-    let names = resolution.names.as_slice();
-    let first_occurrences = &resolution.first_occurrences;
-    add_warnings(
-        alloc,
-        &mut faults,
-        web,
-        names,
-        first_occurrences,
-        &resolution.beginning_numbers,
-    )?;
+    add_resolution_faults(alloc, &mut faults, web, &resolution.resolved)?;
+    add_warnings(alloc, &mut faults, web, resolution)?;
     Ok(faults)
 }

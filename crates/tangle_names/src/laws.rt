@@ -25,6 +25,7 @@ pub fn names_are_the_full_names()
 /// A full name resolves to itself. An abbreviation resolves to the one full name of the web that
 /// begins with its prefix. It has no full name where none begins with the prefix, and is ambiguous
 /// where several different ones do.
+#[tactic(auto, using(crate::proofs::LawLemmas::full_law, crate::proofs::LawLemmas::prefix_law))]
 pub fn occurrences_resolve_by_the_whole_web()
     ensures full { (occurrences : List OccurrenceRead) (occurrence : OccurrenceRead)
         → Contains occurrences occurrence → occurrence.is_abbreviation ≡ false

@@ -10,6 +10,7 @@ ghost use Rattle.tangle_names.specs.Numbers.{first_by_number};
 use crate::Resolved;
 use crate::faults::faults;
 use crate::first_numbers::{Counted, first_numbers};
+use crate::keys::find;
 use crate::names::Names;
 use crate::resolution::{Resolution, are_written_alike};
 use std::alloc::Global;
@@ -94,7 +95,7 @@ impl NameTable {
     pub fn find(&self, text: &[u8]) -> Option<usize>
         ensures { result ≡ position (bytes_eq text.now) self.now.names }
     {
-        self.resolution.find(text)
+        find(&self.resolution.names, text)
     }
 
     /// Shares the full names.
@@ -112,7 +113,7 @@ impl NameTable {
     pub fn count(&self) -> usize
         ensures { result ≡ length self.now.names }
     {
-        self.resolution.count()
+        self.resolution.names.len()
     }
 
     /// The text of the full name with this number.
@@ -120,7 +121,7 @@ impl NameTable {
         requires { id < length self.now.names }
         ensures { result.now ≡ slice_index_or self.now.names id [] }
     {
-        self.resolution.text(id)
+        self.resolution.names.as_slice()[id].bytes()
     }
 
     /// The number of the first occurrence that resolves to the full name with this number; it may
@@ -139,11 +140,7 @@ impl NameTable {
         ensures { result ≡ slice_index_or self.now.first_file_occurrences id None }
     {
         let number = self.resolution.first_file_occurrences[id];
-        if number < self.resolution.resolved.len() {
-            Some(number)
-        } else {
-            None
-        }
+        (number < self.resolution.resolved.len()).then_some(number)
     }
 
     /// Whether the full name with this number is a file: an occurrence with `@(` resolves to it.

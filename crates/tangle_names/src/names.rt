@@ -3,6 +3,7 @@ ghost use Rattle.std.specs.Prelude.{◌≡◌, ◌<◌, [], IfOk, length, positi
 ghost use Rattle.std.specs.Prelude.{slice_index_or};
 ghost use Rattle.std.specs.Str.{bytes_eq};
 
+use crate::keys::find;
 use crate::resolution::Resolution;
 use std::marker::Model;
 use std::rc::Rc;
@@ -47,7 +48,7 @@ impl Names {
     pub fn count(&self) -> usize
         ensures { result ≡ length self.now }
     {
-        self.resolution.count()
+        self.resolution.names.len()
     }
 
     /// The text of the name with this number.
@@ -55,13 +56,13 @@ impl Names {
         requires { id < length self.now }
         ensures { result.now ≡ slice_index_or self.now id [] }
     {
-        self.resolution.text(id)
+        self.resolution.names.as_slice()[id].bytes()
     }
 
     /// The number of the name with this text, if there is one.
     pub fn find(&self, text: &[u8]) -> Option<usize>
         ensures { result ≡ position (bytes_eq text.now) self.now }
     {
-        self.resolution.find(text)
+        find(&self.resolution.names, text)
     }
 }

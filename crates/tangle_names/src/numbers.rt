@@ -1,9 +1,8 @@
 //! Numbers the full names, and resolves the occurrences.
-ghost use Rattle.std.specs.Prelude.{◌≡◌, ◌∷◌, ◌++◌, [], IfOk, OnOk, if◌then◌else◌, map};
+ghost use Rattle.std.specs.Prelude.{◌≡◌, [], IfOk, OnOk, map};
 ghost use Rattle.std.specs.List.{position_or_len};
 ghost use Rattle.std.specs.Str.{bytes_eq};
 ghost use Rattle.tangle_names.specs.Names.{One, full_names};
-ghost use Rattle.tangle_names.specs.Numbers.{is_unresolved, numbers_from};
 ghost use Rattle.tangle_names.specs.Resolving.{names_in_order, names_of, resolve, resolved_meaning};
 ghost use Rattle.tangle_names.specs.Resolving.{with_name};
 ghost use Rattle.tangle_names.specs.Sorted.{IsInOrder, SameTexts, meaning_of, borrowed_names};
@@ -83,43 +82,6 @@ pub(crate) fn resolve_occurrences(
 {
     let meanings = meanings(alloc, sorted, occurrences)?;
     resolve_all(alloc, names, &meanings)
-}
-
-fn is_unresolved(resolved: Resolved) -> bool
-    ensures { result ≡ is_unresolved resolved }
-{
-    match resolved {
-        Resolved::Name(_) => false,
-        Resolved::NoFullName | Resolved::Ambiguous => true,
-    }
-}
-
-pub(crate) fn push_if(
-    numbers: &mut Vec<usize>,
-    is_listed: bool,
-    number: usize,
-) -> Result<(), AllocError>
-    ensures { OnOk result (numbers.new.items
-        ≡ numbers.old.items ++ (if is_listed then number ∷ [] else [])) }
-{
-    if is_listed {
-        numbers.push(number)?;
-    }
-    Ok(())
-}
-
-/// The numbers of the occurrences that resolve to no name.
-pub(crate) fn unresolved_numbers(
-    alloc: Global,
-    resolved: &[Resolved],
-) -> Result<Vec<usize>, AllocError>
-    ensures { IfOk result (λ v. v.items ≡ numbers_from is_unresolved 0 resolved.now) }
-{
-    let mut numbers = Vec::new(alloc);
-    for number in 0..resolved.len() {
-        push_if(&mut numbers, is_unresolved(resolved[number]), number)?;
-    }
-    Ok(numbers)
 }
 
 /// The number of a full name, or the number of all names where it is none of them.

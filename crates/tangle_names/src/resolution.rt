@@ -1,23 +1,21 @@
 //! The resolution of a web's names. It depends only on how the occurrences are written, and on no
 //! origin.
-ghost use Rattle.std.specs.Prelude.{◌≡◌, ◌↔◌, ◌<◌, [], IfOk, IsTrue, length, position};
-ghost use Rattle.std.specs.Prelude.{slice_index_or};
-ghost use Rattle.std.specs.Str.{bytes_eq};
+ghost use Rattle.std.specs.Prelude.{◌≡◌, ◌↔◌, IfOk, IsTrue};
 ghost use Rattle.tangle_names.specs.NameTable.{AreWrittenAlike, written_form};
 ghost use Rattle.tangle_names.specs.Resolution.{IsResolutionOf};
 
 use crate::Resolved;
-use crate::beginnings::{beginning_flags, flagged_numbers};
+use crate::beginnings::beginning_flags;
 use crate::first_numbers::{Counted, first_numbers};
-use crate::keys::{NameSet, find};
-use crate::numbers::{resolve_occurrences, unresolved_numbers};
+use crate::keys::NameSet;
+use crate::numbers::resolve_occurrences;
 use crate::sorted::sorted_names;
 use indexmap::IndexSet;
 use std::alloc::{AllocError, Global};
 use tangle_scan::Occurrence;
 
-/// The full names of a web, the resolution of each occurrence, and the numbers from which the
-/// faults of names are found. An edit after which each occurrence is written the same changes
+/// The full names of a web, the resolution of each occurrence, and what the faults of names are
+/// found from. An edit after which each occurrence is written the same changes
 /// nothing of this.
 #[derive(Drop)]
 pub(crate) struct Resolution {
@@ -28,10 +26,8 @@ pub(crate) struct Resolution {
     // The number of each name's first occurrence as a file; the number of all occurrences where it
     // has none.
     pub(crate) first_file_occurrences: Vec<usize>,
-    // The numbers of the occurrences that resolve to no name.
-    pub(crate) unresolved: Vec<usize>,
-    // The numbers of the names that begin others.
-    pub(crate) beginning_numbers: Vec<usize>,
+    // For each name whether it begins another.
+    pub(crate) begins: Vec<bool>,
 }
 
 impl Resolution {
@@ -42,53 +38,23 @@ impl Resolution {
         let sorted = sorted_names(alloc, occurrences)?;
         let mut names: NameSet = IndexSet::new(alloc);
         let resolved = resolve_occurrences(alloc, &mut names, &sorted, occurrences)?;
-        let first_occurrences = first_numbers(
-            alloc,
-            occurrences,
-            &resolved,
-            names.len(),
-            Counted::All,
-        )?;
+        let count = names.len();
+        let first_occurrences = first_numbers(alloc, occurrences, &resolved, count, Counted::All)?;
         let first_file_occurrences = first_numbers(
             alloc,
             occurrences,
             &resolved,
-            names.len(),
+            count,
             Counted::Files,
         )?;
-        let unresolved = unresolved_numbers(alloc, &resolved)?;
-        let flags = beginning_flags(alloc, &sorted, &names)?;
-        let beginning_numbers = flagged_numbers(alloc, &flags)?;
+        let begins = beginning_flags(alloc, &sorted, &names)?;
         Ok(Resolution {
             names,
             resolved,
             first_occurrences,
             first_file_occurrences,
-            unresolved,
-            beginning_numbers,
+            begins,
         })
-    }
-
-    /// The number of names.
-    pub(crate) fn count(&self) -> usize
-        ensures { result ≡ length self.now.names.keys }
-    {
-        self.names.len()
-    }
-
-    /// The text of the name with this number.
-    pub(crate) fn text(&self, id: usize) -> &[u8]
-        requires { id < length self.now.names.keys }
-        ensures { result.now ≡ slice_index_or self.now.names.keys id [] }
-    {
-        self.names.as_slice()[id].bytes()
-    }
-
-    /// The number of the name with this text, if there is one.
-    pub(crate) fn find(&self, text: &[u8]) -> Option<usize>
-        ensures { result ≡ position (bytes_eq text.now) self.now.names.keys }
-    {
-        find(&self.names, text)
     }
 }
 

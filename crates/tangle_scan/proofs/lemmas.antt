@@ -4,6 +4,7 @@ pub mod ItemsByOrigin
 pub mod KeptTokens
 pub mod MacroEndLemmas
 pub mod MacroItemLemmas
+pub mod MacroRunLemmas
 pub mod RawLemmas
 pub mod RestLemmas
 pub mod PartLemmas
@@ -15,4 +16,5 @@ pub mod LeftLemmas
 pub mod RuleLemmas
 pub mod RunItems
 pub mod ScanLemmas
+pub mod SpacedTokens
 pub mod SpacingLemmas

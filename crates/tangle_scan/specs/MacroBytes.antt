@@ -4,6 +4,9 @@ use Rattle.std.specs.Prelude.{if◌then◌else◌}
 use Rattle.tangle_text.specs.Bytes.{backslash}
 use Rattle.tangle_scan.specs.declared.items.Item.{Item}
 use Rattle.tangle_scan.specs.declared.items.Item.TheVariants as item
+use Rattle.tangle_lexer.specs.declared.tokens.Token.{Token}
+use Rattle.tangle_lexer.specs.declared.tokens.Token.TheVariants as token
+use Rattle.tangle_lexer.specs.declared.tokens.SpanKind.TheVariants as span_kind
 use Rattle.tangle_lexer.specs.SpanBytes.{first_byte}
 use Rattle.tangle_scan.specs.ItemBytes.{bytes_in}
 
@@ -17,6 +20,13 @@ module _ (texts : List (List ℕ)) where
   is_dropped_at_end item.LineEnd = true
   is_dropped_at_end (item.Sign span) = first_byte texts span == backslash
   is_dropped_at_end _ = false
+
+  -- the same of a token
+  abbrev pub is_dropped_token : Token → Bool
+  is_dropped_token token.White = true
+  is_dropped_token (token.LineEnd line) = true
+  is_dropped_token (token.Span span_kind.Sign s) = first_byte texts s == backslash
+  is_dropped_token _ = false
 
   abbrev pub without_end_after : Item → List Item → List Item
   without_end_after x [] = if is_dropped_at_end x then [] else x ∷ []

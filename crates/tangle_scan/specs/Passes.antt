@@ -3,7 +3,8 @@ use Rattle.std.specs.Prelude.{◌≡◌, ◌≤◌, ℕ, ◌+◌, suc, max, Bool
 use Rattle.std.specs.Prelude.{not}
 use Rattle.std.specs.Prelude.{if◌then◌else◌}
 use Rattle.std.specs.Prelude.{List, [], ◌∷◌, ◌++◌, length, take, replicate}
-use Rattle.std.specs.Prelude.{Option, Some, None, is_some, option_to_list}
+use Rattle.std.specs.Prelude.{Option, Some, None, is_some, option_to_list, option_map}
+use Rattle.std.specs.List.{list_all}
 use Rattle.tangle_lines.specs.declared.origin.Origin.{Origin}
 use Rattle.tangle_lexer.specs.declared.tokens.Token.{Token}
 use Rattle.tangle_lexer.specs.declared.tokens.Token.TheVariants as token
@@ -32,7 +33,7 @@ use Rattle.tangle_scan.specs.Rules.{would_merge, full_stop}
 use Rattle.tangle_scan.specs.Rules.{has_join}
 use Rattle.tangle_scan.specs.Rules.{without_joins, left_of_run, blanks, is_open, is_continued, at_line_front}
 use Rattle.tangle_scan.specs.Rules.{texts_of, span_text, span_item, next_line}
-use Rattle.tangle_lexer.specs.Runs.{is_run}
+use Rattle.tangle_lexer.specs.Runs.{is_run, part_token, unfolded, IsRunIn}
 use Rattle.tangle_lexer.specs.SpanBytes.{first_byte, last_byte, ends_in, ends_in_backslash}
 use Rattle.tangle_scan.specs.declared.texts.TextSize.{TextSize}
 use Rattle.tangle_scan.specs.Texts.{TextRead, IsTextOf}
@@ -326,6 +327,51 @@ highest at = max at.counted.line at.start.counted.line
 
 -- a macro
 
+-- Tokens as the lexer read them, some of them runs, and the tokens that they stand for.
+
+-- the last token of these parts, or this one if there are none
+abbrev pub last_of : Token → List RunPart → Token
+last_of e [] = e
+last_of e (p ∷ ps) = last_of (part_token p) ps
+
+abbrev pub last_token : List (List ℕ) → Token → Token
+last_token texts (token.Run s) = last_of token.White (run_parts texts s)
+last_token texts e = e
+
+abbrev pub first_of : List RunPart → Token
+first_of [] = token.White
+first_of (p ∷ ps) = part_token p
+
+abbrev pub first_token : List (List ℕ) → Token → Token
+first_token texts (token.Run s) = first_of (run_parts texts s)
+first_token texts e = e
+
+abbrev pub are_words : List RunPart → Bool
+are_words ps = list_all (λ p. is_name_part (part_token p)) ps
+
+-- all tokens that this one stands for may be parts of a macro's name
+abbrev pub are_name_parts : List (List ℕ) → Token → Bool
+are_name_parts texts (token.Run s) = are_words (run_parts texts s)
+are_name_parts texts e = is_name_part e
+
+-- a token of which something is written in a macro
+abbrev pub is_written : Token → Bool
+is_written (token.Span kind s) = true
+is_written (token.Run s) = true
+is_written (token.QuoteBreak line) = true
+is_written (token.AsciiConstant value line) = true
+is_written token.White = true
+is_written (token.LineEnd line) = true
+is_written _ = false
+
+pub record IsWritten (texts : List (List ℕ)) (e : Token) : Type 0 where
+  pub written : is_written e ≡ true
+  pub run : IsRunIn texts e
+
+-- the items that are written for spaced tokens of a macro
+abbrev pub spaced_items : List (List ℕ) → List Token → List Item
+spaced_items texts tokens = unmarked_items (unfolded texts tokens)
+
 -- the joins, white space and line ends before the first item of these tokens
 abbrev pub gap_before : List Token → List Token
 gap_before [] = []
@@ -391,9 +437,13 @@ has_blank texts in_name before gap e =
     if gap.line_ends == 0 then is_some before && gap.has_white
     else has_blank_at_line_end texts in_name before (Some e)
 
--- all items up to this one are the macro's name
-abbrev pub is_in_name : MacroState → Token → Bool
-is_in_name at e = at.in_name && (at.gap.line_ends == 0 && not at.gap.has_white) && is_name_part e
+-- nothing is between the macro's name and the position
+abbrev pub is_at_name : MacroState → Bool
+is_at_name at = at.in_name && (at.gap.line_ends == 0 && not at.gap.has_white)
+
+-- the state in which the last token of a run is the last item
+abbrev pub plain_state : List (List ℕ) → MacroState → MacroState
+plain_state texts at = record at { item = option_map (last_token texts) at.item }
 
 -- the items of what is left of a gap, and of the tokens after it
 abbrev pub items_from : List (List ℕ) → Bool → Option Token → Gap → List Token → List Item

@@ -1,7 +1,6 @@
 //! The faults among the tokens of a web.
 ghost use Rattle.std.specs.Prelude.{◌≡◌, ◌++◌, ◌∷◌, [], None, OnOk};
 ghost use Rattle.std.specs.List.{All, list_any};
-ghost use Rattle.tangle_lexer.specs.LinesOfParts as parts;
 ghost use Rattle.tangle_lexer.specs.Runs.{IsRunIn};
 ghost use Rattle.tangle_scan.specs.RawStrings as raw;
 ghost use Rattle.tangle_scan.specs.Rules.{texts_of};
@@ -9,7 +8,7 @@ ghost use Rattle.tangle_scan.specs.Web as web;
 
 use crate::raw_strings::add_raw_fault;
 use std::alloc::Global;
-use tangle_lexer::Token;
+use tangle_lexer::{Token, is_between_items};
 use tangle_lines::{Fault, FaultKind, NoMemory, Source};
 
 /// Adds a fault on a source line.
@@ -85,16 +84,6 @@ pub(crate) fn add_faults_if(
         add_faults(alloc, source, faults, tokens)?;
     }
     Ok(())
-}
-
-/// Whether a token is no item, but what may be between two of them.
-fn is_between_items(token: Token) -> bool
-    ensures { result ≡ parts.is_between_items token }
-{
-    matches!(
-        token,
-        Token::White | Token::LineEnd(_) | Token::InnerLineEnd(_) | Token::Join | Token::Fault(..)
-    )
 }
 
 /// Adds the faults of the tokens of a macro. Its first item is its name, which makes no raw string.

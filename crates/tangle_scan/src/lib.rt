@@ -24,7 +24,7 @@ mod webs;
 pub use items::{Item, OccurrenceNumber};
 pub use kept_bytes::no_byte_is_lost;
 pub use line_truth::pieces_are_at_their_lines;
-pub use macro_items::items_of_macro;
+pub use macro_items::tokens_of_macro;
 pub use pieces::Piece;
 pub use read_as_meant::items_are_read_as_meant;
 pub use scanning::scan;

@@ -1,53 +1,56 @@
 //! The bytes of macros.
-ghost use Rattle.std.specs.Prelude.{◌≡◌, ◌++◌, OnOk};
+ghost use Rattle.std.specs.Prelude.{◌≡◌, ◌++◌, ◌∷◌, [], flat_map, OnOk};
+ghost use Rattle.std.specs.List.{All};
+ghost use Rattle.tangle_scan.specs.Passes.{spaced_items, IsWritten};
 ghost use Rattle.tangle_scan.specs.MacroBytes as spec;
 ghost use Rattle.tangle_scan.specs.Rules.{texts_of};
 
-use crate::items::Item;
 use crate::touching::{first_byte, span_bytes};
 use itoa::Buffer;
+use tangle_lexer::{SpanKind, Token};
 use tangle_lines::{NoMemory, Source};
 
-/// Adds the bytes of an item of a macro, which is neither a mark nor a use. A line end gets a
-/// backslash before it.
-fn push_item(bytes: &mut Vec<u8>, source: &Source, item: Item) -> Result<(), NoMemory>
-    ensures { OnOk result (bytes.new.items
-        ≡ bytes.old.items ++ spec.macro_item_bytes (texts_of source.now.lines) item) }
+/// Adds the bytes of a token of a macro. A line end gets a backslash before it.
+fn push_token(bytes: &mut Vec<u8>, source: &Source, token: Token) -> Result<(), NoMemory>
+    requires { IsWritten (texts_of source.now.lines) token }
+    ensures { OnOk result (let texts = texts_of source.now.lines in bytes.new.items ≡ bytes.old.items
+        ++ flat_map (spec.macro_item_bytes texts) (spaced_items texts (token ∷ []))) }
 {
-    match item {
-        Item::Word(span) | Item::Sign(span) | Item::Quoted(span) | Item::Verbatim(span) => {
-            bytes.extend_from_slice(span_bytes(source, span))?;
-        }
-        Item::AsciiConstant(value) => bytes.extend_from_slice(
+    match token {
+        Token::Span(_, span) => bytes.extend_from_slice(span_bytes(source, span))?,
+        Token::Run(span) => bytes.extend_from_slice(span_bytes(source, span))?,
+        Token::AsciiConstant(value, _) => bytes.extend_from_slice(
             Buffer::new().format(value).as_bytes(),
         )?,
-        Item::Blank => bytes.push(b' ')?,
-        Item::QuoteBreak => bytes.push(b'\n')?,
-        Item::LineEnd => bytes.extend_from_slice(b"\\\n")?,
-        Item::LineMark(_) | Item::UseOf(_) | Item::AllMacros => {}
+        Token::White => bytes.push(b' ')?,
+        Token::QuoteBreak(_) => bytes.push(b'\n')?,
+        Token::LineEnd(_) => bytes.extend_from_slice(b"\\\n")?,
+        _ => {}
     }
     Ok(())
 }
 
-/// Whether the item is a blank, a line end or a backslash. These are not written at the end of a
+/// Whether a token is white space, a line end or a backslash. These are not written at the end of a
 /// macro: after a macro that ends in a backslash, a C compiler would read the next macro as a part
 /// of it.
-fn is_dropped_at_end(source: &Source, item: Item) -> bool
-    ensures { result ≡ spec.is_dropped_at_end (texts_of source.now.lines) item }
+fn is_dropped_at_end(source: &Source, token: Token) -> bool
+    ensures { result ≡ spec.is_dropped_token (texts_of source.now.lines) token }
 {
-    match item {
-        Item::Blank | Item::LineEnd => true,
-        Item::Sign(span) => first_byte(source, span) == b'\\',
+    match token {
+        Token::White | Token::LineEnd(_) => true,
+        Token::Span(SpanKind::Sign, span) => first_byte(source, span) == b'\\',
         _ => false,
     }
 }
 
-/// The items up to the last one that is no blank, line end or backslash.
-#[tactic(auto, using(crate::proofs::lemmas::MacroEndLemmas::dropped_at, crate::proofs::lemmas::MacroEndLemmas::written_at))]
-fn without_end<'i>(source: &Source, items: &'i [Item]) -> &'i [Item]
-    ensures { result.now ≡ spec.without_end (texts_of source.now.lines) items.now }
+/// The tokens up to the last one that is no white space, line end or backslash.
+fn without_end<'t>(source: &Source, tokens: &'t [Token]) -> &'t [Token]
+    requires { All (IsWritten (texts_of source.now.lines)) tokens.now }
+    ensures items { let texts = texts_of source.now.lines in
+        spaced_items texts result.now ≡ spec.without_end texts (spaced_items texts tokens.now) }
+    ensures written { All (IsWritten (texts_of source.now.lines)) result.now }
 {
-    let mut left = items;
+    let mut left = tokens;
     while let Some((last, front)) = left.split_last() {
         if !is_dropped_at_end(source, *last) {
             return left;
@@ -63,14 +66,15 @@ fn without_end<'i>(source: &Source, items: &'i [Item]) -> &'i [Item]
 pub(crate) fn push_macro(
     bytes: &mut Vec<u8>,
     source: &Source,
-    items: &[Item],
+    tokens: &[Token],
 ) -> Result<(), NoMemory>
-    ensures { OnOk result (bytes.new.items
-        ≡ bytes.old.items ++ spec.macro_bytes (texts_of source.now.lines) items.now) }
+    requires { All (IsWritten (texts_of source.now.lines)) tokens.now }
+    ensures { OnOk result (let texts = texts_of source.now.lines in bytes.new.items
+        ≡ bytes.old.items ++ spec.macro_bytes texts (spaced_items texts tokens.now)) }
 {
     bytes.extend_from_slice(b"#define ")?;
-    for item in without_end(source, items) {
-        push_item(bytes, source, *item)?;
+    for token in without_end(source, tokens) {
+        push_token(bytes, source, *token)?;
     }
     bytes.push(b'\n')?;
     Ok(())

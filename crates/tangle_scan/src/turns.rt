@@ -6,11 +6,9 @@ ghost use Rattle.tangle_scan.specs.Directives as directives;
 ghost use Rattle.tangle_scan.specs.Passes as passes;
 ghost use Rattle.tangle_scan.specs.Rules.{texts_of};
 
-use crate::items::Item;
-use crate::macro_items::item_of;
 use crate::runs::parts_of_run;
 use crate::touching::{first_byte, span_bytes};
-use tangle_lexer::Token;
+use tangle_lexer::{SpanKind, Token};
 use tangle_lines::Source;
 use tangle_text::{RunPart, Span};
 
@@ -46,46 +44,24 @@ fn is_turn_word(word: &[u8]) -> bool
         || word == b"elifndef".as_slice()
 }
 
-fn is_number_sign(source: &Source, item: Item) -> bool
-    ensures { result ≡ passes.is_number_sign (texts_of source.now.lines) item }
-{
-    match item {
-        Item::Sign(span) => first_byte(source, span) == b'#',
-        _ => false,
-    }
-}
-
-fn is_turn_item(source: &Source, item: Item) -> bool
-    ensures { result ≡ passes.is_turn_item (texts_of source.now.lines) item }
-{
-    match item {
-        Item::Word(span) => is_turn_word(span_bytes(source, span)),
-        _ => false,
-    }
-}
-
-/// How much of a turn is on the line after one more item, which is no white space, or after none.
-#[inline(always)]
-fn turn_after_item(source: &Source, at: Turn, item: Option<Item>) -> Turn
-    ensures { result ≡ passes.turn_after_item (texts_of source.now.lines) at item }
-{
-    match (at, item) {
-        (Turn::NoItem, Some(item)) if is_number_sign(source, item) => Turn::NumberSign,
-        (Turn::NumberSign, Some(item)) if is_turn_item(source, item) => Turn::Whole,
-        (Turn::NoItem | Turn::NumberSign, Some(_)) => Turn::Other,
-        _ => at,
-    }
-}
-
 /// How much of a turn is on the line after a token that is no line end. After a use or `@h` a line
 /// of C begins.
 #[inline(always)]
 pub(crate) fn turn_after(source: &Source, at: Turn, token: Token) -> Turn
     ensures { result ≡ passes.turn_after (texts_of source.now.lines) at token }
 {
-    match token {
-        Token::UseOf(..) | Token::AllMacros(_) => Turn::NoItem,
-        _ => turn_after_item(source, at, item_of(token)),
+    match (at, token) {
+        (_, Token::UseOf(..) | Token::AllMacros(_)) => Turn::NoItem,
+        (Turn::NoItem, Token::Span(SpanKind::Sign, span)) if first_byte(source, span) == b'#' => {
+            Turn::NumberSign
+        }
+        (Turn::NumberSign, Token::Span(SpanKind::Word, span))
+            if is_turn_word(span_bytes(source, span)) => { Turn::Whole }
+        (
+            Turn::NoItem | Turn::NumberSign,
+            Token::Span(..) | Token::QuoteBreak(_) | Token::AsciiConstant(..),
+        ) => Turn::Other,
+        _ => at,
     }
 }
 

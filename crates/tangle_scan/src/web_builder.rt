@@ -6,7 +6,8 @@ ghost use Rattle.tangle_faults.specs.declared.faults.FaultKind.TheVariants as fa
 ghost use Rattle.tangle_scan.specs.Rules as rules;
 ghost use Rattle.tangle_scan.specs.Web as web;
 ghost use Rattle.tangle_lexer.specs.Heads.{is_head};
-ghost use Rattle.tangle_lexer.specs.Runs.{unfolded, HasNoRun, IsRunIn};
+ghost use Rattle.tangle_lexer.specs.Runs.{unfolded, first_is_alone, IsRunIn};
+ghost use Rattle.tangle_scan.specs.Passes.{spaced_items, IsWritten};
 ghost use Rattle.tangle_lexer.specs.declared.tokens.Token.{Token as TokenRead};
 ghost use Rattle.tangle_lexer.specs.declared.tokens.Token.TheVariants as token;
 ghost use Rattle.tangle_scan.specs.MacroBytes.{macro_bytes};
@@ -14,24 +15,30 @@ ghost use Rattle.tangle_scan.specs.Rules.{texts_of};
 ghost use Rattle.tangle_scan.specs.WebBuilder.{IsGathered, nothing_stored, part_head};
 
 use crate::faults::{add_fault, add_faults, add_macro_faults};
-use crate::items::{Item, OccurrenceNumber};
+use crate::items::OccurrenceNumber;
 use crate::macro_bytes::push_macro;
-use crate::macro_items::items_of_macro;
+use crate::macro_items::tokens_of_macro;
 use crate::parts::fill_part;
 use crate::pieces::Piece;
+use crate::runs::first_token;
 use crate::texts::{PartText, PieceTexts};
 use crate::touching::first_byte;
 use std::alloc::Global;
 use std::marker::Model;
-use tangle_lexer::Token;
+use tangle_lexer::{SpanKind, Token};
 use tangle_lines::{Fault, FaultKind, NoMemory, Source};
 
-/// Whether items begin with an identifier, as those of a macro have to.
-pub fn is_macro(source: &Source, items: &[Item]) -> bool
-    ensures { result ≡ rules.is_macro (texts_of source.now.lines) items.now }
+/// Whether the spaced tokens of a macro begin with an identifier, as they have to.
+pub fn is_macro(source: &Source, tokens: &[Token]) -> bool
+    requires { All (IsWritten (texts_of source.now.lines)) tokens.now }
+    ensures { result ≡ rules.is_macro (texts_of source.now.lines)
+        (spaced_items (texts_of source.now.lines) tokens.now) }
 {
-    match items.first() {
-        Some(Item::Word(span)) => !first_byte(source, *span).is_ascii_digit(),
+    let Some(first) = tokens.first() else {
+        return false;
+    };
+    match first_token(source, *first) {
+        Token::Span(SpanKind::Word, span) => !first_byte(source, span).is_ascii_digit(),
         _ => false,
     }
 }
@@ -161,9 +168,10 @@ impl WebBuilder {
         line: u32,
         tokens: &[Token],
     ) -> Result<(), NoMemory>
-        requires { All (IsRunIn (texts_of source.now.lines)) tokens.now }
-        ensures { OnOk result
-            (let items = rules.macro_items (texts_of source.now.lines) tokens.now in
+        requires runs { All (IsRunIn (texts_of source.now.lines)) tokens.now }
+        requires alone { first_is_alone tokens.now ≡ true }
+        ensures { OnOk result (let items = rules.macro_items (texts_of source.now.lines)
+            (unfolded (texts_of source.now.lines) tokens.now) in
             let is_macro = rules.is_macro (texts_of source.now.lines) items in
             self.new ≡ record self.old {
               macros = self.old.macros
@@ -173,9 +181,9 @@ impl WebBuilder {
                   ++ web.macro_token_faults source.now.files source.now.lines tokens.now;
             }) }
     {
-        let items = items_of_macro(alloc, source, tokens)?;
-        if is_macro(source, &items) {
-            push_macro(&mut self.macros, source, &items)?;
+        let spaced = tokens_of_macro(alloc, source, tokens)?;
+        if is_macro(source, &spaced) {
+            push_macro(&mut self.macros, source, &spaced)?;
         } else {
             add_fault(alloc, source, &mut self.faults, FaultKind::MacroName, line)?;
         }
@@ -194,7 +202,8 @@ impl WebBuilder {
         requires head { is_head head ≡ true }
         requires no_head { list_any is_head tokens.now ≡ false }
         requires runs { All (IsRunIn (texts_of source.now.lines)) tokens.now }
-        requires no_run { (line : ℕ) → head ≡ token.MacroStart line → HasNoRun tokens.now }
+        requires alone { (line : ℕ) → head ≡ token.MacroStart line
+            → first_is_alone tokens.now ≡ true }
         ensures builder { OnOk result ((before : List TokenRead) → IsGathered source.now before self.old
             → IsGathered source.now
             (before ++ head ∷ unfolded (texts_of source.now.lines) tokens.now) self.new) }

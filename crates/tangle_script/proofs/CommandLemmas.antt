@@ -91,16 +91,12 @@ split xs ys =
     let after = waits_after None [] xs tt refl in
     grind (arith, nat_tests, read_after, ended-append, lines-append None, unended-append, append_assoc)
 
-more_waits : (w : Option (List ℕ)) (u ys : List ℕ)
-    → after_waiting_line w (u ++ ys) ≡ after_waiting_line w u ++ ys
-more_waits w u ys = search (rules, append_assoc)
-
 -- bytes in which no command has ended, and more bytes without a line feed
 waits_more : (xs ys : List ℕ) → OnlyWaits xs → nat_lt 0 (length (ended [] ys)) ≡ false
     → (ended_commands (xs ++ ys) ≡ []) × (pending (xs ++ ys) ≡ xs ++ ys)
 waits_more xs ys h none =
     let again = read_more xs ys h in
-    search (rules, no_feed, nil_from_length, more_waits)
+    search (rules, no_feed, nil_from_length, append_assoc)
 
 -- all bytes wait if some at the front wait, and those after them have no line feed
 pub waits_in : (n : ℕ) (xs : List ℕ) → OnlyWaits (take n xs)

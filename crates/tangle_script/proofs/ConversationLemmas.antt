@@ -10,13 +10,10 @@ use Rattle.tangle_streams.specs.Streams.{TakesAll}
 use Rattle.tangle_streams.proofs.StreamLemmas.{Appends-append}
 use Rattle.tangle_script.specs.Requests.{Command, Request, is_quit, request_of}
 use Rattle.tangle_script.specs.Commands.{ended_commands, found_commands, is_no_command, pending}
-use Rattle.tangle_script.specs.Script.{AreAnswered, Dialogue, Exchange, GoesOn, HasLast, IsAnswer, IsQuitAnswered, has_quit}
+use Rattle.tangle_script.specs.Script.{AreAnswered, Dialogue, Exchange, GoesOn, HasLast, IsAnswer, IsQuitAnswered}
 use Rattle.tangle_script.specs.Turns.{EndsScript, ends_at}
 use Rattle.tangle_script.specs.declared.answering.End.{End}
 use Rattle.tangle_script.specs.declared.answering.End.TheVariants.{Done, Failed as IsFailed}
-
-no_quit-append : (cs ds : List Command) → has_quit cs ≡ false → has_quit (cs ++ ds) ≡ has_quit ds
-no_quit-append cs ds h = search (rules, list_any-append)
 
 pub found_one : (line : List ℕ) (text : Option (List ℕ)) → is_no_command line text ≡ false
     → found_commands line text ≡ record { line = line; text = text } ∷ []
@@ -30,13 +27,10 @@ module _ {State : Type 0} (answers : State → Request → List ℕ → State �
       search rules
   dialogue-append s t v (c ∷ cs) ds a b h k = grind (arith, nat_tests, dialogue-append h.2 t v cs ds h.1 b h.4 k, append_assoc h.0 h.1 b)
 
-  answered_none : (a : Exchange State) → AreAnswered answers a a []
-  answered_none a = search rules
-
 module _ {State : Type 0} {answers : State → Request → List ℕ → State → Type 0} where
   pub goes_nowhere : (a : Exchange State) (commands : List Command) → commands ≡ [] → GoesOn answers a a commands
   goes_nowhere a commands none =
-      subst (GoesOn answers a a) (sym none) (record { is_answered = answered_none answers a; no_quit = refl })
+      subst (GoesOn answers a a) (sym none) (record { is_answered = search rules; no_quit = refl })
 
   pub then_answered : {a b c : Exchange State} {cs ds : List Command}
       → AreAnswered answers a b cs → AreAnswered answers b c ds → AreAnswered answers a c (cs ++ ds)
@@ -54,7 +48,7 @@ module _ {State : Type 0} {answers : State → Request → List ℕ → State �
       → GoesOn answers a b cs → GoesOn answers b c ds → GoesOn answers a c (cs ++ ds)
   goes_on_then {cs = cs} {ds = ds} h k = record {
     is_answered = then_answered h.is_answered k.is_answered;
-    no_quit = no_quit-append cs ds h.no_quit ∙ k.no_quit;
+    no_quit = search (rules, list_any-append, h.no_quit, k.no_quit);
   }
 
   module _ {way : Command → Exchange State → Exchange State → Type 0} {a b : Exchange State} where
@@ -103,8 +97,7 @@ module _ {State : Type 0} {answers : State → Request → List ℕ → State �
       let few : length (found_commands line text) ≤ 1 = search rules in
       let last : k.later ≡ [] = nil_from_length k.later
       (omega (arith, few, ap length k.are, length-append k.front (k.last ∷ k.later))) in
-      subst (AreAnswered answers a b) (sym (k.are ∙ ap (λ l. k.front ++ k.last ∷ l) last))
-      (then_answered k.goes_on.is_answered k.at_last.1)
+      search (rules, then_answered)
 
 -- the commands in some bytes, of which some are answered already
 

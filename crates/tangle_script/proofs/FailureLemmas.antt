@@ -58,11 +58,9 @@ pending_fits : (xs ys : List ℕ) → HasShortCommands (xs ++ ys) → length (pe
 pending_fits xs ys short =
     let waits = pending_waits xs in
     let again = read_more (pending xs) ys waits in
-    let later : all_commands (pending xs ++ ys) ≡ later_commands waits.head waits.last ys =
-    λ i. again.commands i ++ last_commands (again.waits i) (again.rest i) in
-    let all : all_commands (xs ++ ys)
-    ≡ ended_commands xs ++ later_commands waits.head waits.last ys =
-    (split xs ys).all ∙ ap (λ l. ended_commands xs ++ l) later in
+    let all : all_commands (xs ++ ys) ≡ ended_commands xs ++ later_commands waits.head waits.last ys =
+    (split xs ys).all
+    ∙ (λ i. ended_commands xs ++ (again.commands i ++ last_commands (again.waits i) (again.rest i))) in
     let fits = first_fits (later_commands waits.head waits.last ys)
     (all_right (λ c. command_size c ≤ short_command) (ended_commands xs) _
     (subst (All (λ c. command_size c ≤ short_command)) all short)) in

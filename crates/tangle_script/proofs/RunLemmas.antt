@@ -5,27 +5,19 @@ use Rattle.std.proofs.Common.{[], ◌∷◌, ◌++◌, Option, get_or, ap, subst
 use Rattle.std.proofs.Common.{append_assoc, append-nil, length-append, arith}
 use Rattle.std.proofs.lemmas.List.{nil_from_length}
 use Rattle.std.specs.Io.KnownBytes.{Consumes, IsAtEnd, Keeps}
-use Rattle.tangle_streams.specs.Streams.{Failed, one_more_failure}
+use Rattle.tangle_streams.specs.Streams.{one_more_failure}
 use Rattle.tangle_streams.proofs.StreamLemmas.{Failed-one_more}
 use Rattle.tangle_script.specs.Requests.{Request}
 use Rattle.tangle_script.specs.Commands.{OnlyWaits, all_commands, ended_commands, pending}
 use Rattle.tangle_script.specs.declared.answering.End.{End}
 use Rattle.tangle_script.specs.declared.answering.End.TheVariants.{Done, Failed as IsFailed}
-use Rattle.tangle_script.specs.Script.{AreAnswered, IsAnswerCut, Conversation, Exchange, GoesOn, HasLast, has_quit}
+use Rattle.tangle_script.specs.Script.{AreAnswered, Conversation, Exchange, GoesOn, HasLast, has_quit}
 use Rattle.tangle_script.specs.Endings.{AreRead, ConversationEnds, short_command, script_limit}
 use Rattle.tangle_script.specs.Endings.ConversationEnds.{IsAtQuit, IsAtInputEnd, IsUnread}
 use Rattle.tangle_script.specs.Endings.ConversationEnds.{IsTooLong, IsUnwritten, IsOutOfMemory}
 use Rattle.tangle_script.specs.Turns.{EndsBy, EndsScript, IsMidway, ends_at}
 use Rattle.tangle_script.proofs.CommandLemmas.{pending_waits, split}
 use Rattle.tangle_script.proofs.ConversationLemmas.{goes_on_then, last_within, then_answered}
-
-Consumes-trans : (a b c : Option (List ℕ)) (xs ys : List ℕ) → Consumes a b xs → Consumes b c ys
-    → Consumes a c (xs ++ ys)
-Consumes-trans a b c xs ys p q = search (rules, append_assoc)
-
-Consumes-kept : (a b c : Option (List ℕ)) (xs : List ℕ) → Consumes a b xs → Keeps b c
-    → Consumes a c xs
-Consumes-kept a b c xs p q = search rules
 
 abbrev at : {State : Type 0} → Exchange State → Option (List ℕ) → ℕ → Conversation State
 at answered remaining failures = record
@@ -52,11 +44,8 @@ module _ {State : Type 0} {answers : State → Request → List ℕ → State �
       → Keeps now.remaining remaining → failures ≡ one_more_failure now.reader_failures
       → ConversationEnds answers has_error old (at now.exchange remaining failures) 3
   ends_unread remaining failures keeps counted =
-      IsUnread h.read
-      (Consumes-kept old.remaining now.remaining remaining h.read h.are_read.given keeps) h.are_read.within
-      (subst (λ f. Failed f failures) h.are_read.no_failure
-      (subst (Failed now.reader_failures) (sym counted) (Failed-one_more now.reader_failures)))
-      h.goes_on refl
+      IsUnread h.read (search (rules, keeps, h.are_read.given)) h.are_read.within
+      (search (rules, Failed-one_more, counted, h.are_read.no_failure)) h.goes_on refl
 
   -- a chunk of `k` bytes was read, so that `buffered` is in the buffer
   module _ (q buffered : List ℕ) (k : ℕ) (remaining : Option (List ℕ)) (kept : q ≡ p)
@@ -82,7 +71,7 @@ module _ {State : Type 0} {answers : State → Request → List ℕ → State �
     all = (split h.read chunk).all ∙ ap (λ q. ended_commands h.read ++ all_commands q) whole
 
     given_so_far : Consumes old.remaining remaining (h.read ++ chunk)
-    given_so_far = Consumes-trans old.remaining now.remaining remaining h.read chunk h.are_read.given given.3
+    given_so_far = search (rules, append_assoc, h.are_read.given, given.3)
 
     module _ (failures : ℕ) (same : failures ≡ now.reader_failures) where
       -- more bytes came than a script may have
@@ -125,8 +114,7 @@ module _ {State : Type 0} {answers : State → Request → List ℕ → State �
         -- it is empty, since the script is at its end
         module _ (none : k ≡ 0) where
           on : has_quit (ended_commands (h.read ++ chunk)) ≡ false
-          on = ap (λ c. has_quit (ended_commands (h.read ++ c))) (nil_from_length chunk (given.1 ∙ none))
-              ∙ ap (λ r. has_quit (ended_commands r)) (append-nil h.read) ∙ h.goes_on.no_quit
+          on = search (rules, nil_from_length)
 
           -- the last command was answered
           pub ends_last : (end : End)
@@ -134,10 +122,6 @@ module _ {State : Type 0} {answers : State → Request → List ℕ → State �
               → EndsBy answers has_error end old (at b remaining failures)
           ends_last Done last = λ status is. IsAtInputEnd (h.read ++ chunk) more_read (given.4 none) on
               (subst (AreAnswered answers old.exchange b) (sym all) (then_answered h.goes_on.is_answered last)) is
-          ends_last IsFailed last = IsUnwritten (h.read ++ chunk) more_read
-              (inr (
-                given.4 none,
-                on,
-                subst (HasLast answers (IsAnswerCut answers) old.exchange b) (sym all)
-                    (last_within [] (ap (λ l. ended_commands h.read ++ l) (sym (append-nil _))) h.goes_on last),
-              )) refl
+          ends_last IsFailed last =
+              let cut = last_within [] (all ∙ ap (λ l. ended_commands h.read ++ l) (sym (append-nil _))) h.goes_on last in
+              IsUnwritten (h.read ++ chunk) more_read (inr (given.4 none, on, cut)) refl

@@ -86,10 +86,6 @@ module _ (c : Command) where
 abbrev IsRowOrBad : Command → Request → Type 0
 IsRowOrBad c r = IsRow c r ⊎ (r ≡ BadCommand)
 
-read_row : (word line rest : List ℕ) (n : ℕ) (file : List ℕ) → line ≡ word ++ rest
-    → IsNumberRead 0 0 rest n file → IsNumbered word n file line
-read_row word line rest n file e h = search rules
-
 module _ (P : Request → Type 0) where
   at_number : (request : ℕ → List ℕ → Request) (rest : List ℕ)
       → ((n : ℕ) (file : List ℕ) → IsNumberRead 0 0 rest n file → P (request n file)) → P BadCommand
@@ -105,7 +101,7 @@ module _ (P : Request → Type 0) where
       → ((n : ℕ) (file : List ℕ) → IsNumbered word n file line → P (request n file)) → P BadCommand → P other
       → P (row (after_word word line) (λ rest. numbered request (number_and_file 0 0 rest)) other)
   at_numbered word line request other h bad k = at_row word line _ other
-      (λ rest is. at_number request rest (λ n file read. h n file (read_row word line rest n file is read)) bad) k
+      (λ rest is. at_number request rest (λ n file read. h n file (search (rules, is, read))) bad) k
 
 row_with : (line : List ℕ) (text : Option (List ℕ))
     → IsRowOrBad (record { line = line; text = text }) (request_with line text)

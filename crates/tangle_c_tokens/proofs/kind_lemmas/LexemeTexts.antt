@@ -1,21 +1,19 @@
 -- The tokens of each lexeme are texts, one after another.
 use Rattle.std.proofs.Common.{rules}
 use Rattle.std.proofs.Common.{arith}
-use Rattle.std.proofs.Common.{◌≡◌, ℕ, zero, suc, ◌+◌, Bool, true, false, not, List, [], ◌∷◌, ◌++◌, Option, Some, None}
+use Rattle.std.proofs.Common.{◌≡◌, ℕ, zero, suc, ◌+◌, Bool, true, false, List, [], ◌∷◌, ◌++◌, Option, Some, None}
 use Rattle.std.proofs.Common.{refl, sym, subst, append-nil, map, flat_map}
-use Rattle.std.specs.List.{list_any}
-use Rattle.std.proofs.lemmas.Bool.{or_parts, cond_both}
+use Rattle.std.proofs.lemmas.Bool.{cond_both}
 use Rattle.tangle_faults.specs.declared.faults.FaultKind.{FaultKind}
 use Rattle.tangle_faults.specs.declared.faults.FaultKind.TheVariants as fault
 use Rattle.tangle_lines.specs.Bytes.{at_sign, double_quote}
 use Rattle.tangle_text.specs.declared.regions.Region.{Region}
 use Rattle.tangle_text.specs.declared.regions.Region.TheVariants as region
-use Rattle.tangle_text.specs.declared.regions.Unit.{Unit as Unit-of}
 use Rattle.tangle_text.specs.Bytes.{holds, is_line_end, holds_word_byte}
 use Rattle.tangle_text.specs.Bytes.{apostrophe}
 use Rattle.tangle_text.specs.Bytes.{less_sign}
-use Rattle.tangle_text.specs.Text.{Cell, byte_at, front_line, span_at}
-use Rattle.tangle_text.specs.Regions.{unit_at, more_by, units}
+use Rattle.tangle_text.specs.Text.{Cell, byte_at, span_at}
+use Rattle.tangle_text.specs.Regions.{unit_at, more_by}
 use Rattle.tangle_text.specs.Words.{word_more}
 use Rattle.tangle_lexer.specs.declared.modes.Mode.{Mode}
 use Rattle.tangle_lexer.specs.declared.modes.Mode.TheVariants as mode
@@ -31,17 +29,17 @@ use Rattle.tangle_lexer.specs.declared.tokens.Token.TheVariants as token
 use Rattle.tangle_lexer.specs.declared.tokens.SpanKind.TheVariants as span_kind
 use Rattle.tangle_lexer.specs.LinesOfC.{inner_end_in}
 use Rattle.tangle_lexer.specs.Lexemes.{Lexeme, fault_if}
-use Rattle.tangle_lexer.specs.Comments.{unit_line_end, line_ends, starts_section}
-use Rattle.tangle_lexer.specs.Quoted.{unit_tokens, next_start, at_stop, cut_tokens, verbatim_end}
+use Rattle.tangle_lexer.specs.Comments.{line_ends, starts_section}
+use Rattle.tangle_lexer.specs.Quoted.{next_start, cut_tokens, verbatim_end}
 use Rattle.tangle_lexer.specs.Constants.{constant_lexeme}
-use Rattle.tangle_lexer.specs.Names.{is_ended, name_end, is_macro_mode}
 use Rattle.tangle_lexer.specs.Names.{name_in_documentation, definition_or_mention, definition_count}
 use Rattle.tangle_lexer.specs.CText.{code_at, kind_by, kind_at}
 use Rattle.tangle_lexer.specs.Steps.{documentation_code, c_code, c_lexeme, macro_lexeme, lexeme_in, lexeme, lexemes}
-use Rattle.tangle_lexer.proofs.lemmas.PlainTokens.{HasNone, none-append}
+use Rattle.tangle_lexer.proofs.lemmas.PlainTokens.{HasNone, none-append, none-flat}
 use Rattle.tangle_scan.specs.Rules.{without_faults}
 use Rattle.tangle_c_tokens.specs.Kinds.{IsQuotedText, AreTexts}
-use Rattle.tangle_c_tokens.proofs.kind_lemmas.Lines.{IsInLine, AreInLines}
+use Rattle.tangle_c_tokens.proofs.kind_lemmas.Lines.{AreClear}
+use Rattle.tangle_lexer.proofs.laws.Points.{Point, after_cell, IsTextAt}
 use Rattle.tangle_c_tokens.proofs.kind_lemmas.Texts.{is_source, faults-append, texts-none, texts-alone, texts-part}
 use Rattle.tangle_c_tokens.proofs.kind_lemmas.Texts.{texts-append, others-texts}
 use Rattle.tangle_c_tokens.proofs.kind_lemmas.Quotes.{string-text, character-text, header-text}
@@ -64,42 +62,20 @@ no-fault true kind line = seen _ refl
 no-fault false kind line = seen _ refl
 
 no-line_ends : (r : Region) (text : List Cell) → HasNoSource (line_ends r text)
-no-line_ends r text = all (units r text)
-  where
-    one : (u : List Cell) → HasNoSource (unit_line_end u)
-    one [] = seen _ refl
-    one (c ∷ cs) = cond_both (is_line_end c.byte) _ [] HasNoSource (λ e. seen _ refl) (λ e. seen _ refl)
+no-line_ends r text = grind (arith, nat_tests, none-flat)
 
-    all : (us : List (List Cell)) → HasNoSource (flat_map unit_line_end us)
-    all [] = seen _ refl
-    all (u ∷ us) = no-append _ _ (one u) (all us)
+no-inner : (b : Bool) (ts : List Token) → HasNone is_source ts → HasNone is_source (map (inner_end_in b) ts)
+no-inner b [] h = refl
+no-inner b (t ∷ ts) h = grind (arith, nat_tests, no-inner b ts)
 
 no-white : (b : Bool) (ends faults : List Token) → HasNoSource ends → HasNoSource faults
     → HasNoSource (token.White ∷ map (inner_end_in b) ends ++ faults)
-no-white b ends faults h k =
-    seen _ (none-append is_source (map (inner_end_in b) ends) faults (inner ends h.none) k.none)
-  where
-    same : (b : Bool) (t : Token) → is_source (inner_end_in b t) ≡ is_source t
-    same true (token.LineEnd line) = refl
-    same true _ = refl
-    same false t = refl
-
-    inner : (ts : List Token) → HasNone is_source ts → HasNone is_source (map (inner_end_in b) ts)
-    inner [] h = refl
-    inner (t ∷ ts) h =
-        let both = or_parts (is_source t) (list_any is_source ts) h in rw (same b t, both.0) (inner ts both.1)
+no-white b ends faults h k = grind (arith, nat_tests, none-append, no-inner)
 
 -- verbatim texts have no breaks
 
 no-verbatim_end : (start : ℕ) (text : List Cell) → HasNoSource (verbatim_end start text)
 no-verbatim_end start text = search rules
-
--- the tokens of a unit of a verbatim text, and those after it
-no-unit : (u : Unit-of) (start : ℕ) (c : Cell) (cs : List Cell) → unit_at region.Verbatim (c ∷ cs) ≡ u
-    → (rest : List Token) → HasNoSource rest
-    → HasNoSource (at_stop u (verbatim_end start (c ∷ cs))
-    (unit_tokens region.Verbatim u start c (byte_at 0 cs) ++ rest))
-no-unit u start c cs e rest h = search rules
 
 no-cut : (k start : ℕ) (text : List Cell) → HasNoSource (cut_tokens verbatim_end region.Verbatim k start text)
 no-cut zero start [] = no-verbatim_end start []
@@ -107,7 +83,8 @@ no-cut (suc k) start [] = no-verbatim_end start []
 no-cut (suc k) start (c ∷ cs) = no-cut k start cs
 no-cut zero start (c ∷ cs) =
     let u = unit_at region.Verbatim (c ∷ cs) in
-    no-unit u start c cs refl _ (no-cut (more_by u) (next_start u start c (byte_at 0 cs)) cs)
+    let rest = no-cut (more_by u) (next_start u start c (byte_at 0 cs)) cs in
+    grind (arith, nat_tests, no-verbatim_end start (c ∷ cs), none-append, rest)
 
 -- names and constants
 
@@ -115,9 +92,7 @@ no-name : (s : LexerState) (text : List Cell) → HasNoSource (name_in_documenta
 no-name s text = by (definition_count text)
   where
     by : (count : Option ℕ) → HasNoSource (definition_or_mention count s text).tokens
-    by None =
-        no-append _ _ (no-fault (not (is_ended text)) fault.NameEnd (front_line s.last_line (name_end text)))
-        (no-fault (is_macro_mode s.mode) fault.NameInMacro (front_line s.last_line text))
+    by None = search (rules, no-append, no-fault)
     by (Some count) = seen _ refl
 
 no-constant : (constant : Option AsciiConstant) (s : LexerState) (text : List Cell)
@@ -138,7 +113,7 @@ kind-shows : (inc : IncludeState) (b next : Option ℕ) → Shows (kind_by inc b
 kind-shows inc None next = tt
 kind-shows inc (Some b) next = grind (arith, nat_tests)
 
-module _ (texts : List (List ℕ)) where
+module _ (texts : List (List ℕ)) (clear : AreClear texts) where
   -- these tokens are texts, without their faults
   record AreWhole (ts : List Token) : Type 0 where
     pub are : AreTexts texts (without_faults ts)
@@ -149,38 +124,42 @@ module _ (texts : List (List ℕ)) where
   others-whole : (ts : List Token) → HasNoSource ts → AreWhole ts
   others-whole ts h = whole ts (others-texts texts ts h.none)
 
-  sign-whole : (c : Cell) (cs : List Cell) → IsInLine texts c cs → (b : Option ℕ) → c.byte ≡ b → is_line_end b ≡ false
+  sign-whole : (at : Point) (c : Cell) (cs : List Cell) → IsTextAt texts at (c ∷ cs) → (b : Option ℕ) → c.byte ≡ b
+      → is_line_end b ≡ false
       → AreWhole (token.Span span_kind.Sign (span_at 1 (c ∷ cs)) ∷ [])
-  sign-whole c cs is None e byte = cc
-  sign-whole c cs is (Some b) e byte = whole _ (search (rules, texts-alone, sign-span, texts-none))
+  sign-whole at c cs is None e byte = cc
+  sign-whole at c cs is (Some b) e byte = whole _ (search (rules, texts-alone, sign-span texts clear, texts-none))
 
-  word-whole : (c : Cell) (cs : List Cell) → IsInLine texts c cs → (b : Option ℕ) → c.byte ≡ b
+  word-whole : (at : Point) (c : Cell) (cs : List Cell) → IsTextAt texts at (c ∷ cs) → (b : Option ℕ) → c.byte ≡ b
       → holds_word_byte b ≡ true
       → AreWhole (token.Span span_kind.Word (span_at (1 + word_more (c ∷ cs)) (c ∷ cs)) ∷ [])
-  word-whole c cs is None e word = cc
-  word-whole c cs is (Some b) e word = whole _ (search (rules, texts-alone, word-span, texts-none))
+  word-whole at c cs is None e word = cc
+  word-whole at c cs is (Some b) e word = whole _ (search (rules, texts-alone, word-span texts clear, texts-none))
 
   quoted-whole : (ts : List Token) → IsQuotedText texts (without_faults ts) → AreWhole ts
   quoted-whole ts quoted =
-      whole ts (subst (AreTexts texts) (append-nil (without_faults ts))
-      (texts-part texts (without_faults ts) [] quoted (texts-none texts)))
+      whole ts (simp append-nil at (texts-part texts (without_faults ts) [] quoted (texts-none texts)))
 
-  code-whole : (kind : ControlCode) (s : LexerState) (c : Cell) (cs : List Cell) → IsInLine texts c cs
+  code-whole : (kind : ControlCode) (s : LexerState) (at : Point) (c : Cell) (cs : List Cell)
+      → IsTextAt texts at (c ∷ cs)
       → holds at_sign c.byte ≡ true → AreWhole (c_code kind s (c ∷ cs)).tokens
-  code-whole code.DoubleAt s c cs is sign = grind (arith, nat_tests, sign-whole c cs is c.byte)
-  code-whole code.Verbatim s c cs is sign = others-whole _ (search (rules, no-cut))
-  code-whole code.Name s c cs is sign = others-whole _ (search (rules, no-append, no-fault))
-  code-whole code s c cs is sign = others-whole _ (search (rules, seen, no-white, no-line_ends, no-fault, no-constant))
+  code-whole code.DoubleAt s at c cs is sign = grind (arith, nat_tests, sign-whole at c cs is c.byte)
+  code-whole code.Verbatim s at c cs is sign = others-whole _ (search (rules, no-cut))
+  code-whole code.Name s at c cs is sign = others-whole _ (search (rules, no-append, no-fault))
+  code-whole code s at c cs is sign =
+      others-whole _ (search (rules, seen, no-white, no-line_ends, no-fault, no-constant))
 
-  kind-whole : (kind : LexemeKind) (s : LexerState) (c : Cell) (cs : List Cell) → AreInLines texts (c ∷ cs)
+  kind-whole : (kind : LexemeKind) (s : LexerState) (at : Point) (c : Cell) (cs : List Cell)
+      → IsTextAt texts at (c ∷ cs)
       → Shows kind c.byte → AreWhole (c_lexeme kind s (c ∷ cs)).tokens
-  kind-whole (lexeme_kind.Control code) s c cs is shows = code-whole code s c cs is.0 shows
-  kind-whole lexeme_kind.DoubleQuote s c cs is shows = quoted-whole _ (string-text texts s c cs is shows)
-  kind-whole lexeme_kind.Apostrophe s c cs is shows = quoted-whole _ (character-text texts s c cs is shows)
-  kind-whole lexeme_kind.HeaderName s c cs is shows = quoted-whole _ (header-text texts s c cs is shows)
-  kind-whole lexeme_kind.Word s c cs is shows = word-whole c cs is.0 c.byte refl shows
-  kind-whole lexeme_kind.Other s c cs is shows = sign-whole c cs is.0 c.byte refl shows
-  kind-whole kind s c cs is shows =
+  kind-whole (lexeme_kind.Control code) s at c cs is shows = code-whole code s at c cs is shows
+  kind-whole lexeme_kind.DoubleQuote s at c cs is shows = quoted-whole _ (string-text texts clear s at c cs is shows)
+  kind-whole lexeme_kind.Apostrophe s at c cs is shows =
+      quoted-whole _ (character-text texts clear s at c cs is shows)
+  kind-whole lexeme_kind.HeaderName s at c cs is shows = quoted-whole _ (header-text texts clear s at c cs is shows)
+  kind-whole lexeme_kind.Word s at c cs is shows = word-whole at c cs is c.byte refl shows
+  kind-whole lexeme_kind.Other s at c cs is shows = sign-whole at c cs is c.byte refl shows
+  kind-whole kind s at c cs is shows =
       search (rules, others-whole, seen, no-white, no-line_ends, no-fault)
 
   documentation-whole : (kind : ControlCode) (s : LexerState) (text : List Cell)
@@ -188,16 +167,17 @@ module _ (texts : List (List ℕ)) where
   documentation-whole code.Name s text = others-whole _ (no-name s text)
   documentation-whole _ s text = others-whole _ (seen _ refl)
 
-  macro-whole : (kind : LexemeKind) (s : LexerState) (c : Cell) (cs : List Cell) → AreInLines texts (c ∷ cs)
+  macro-whole : (kind : LexemeKind) (s : LexerState) (at : Point) (c : Cell) (cs : List Cell)
+      → IsTextAt texts at (c ∷ cs)
       → Shows kind c.byte → AreWhole (macro_lexeme kind s (c ∷ cs)).tokens
-  macro-whole (lexeme_kind.Control code.Name) s c cs is shows = others-whole _ (no-name s (c ∷ cs))
-  macro-whole (lexeme_kind.Control code) s c cs is shows = search (rules, others-whole, seen, code-whole)
-  macro-whole kind s c cs is shows = kind-whole kind s c cs is shows
+  macro-whole (lexeme_kind.Control code.Name) s at c cs is shows = others-whole _ (no-name s (c ∷ cs))
+  macro-whole (lexeme_kind.Control code) s at c cs is shows = search (rules, others-whole, seen, code-whole)
+  macro-whole kind s at c cs is shows = kind-whole kind s at c cs is shows
 
-  lexeme-whole : (s : LexerState) (c : Cell) (cs : List Cell) → AreInLines texts (c ∷ cs)
+  lexeme-whole : (s : LexerState) (at : Point) (c : Cell) (cs : List Cell) → IsTextAt texts at (c ∷ cs)
       → AreWhole (lexeme s (c ∷ cs)).tokens
   unfolding lexeme
-  lexeme-whole s c cs is = by s.mode
+  lexeme-whole s at c cs is = by s.mode
     where
       shows : Shows (kind_at s.line.include (c ∷ cs)) c.byte
       shows = kind-shows s.line.include c.byte (byte_at 0 cs)
@@ -213,16 +193,16 @@ module _ (texts : List (List ℕ)) where
       by mode.Documentation =
           cond_both (holds at_sign c.byte) _ _ P
           (λ e. documentation-whole (code_at (byte_at 0 cs)) s (c ∷ cs)) (λ e. others-whole _ (seen _ refl))
-      by mode.CPart = kind-whole (kind_at s.line.include (c ∷ cs)) s c cs is shows
-      by mode.Macro = macro-whole (kind_at s.line.include (c ∷ cs)) s c cs is shows
+      by mode.CPart = kind-whole (kind_at s.line.include (c ∷ cs)) s at c cs is shows
+      by mode.Macro = macro-whole (kind_at s.line.include (c ∷ cs)) s at c cs is shows
 
-  pub lexemes-whole : (k : ℕ) (s : LexerState) (text : List Cell) → AreInLines texts text
+  pub lexemes-whole : (k : ℕ) (s : LexerState) (at : Point) (text : List Cell) → IsTextAt texts at text
       → AreTexts texts (without_faults (flat_map (λ l. l.tokens) (lexemes k s text)))
-  lexemes-whole k s [] is = texts-none texts
-  lexemes-whole (suc k) s (c ∷ cs) is = lexemes-whole k s cs is.1
-  lexemes-whole zero s (c ∷ cs) is =
+  lexemes-whole k s at [] is = texts-none texts
+  lexemes-whole (suc k) s at (c ∷ cs) is = lexemes-whole k s (after_cell c) cs is.1
+  lexemes-whole zero s at (c ∷ cs) is =
       let here = lexeme s (c ∷ cs) in
       let others : List Token = flat_map (λ l. l.tokens) (lexemes here.more here.after cs) in
       subst (AreTexts texts) (sym (faults-append here.tokens others))
-      (texts-append texts (without_faults here.tokens) (without_faults others) (lexeme-whole s c cs is).are
-      (lexemes-whole here.more here.after cs is.1))
+      (texts-append texts (without_faults here.tokens) (without_faults others) (lexeme-whole s at c cs is).are
+      (lexemes-whole here.more here.after (after_cell c) cs is.1))

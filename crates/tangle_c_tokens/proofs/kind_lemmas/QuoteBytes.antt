@@ -26,9 +26,7 @@ use Rattle.std.proofs.lemmas.Bool.Decides.{nat_tests}
 -- the tests of a unit
 
 goes-one : (ends two : Bool) → unit_by ends two ≡ unit.One → (ends ≡ false) × (two ≡ false)
-goes-one true two e = cc
-goes-one false true e = cc
-goes-one false false e = (refl, refl)
+goes-one ends two e = grind (arith, nat_tests)
 
 -- the bytes after the first one of a text end it, by this test, or no front of them does
 abbrev pub Gives : Bool → (List ℕ → Bool) → List ℕ → Type 0
@@ -66,8 +64,7 @@ module _ (close : ℕ) (no_sign : (at_sign == close) ≡ false) (no_back : (back
   GivesQuoted ends t = Gives ends (ends_quoted close) t
 
   over-byte : (b : ℕ) → (b == backslash) ≡ false → (b == close) ≡ false → (b == line_feed) ≡ false → PassesOver (ends_quoted close) b
-  over-byte b back closing feed [] = closing
-  over-byte b back closing feed (c ∷ t) = rw (back, closing, feed) refl
+  over-byte b back closing feed t = grind (arith, nat_tests)
 
   gives-byte : (ends : Bool) (b : ℕ) (t : List ℕ) → (b == backslash) ≡ false → (b == close) ≡ false
       → (b == line_feed) ≡ false → GivesQuoted ends t → GivesQuoted ends (b ∷ t)
@@ -129,8 +126,7 @@ abbrev GivesHeader : Bool → List ℕ → Type 0
 GivesHeader ends q = Gives ends ends_header_name q
 
 over-header : (b : ℕ) → (b == greater_sign) ≡ false → (b == line_feed) ≡ false → PassesOver ends_header_name b
-over-header b closing feed [] = closing
-over-header b closing feed (c ∷ t) = rw (closing, feed) refl
+over-header b closing feed t = grind (arith, nat_tests)
 
 header-byte : (ends : Bool) (b : ℕ) (q : List ℕ) → (b == greater_sign) ≡ false → (b == line_feed) ≡ false
     → GivesHeader ends q → GivesHeader ends (b ∷ q)

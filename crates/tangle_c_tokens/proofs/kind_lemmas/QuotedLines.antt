@@ -14,7 +14,8 @@ use Rattle.c_tokens.specs.Reading.{spliced}
 use Rattle.c_lines.proofs.JoinedLemmas.{spliced-other}
 use Rattle.tangle_c_tokens.specs.Groups.{group_text}
 use Rattle.tangle_c_tokens.specs.LineFeeds.{TextHasNoLineFeed}
-use Rattle.tangle_c_tokens.proofs.kind_lemmas.Lines.{AreInLines}
+use Rattle.tangle_c_tokens.proofs.kind_lemmas.Lines.{AreClear}
+use Rattle.tangle_lexer.proofs.laws.Points.{Point, IsTextAt}
 use Rattle.tangle_c_tokens.proofs.kind_lemmas.QuoteBytes.{kept-first}
 use Rattle.tangle_c_tokens.proofs.kind_lemmas.QuotedTexts.{IsQuoteRegion, IsByUnits, text-whole}
 use Rattle.std.proofs.lemmas.Bool.Decides.{nat_tests}
@@ -26,7 +27,8 @@ one-byte : (b : ℕ) (q : List ℕ) → (b == line_feed) ≡ false → holds lin
     → IsOneLine (b ∷ q)
 one-byte b q feed next line = subst TextHasNoLineFeed (sym (kept-first b q next)) (grind (arith, nat_tests))
 
-module _ (texts : List (List ℕ)) (r : Region) (close last_line : ℕ) (region : IsQuoteRegion r close)
+module _ (texts : List (List ℕ)) (clear : AreClear texts) (r : Region) (close last_line : ℕ)
+    (region : IsQuoteRegion r close)
     (closes : (close == line_feed) ≡ false) where
   line-units : IsByUnits r close (λ ends q. IsOneLine q)
   line-units = record {
@@ -41,10 +43,10 @@ module _ (texts : List (List ℕ)) (r : Region) (close last_line : ℕ) (region 
         subst (λ c. IsOneLine (c ∷ line_feed ∷ q)) (sym (region.pairs b None e (and-false (b == at_sign)))) line;
   }
 
-  pub text-lines : (c : Cell) (cs : List Cell) (b : ℕ) → c.byte ≡ Some b → AreInLines texts (c ∷ cs)
+  pub text-lines : (at : Point) (c : Cell) (cs : List Cell) (b : ℕ) → c.byte ≡ Some b → IsTextAt texts at (c ∷ cs)
       → (b == backslash) ≡ false → (b == line_feed) ≡ false
       → IsOneLine (group_text texts (without_faults (cut_tokens (quote_end r close last_line) r 0 c.column cs)))
-  text-lines c cs b x is back feed =
-      let whole = (text-whole texts r close last_line region (λ ends q. IsOneLine q) line-units c cs b x is).1 in
+  text-lines at c cs b x is back feed =
+      let whole = text-whole texts clear r close last_line region (λ ends q. IsOneLine q) line-units at c cs b x is in
       subst IsOneLine (sym whole.bytes)
       (subst TextHasNoLineFeed (sym (spliced-other b whole.ahead back)) (grind (arith, nat_tests, feed, whole.closes)))

@@ -22,7 +22,8 @@ use Rattle.tangle_c_tokens.specs.Groups.{group_text}
 use Rattle.tangle_c_tokens.specs.Edges.{last_byte_passes}
 use Rattle.tangle_c_tokens.specs.Kinds.{ends_header_name, is_header_name, IsQuoted}
 use Rattle.tangle_c_tokens.specs.Kinds.{IsQuotedText}
-use Rattle.tangle_c_tokens.proofs.kind_lemmas.Lines.{AreInLines}
+use Rattle.tangle_c_tokens.proofs.kind_lemmas.Lines.{AreClear}
+use Rattle.tangle_lexer.proofs.laws.Points.{Point, IsTextAt}
 use Rattle.tangle_c_tokens.proofs.kind_lemmas.QuotedTexts.{IsQuoteRegion, IsByUnits, text-whole}
 use Rattle.tangle_c_tokens.proofs.kind_lemmas.QuoteBytes.{Gives, quote-region, quote-units, header-region, header-units}
 use Rattle.tangle_c_tokens.proofs.kind_lemmas.QuotedLines.{text-lines}
@@ -30,8 +31,7 @@ use Rattle.std.proofs.lemmas.Bool.Decides.{nat_tests}
 
 string-quoted : (ends : Bool) (q bytes : List ℕ) → Gives ends (ends_quoted double_quote) (spliced q)
     → (ends ≡ true → last_byte_passes (λ b. b == double_quote) q ≡ true) → bytes ≡ double_quote ∷ q → IsQuoted bytes
-string-quoted true q bytes h last is = grind (arith, nat_tests)
-string-quoted false q bytes h last is = grind (arith, nat_tests)
+string-quoted ends q bytes h last is = grind (arith, nat_tests)
 
 character-quoted : (ends : Bool) (q bytes : List ℕ) → Gives ends (ends_quoted apostrophe) (spliced q)
     → (ends ≡ true → last_byte_passes (λ b. b == apostrophe) q ≡ true) → bytes ≡ apostrophe ∷ q → IsQuoted bytes
@@ -45,7 +45,8 @@ header-quoted : (ends : Bool) (q bytes : List ℕ) → Gives ends ends_header_na
 header-quoted true q bytes h same = inr (inr (inl (ap is_header_name same ∙ h)))
 header-quoted false q bytes h same = grind (arith, nat_tests)
 
-module _ (texts : List (List ℕ)) (s : LexerState) (c : Cell) (cs : List Cell) (is : AreInLines texts (c ∷ cs)) where
+module _ (texts : List (List ℕ)) (clear : AreClear texts) (s : LexerState) (at : Point) (c : Cell) (cs : List Cell)
+    (is : IsTextAt texts at (c ∷ cs)) where
   abbrev tokens_in : Region → ℕ → List Token
   tokens_in r close = (quoted_text r close s (c ∷ cs)).tokens
 
@@ -60,13 +61,13 @@ module _ (texts : List (List ℕ)) (s : LexerState) (c : Cell) (cs : List Cell) 
       → (ends ≡ true → last_byte_passes (λ b. b == close) q ≡ true)
       → bytes ≡ first_byte ∷ q → IsQuoted bytes) → c.byte ≡ Some first_byte → IsText r close
   text-of r close first_byte region Closes units feed back other quoted x =
-      let whole = (text-whole texts r close s.last_line region Closes units c cs first_byte x is).1 in
+      let whole = text-whole texts clear r close s.last_line region Closes units at c cs first_byte x is in
       record {
         ranges = whole.ranges;
         bytes = whole.full;
         quoted = quoted whole.ends whole.ahead
             (group_text texts (without_faults (tokens_in r close))) whole.closes whole.last whole.bytes;
-        one_line = text-lines texts r close s.last_line region feed c cs first_byte x is back other;
+        one_line = text-lines texts clear r close s.last_line region feed at c cs first_byte x is back other;
       }
 
   pub string-text : c.byte ≡ Some double_quote → IsText region.DoubleQuote double_quote

@@ -9,7 +9,6 @@ use Rattle.tangle_text.specs.declared.spans.Span.{Span}
 use Rattle.tangle_lexer.specs.declared.tokens.Token.{Token}
 use Rattle.tangle_lexer.specs.declared.tokens.Token.TheVariants as token
 use Rattle.tangle_lexer.specs.declared.tokens.SpanKind.TheVariants as span_kind
-use Rattle.tangle_lexer.specs.Heads.{is_head}
 use Rattle.tangle_scan.specs.Rules.{without_faults, white_inner_end, clean_tokens, would_merge, with_spaces}
 use Rattle.tangle_scan.specs.Rules.{may_follow_name}
 use Rattle.tangle_scan.specs.Rules.{with_space_after, with_name_space, is_gap, map_runs, left_of_run}
@@ -60,9 +59,8 @@ module _ (texts : List (List ℕ)) where
   -- the tokens before the next head
   pub body-texts : (ts : List Token) → AreTexts texts ts → AreTexts texts (body ts)
   body-texts = edited-texts body (texts-none texts) (search rules)
-      (λ t ts alone kind made.
-      cond_both (is_head t) [] (t ∷ body ts) (AreTexts texts) (λ e. texts-none texts)
-      (λ e. texts-alone texts t (body ts) alone kind made))
+      (λ t ts alone kind made. grind
+      (arith, nat_tests, texts-none texts, texts-alone texts t (body ts) alone kind made))
 
   inner-texts : (ts : List Token) → AreTexts texts ts → AreTexts texts (map white_inner_end ts)
   inner-texts = edited-texts (map white_inner_end) (texts-none texts) (search rules)
@@ -141,11 +139,7 @@ module _ (texts : List (List ℕ)) where
       by : (part ts : List Token) → IsQuotedText texts part → AreTexts texts ts → AreTexts texts (without_front_gaps ts)
           → AreTexts texts (without_front_gaps (part ++ ts))
       by [] ts quoted all made = made
-      by (t ∷ part) ts quoted all made =
-          let range = (and_parts (is_range t) (list_all is_range part) quoted.ranges).0 in
-          subst (AreTexts texts)
-          (sym (range-by (λ u. without_front_gaps (u ∷ part ++ ts) ≡ u ∷ part ++ ts) (λ s. refl) (λ n. refl) t range))
-          (texts-part texts (t ∷ part) ts quoted all)
+      by (t ∷ part) ts quoted all made = grind (arith, nat_tests, texts-part texts (t ∷ part) ts quoted all)
 
   name_space-texts : (ts : List Token) → AreTexts texts ts → name_is_range ts ≡ false
       → AreTexts texts (with_name_space texts ts)

@@ -1,10 +1,10 @@
 -- The spans of words and signs have bytes of their kinds.
 use Rattle.std.proofs.Common.{rules}
-use Rattle.std.proofs.Common.{◌≡◌, ℕ, suc, ◌+◌, Bool, true, false, List, ◌∷◌, Option, Some, None, get_or, take}
+use Rattle.std.proofs.Common.{◌≡◌, ℕ, suc, ◌+◌, Bool, true, false, List, ◌∷◌, Option, Some, None, take}
 use Rattle.std.proofs.Common.{refl, ap, sym, ◌∙◌, subst, arith}
 use Rattle.std.specs.Prelude.{◌||◌, ◌==◌, not, if◌then◌else◌}
 use Rattle.std.specs.List.{list_all}
-use Rattle.std.proofs.lemmas.Bool.{and_parts, and_from, or_left, eqb-true, false≢true}
+use Rattle.std.proofs.lemmas.Bool.{and_parts, and_from, or_left, eqb-true}
 use Rattle.tangle_text.specs.declared.regions.Region.TheVariants as region
 use Rattle.tangle_text.specs.declared.regions.Unit.TheVariants as unit
 use Rattle.tangle_text.specs.Bytes.{apostrophe, is_word_byte, is_digit}
@@ -14,11 +14,13 @@ use Rattle.tangle_text.specs.Words.{word_region, word_more}
 use Rattle.tangle_lexer.specs.declared.tokens.SpanKind.TheVariants as span_kind
 use Rattle.tangle_lexer.specs.declared.tokens.Token.TheVariants as token
 use Rattle.tangle_lexer.proofs.laws.RegionUnits.{units-by}
-use Rattle.tangle_lexer.specs.SpanBytes.{first_byte}
 use Rattle.c_tokens.specs.Grammar.{is_number, apostrophes_separate}
 use Rattle.c_tokens.specs.Touching.TextKind.{Plain, Other}
 use Rattle.tangle_c_tokens.specs.Kinds.{IsTextOfKind, HasItsKind}
-use Rattle.tangle_c_tokens.proofs.kind_lemmas.Lines.{IsInLine, span-bytes, first-byte}
+use Rattle.tangle_lexer.proofs.laws.Points.{Point, IsByte, HoldsBytes, IsTextAt}
+use Rattle.tangle_lexer.proofs.laws.WhiteOrder.{word-bytes as word-cells}
+use Rattle.std.proofs.Math.Numerals.{one-add}
+use Rattle.tangle_c_tokens.proofs.kind_lemmas.Lines.{AreClear, byte-is, span-bytes}
 use Rattle.c_tokens.proofs.NumberLemmas.{is_separated_byte, separated-number, separates-word, separates-more}
 use Rattle.tangle_c_tokens.proofs.kind_lemmas.WordKinds.{number-text, plain-text}
 use Rattle.std.proofs.lemmas.Bool.Decides.{nat_tests}
@@ -40,9 +42,6 @@ word-bytes =
 abbrev IsSeparated : List ℕ → Type 0
 IsSeparated a = (list_all is_separated_byte a ≡ true) × (apostrophes_separate a ≡ true)
 
-unit-one : (word separator : Bool) → unit_by (not (word || separator)) separator ≡ unit.One → word ≡ true
-unit-one word separator e = grind (arith, nat_tests)
-
 unit-two : (word separator : Bool) → unit_by (not (word || separator)) separator ≡ unit.Two → separator ≡ true
 unit-two word separator e = grind (arith, nat_tests)
 
@@ -57,16 +56,14 @@ number-bytes =
   where
     one : (n : ℕ) (cs : List Cell) → IsSeparated (take n (line_bytes cs)) → (next b : Option ℕ)
         → unit_of region.Number b next ≡ unit.One → IsSeparated (take (suc n) (bytes_by b (line_bytes cs)))
-    one n cs h next None e = absurd (false≢true (unit-one false (is_separator None next) e))
-    one n cs h next (Some b) e =
-        more-separated b (take n (line_bytes cs)) (unit-one (is_word_byte b) (is_separator (Some b) next) e) h
+    one n cs h next None e = grind (arith, nat_tests)
+    one n cs h next (Some b) e = grind (arith, nat_tests, more-separated b)
 
     two : (n : ℕ) (cs : List Cell) → IsSeparated (take n (line_bytes cs)) → (b next : Option ℕ)
         → unit_of region.Number b next ≡ unit.Two
         → IsSeparated (take (suc (suc n)) (bytes_by b (bytes_by next (line_bytes cs))))
-    two n cs h None next e = absurd (false≢true (unit-two false false e))
-    two n cs h (Some b) None e =
-        absurd (false≢true (and_parts (b == apostrophe) false (unit-two (is_word_byte b) (is_separator (Some b) None) e)).1)
+    two n cs h None next e = grind (arith, nat_tests)
+    two n cs h (Some b) None e = grind (arith, nat_tests)
     two n cs h (Some b) (Some c) e =
         let a = take n (line_bytes cs) in
         let parts = and_parts (b == apostrophe) (is_word_byte c) (unit-two (is_word_byte b) (is_separator (Some b) (Some c)) e) in
@@ -93,31 +90,28 @@ word-is b cs word = by (is_digit b) refl
         let a = take (count_before region.Word cs) (line_bytes cs) in
         (plain-text b a e (and_from (is_word_byte b) (list_all is_word_byte a) word (word-bytes cs)), λ is. cc)
 
-module _ (texts : List (List ℕ)) where
-  -- the text of a span, and its first byte
+module _ (texts : List (List ℕ)) (clear : AreClear texts) where
+  -- the text of a span that begins with this byte
+  at-byte : (n : ℕ) (at : Point) (c : Cell) (cs : List Cell) (b : ℕ) → c.byte ≡ Some b → HoldsBytes n (c ∷ cs)
+      → IsTextAt texts at (c ∷ cs) → span_text texts (span_at n (c ∷ cs)) ≡ take n (b ∷ line_bytes cs)
+  at-byte n at c cs b e bytes is =
+      grind (arith, nat_tests, span-bytes texts clear n at (c ∷ cs) is bytes, e, is.0.line, is.0.column)
 
-  at-byte : (n : ℕ) (c : Cell) (cs : List Cell) (b : ℕ) → c.byte ≡ Some b → IsInLine texts c cs
-      → span_text texts (span_at n (c ∷ cs)) ≡ take n (b ∷ line_bytes cs)
-  at-byte n c cs b e is = span-bytes texts n c cs is ∙ ap (λ x. take n (bytes_by x (line_bytes cs))) e
-
-  first-is : (n : ℕ) (c : Cell) (cs : List Cell) (b : ℕ) → c.byte ≡ Some b → IsInLine texts c cs
-      → first_byte texts (span_at n (c ∷ cs)) ≡ b
-  first-is n c cs b e is = first-byte texts n c cs is ∙ ap (λ x. get_or (bytes_by x (line_bytes cs)) 0 0) e
-
-  pub sign-span : (c : Cell) (cs : List Cell) (b : ℕ) → c.byte ≡ Some b → IsInLine texts c cs
+  pub sign-span : (at : Point) (c : Cell) (cs : List Cell) (b : ℕ) → c.byte ≡ Some b → IsTextAt texts at (c ∷ cs)
       → HasItsKind texts (token.Span span_kind.Sign (span_at 1 (c ∷ cs)))
-  sign-span c cs b e is = (
-    grind (arith, nat_tests, first-is 1 c cs b e is, at-byte 1 c cs b e is),
-    grind (arith, nat_tests, first-is 1 c cs b e is, at-byte 1 c cs b e is),
-  )
+  sign-span at c cs b e is =
+      let first = (byte-is texts clear at c cs b e is).first in
+      let text = at-byte 1 at c cs b e (subst IsByte (sym e) tt, tt) is in
+      (grind (arith, nat_tests, first, text), grind (arith, nat_tests, first, text))
 
-  pub word-span : (c : Cell) (cs : List Cell) (b : ℕ) → c.byte ≡ Some b → is_word_byte b ≡ true → IsInLine texts c cs
+  pub word-span : (at : Point) (c : Cell) (cs : List Cell) (b : ℕ) → c.byte ≡ Some b → is_word_byte b ≡ true
+      → IsTextAt texts at (c ∷ cs)
       → HasItsKind texts (token.Span span_kind.Word (span_at (1 + word_more (c ∷ cs)) (c ∷ cs)))
-  word-span c cs b e word is =
-      let n = count_before (word_region (Some b)) cs in
-      let more : 1 + n ≡ suc n = omega arith in
-      let same : word_more (c ∷ cs) ≡ n = ap (λ x. count_before (word_region x) cs) e in
-      let text = at-byte (1 + n) c cs b e is ∙ ap (λ k. take k (b ∷ line_bytes cs)) more in
-      subst (λ k. HasItsKind texts (token.Span span_kind.Word (span_at (1 + k) (c ∷ cs)))) (sym same)
-      (subst (λ k. IsWord k (span_text texts (span_at (1 + n) (c ∷ cs)))) (sym (first-is (1 + n) c cs b e is))
-      (subst (IsWord b) (sym text) (word-is b cs word)))
+  word-span at c cs b e word is =
+      let n = word_more (c ∷ cs) in
+      let same : n ≡ count_before (word_region (Some b)) cs = ap (λ x. count_before (word_region x) cs) e in
+      let text = at-byte (1 + n) at c cs b e (word-cells c cs (subst IsByte (sym e) tt)) is
+      ∙ ap (λ k. take k (b ∷ line_bytes cs)) (one-add n) ∙ ap (λ k. b ∷ take k (line_bytes cs)) same in
+      subst (λ k. IsWord k (span_text texts (span_at (1 + n) (c ∷ cs))))
+      (sym (byte-is texts clear at c cs b e is).first)
+      (subst (IsWord b) (sym text) (word-is b cs word))

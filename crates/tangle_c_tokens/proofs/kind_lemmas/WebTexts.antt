@@ -1,18 +1,18 @@
 -- The tokens of a source, of its pieces and of its macros are texts, one after another.
 use Rattle.std.proofs.Common.{rules}
 use Rattle.std.proofs.Common.{arith}
-use Rattle.std.proofs.Common.{◌≡◌, ℕ, Bool, true, false, List, [], ◌∷◌, ◌++◌, refl, map, flat_map, Option}
-use Rattle.std.proofs.Common.{zero-add}
-use Rattle.std.specs.Prelude.{filter, if◌then◌else◌}
+use Rattle.std.proofs.Common.{◌≡◌, ℕ, true, List, [], ◌∷◌, ◌++◌, refl, map, flat_map, Option}
+use Rattle.std.specs.Prelude.{filter}
 use Rattle.tangle_names.specs.NameTable.{TableRead}
 use Rattle.tangle_bodies.specs.Shapes.{Title}
 use Rattle.tangle_bodies.specs.WebShapes.{is_piece_of}
 use Rattle.tangle_c_tokens.specs.Pieces.{Passage, row_of_piece}
 use Rattle.tangle_c_tokens.specs.Files.{node_row}
 use Rattle.std.specs.List.{AllByRecursion, list_all}
+use Rattle.std.proofs.lemmas.Bool.{cond_both}
 use Rattle.tangle_lines.specs.Reading.{SourceLine, origin_at}
 use Rattle.tangle_scan.specs.declared.items.Item.{Item}
-use Rattle.tangle_text.specs.Text.{texts_of}
+use Rattle.tangle_text.specs.Text.{texts_of, text_from}
 use Rattle.tangle_lexer.specs.declared.tokens.Token.{Token}
 use Rattle.tangle_lexer.specs.Steps.{tokens_from, all_tokens}
 use Rattle.tangle_scan.specs.Rules.{without_faults, macro_tokens, macro_items, is_macro, without_backslashes}
@@ -24,7 +24,8 @@ use Rattle.tangle_scan.specs.Web.BlockKind.{OfMacro, OfPiece}
 use Rattle.tangle_scan.specs.ReadAsMeant.{all_piece_tokens, all_macro_tokens}
 use Rattle.tangle_c_tokens.specs.Kinds.{is_range, AreTexts}
 use Rattle.tangle_c_tokens.specs.LineFeeds.{SourceLinesHaveNoLineFeed}
-use Rattle.tangle_c_tokens.proofs.kind_lemmas.Lines.{text-in-lines}
+use Rattle.tangle_c_tokens.proofs.kind_lemmas.Lines.{lines-clear}
+use Rattle.tangle_lexer.proofs.laws.Points.{point_at, text-is}
 use Rattle.tangle_c_tokens.proofs.kind_lemmas.Texts.{texts-by}
 use Rattle.tangle_c_tokens.proofs.kind_lemmas.LexemeTexts.{lexemes-whole}
 use Rattle.tangle_c_tokens.proofs.kind_lemmas.RuleTexts.{body-texts, part-texts, macro-texts}
@@ -35,7 +36,8 @@ use Rattle.std.proofs.lemmas.Bool.Decides.{nat_tests}
 pub source-texts : (lines : List SourceLine) → SourceLinesHaveNoLineFeed lines
     → AreTexts (texts_of lines) (without_faults (all_tokens lines))
 unfolding tokens_from
-source-texts lines none = search (rules, lexemes-whole, text-in-lines, zero-add)
+source-texts lines none =
+    lexemes-whole (texts_of lines) (lines-clear lines none) 0 _ (point_at 0 0) (text_from 0 lines) (text-is lines)
 
 body-faults : (ts : List Token) → body (without_faults ts) ≡ without_faults (body ts)
 body-faults [] = refl
@@ -84,25 +86,16 @@ module _ (lines : List SourceLine) where
       → P (macro_items texts b.tokens ∷ macros) (macro_tokens_of b ∷ tokens)) → (bs : List Block) → HaveTexts texts bs
       → P (flat_map (macro_of lines) bs) (flat_map (λ b. map (λ items. macro_tokens_of b) (macro_of lines b)) bs)
   macros-by P none more [] all = none
-  macros-by P none more (b ∷ bs) all = by b.kind (macros-by P none more bs all.1)
+  macros-by P none more (b ∷ bs) all = by b.kind _ _ (macros-by P none more bs all.1)
     where
-      rest : List (List Item)
-      rest = flat_map (macro_of lines) bs
-
-      tokens : List (List Token)
-      tokens = flat_map (λ b. map (λ items. macro_tokens_of b) (macro_of lines b)) bs
-
-      kept : (is_kept : Bool) → is_macro texts (macro_items texts b.tokens) ≡ is_kept → P rest tokens
-          → P ((if is_kept then macro_items texts b.tokens ∷ [] else []) ++ rest)
-          (map (λ items. macro_tokens_of b) (if is_kept then macro_items texts b.tokens ∷ [] else []) ++ tokens)
-      kept false e h = h
-      kept true e h =
-          more b rest tokens (backslashes-texts texts _ (macro-texts texts b.tokens all.0 (kept-name texts b.tokens e))) h
-
-      by : (kind : BlockKind) → P rest tokens
+      by : (kind : BlockKind) (rest : List (List Item)) (tokens : List (List Token)) → P rest tokens
           → P (kind_macro lines kind b ++ rest) (map (λ items. macro_tokens_of b) (kind_macro lines kind b) ++ tokens)
-      by (OfMacro line) h = kept (is_macro texts (macro_items texts b.tokens)) refl h
-      by (OfPiece occurrence line) h = h
+      by (OfPiece occurrence line) rest tokens h = h
+      by (OfMacro line) rest tokens h =
+          cond_both (is_macro texts (macro_items texts b.tokens)) (macro_items texts b.tokens ∷ []) []
+          (λ ms. P (ms ++ rest) (map (λ items. macro_tokens_of b) ms ++ tokens))
+          (λ e. more b rest tokens
+          (backslashes-texts texts _ (macro-texts texts b.tokens all.0 (kept-name texts b.tokens e))) h) (λ e. h)
 
   abbrev pub piece_at : Block → Option ℕ → ℕ → PieceRead
   piece_at b occurrence line = record {
@@ -138,15 +131,14 @@ module _ (lines : List SourceLine) where
   node-by table node P none more clear =
       pieces-by (λ pieces tokens. P (node_row texts table node pieces tokens)
       (filter (is_piece_of table node) pieces)) none
-      (λ b occurrence line pieces tokens are p. chosen (is_piece_of table node (piece_at b occurrence line)) _ _ _ _
-      (more b occurrence line _ _ are p) p)
+      (λ b occurrence line pieces tokens are p.
+      grind (
+        arith,
+        more b occurrence line (node_row texts table node pieces tokens)
+            (filter (is_piece_of table node) pieces) are p,
+        p,
+      ))
       (blocks 0 (all_tokens lines)) (blocks-have clear)
-    where
-      chosen : (is : Bool) (own row : List Passage) (piece : PieceRead) (pieces : List PieceRead) → P (own ++ row)
-          (piece ∷ pieces)
-          → P row pieces → P ((if is then own else []) ++ row) (if is then piece ∷ pieces else pieces)
-      chosen true own row piece pieces one rest = one
-      chosen false own row piece pieces one rest = rest
 
   pub pieces-texts : SourceLinesHaveNoLineFeed lines → AllByRecursion (AreTexts texts) (all_piece_tokens lines)
   pieces-texts none =

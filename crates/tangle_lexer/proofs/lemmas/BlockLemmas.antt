@@ -2,7 +2,7 @@
 use Rattle.std.proofs.Common.{rules}
 use Rattle.std.proofs.lemmas.Bool.Decides.{nat_tests}
 use Rattle.std.proofs.Common.{◌≡◌, ◌<◌, ℕ, ◌+◌, Bool, true, false, List, [], ◌∷◌, ◌++◌, length, drop}
-use Rattle.std.proofs.Common.{refl, ap, sym, subst, ◌∙◌, append_assoc, drop-drop, arith, length-append}
+use Rattle.std.proofs.Common.{refl, ap, sym, subst, ◌∙◌, ◌⊎◌, inl, inr, append_assoc, drop-drop, arith, length-append}
 use Rattle.std.specs.List.{All}
 use Rattle.std.proofs.lemmas.List.Elements.{All-append, All-nil}
 use Rattle.std.proofs.lemmas.Bool.{or_parts}
@@ -14,7 +14,7 @@ use Rattle.tangle_lexer.specs.declared.tokens.Token.{Token}
 use Rattle.tangle_lexer.specs.Lexemes.{Lexeme}
 use Rattle.tangle_lexer.specs.Heads.{is_head}
 use Rattle.tangle_lexer.specs.Reads.{IsRead, ReadsOn}
-use Rattle.tangle_lexer.specs.Runs.{is_run, unfolded, unfolded_token, IsRunIn}
+use Rattle.tangle_lexer.specs.Runs.{is_run, has_item, first_is_alone, unfolded, unfolded_token, IsRunIn}
 use Rattle.tangle_lexer.specs.Steps.{lexeme, tokens_from, occurrences_from}
 use Rattle.tangle_lexer.proofs.lemmas.HeadLemmas.{is_special, BeginsIn, IsPlain, lexeme-alone}
 use Rattle.tangle_lexer.proofs.lemmas.PlainTokens.{HasNone, none-append, none-by}
@@ -39,6 +39,18 @@ unfolded-append texts ts us = flat_map-append (unfolded_token texts) ts us
 pub runs-plain : (texts : List (List ℕ)) (ts : List Token) → HasNone is_run ts → All (IsRunIn texts) ts
 runs-plain texts [] h = All-nil (IsRunIn texts)
 runs-plain texts (t ∷ ts) h = grind (arith, nat_tests, runs-plain texts ts)
+
+-- Tokens are added, of which none is a run, or before which there is an item.
+
+none-alone : (ts : List Token) → HasNone is_run ts → first_is_alone ts ≡ true
+none-alone [] h = refl
+none-alone (t ∷ ts) h = grind (arith, nat_tests, none-alone ts)
+
+pub alone-append : (ts us : List Token) → HasNone is_run us ⊎ (has_item ts ≡ true) → first_is_alone ts ≡ true
+    → first_is_alone (ts ++ us) ≡ true
+alone-append [] us (inl none) h = none-alone us none
+alone-append [] us (inr some) h = cc
+alone-append (t ∷ ts) us added h = grind (arith, nat_tests, alone-append ts us)
 
 -- a rest of a rest of the text of lines is a rest of it
 pub rest-drop : (lines : List SourceLine) (n : ℕ) (text : List Cell)
@@ -80,6 +92,9 @@ module _ {old new : List Token} (s : LexerState) {after : LexerState} {text rest
 
   pub plain-none : (test : Token → Bool) → HasNone test (lexeme s text).tokens → HasNone test old → HasNone test new
   plain-none test here before = grind (arith, nat_tests, none-append)
+
+  pub plain-alone : HasNone is_run (lexeme s text).tokens → first_is_alone old ≡ true → first_is_alone new ≡ true
+  plain-alone here before = rw read.tokens (alone-append old (lexeme s text).tokens (inl here) before)
 
   pub read-ours : (lines : List SourceLine) → IsRestOf lines text → IsRestOf lines rest
   read-ours lines ours =

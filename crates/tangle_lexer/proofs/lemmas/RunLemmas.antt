@@ -1,4 +1,4 @@
--- A run of a C part is read: its token stands for those of the words, signs, quoted texts and spaces in it.
+-- A run is read: its token stands for those of the words, signs, quoted texts and spaces in it.
 use Rattle.std.proofs.Common.{rules}
 use Rattle.std.proofs.Common.{if◌then◌else◌, nat_le, ◌==◌}
 use Rattle.std.proofs.lemmas.List.{get_or-drop}
@@ -20,21 +20,21 @@ use Rattle.tangle_text.specs.Text.{IsRestOf}
 use Rattle.tangle_text.specs.Runs.{holds_plain, run_count, run_size}
 use Rattle.tangle_text.specs.Runs.{parts_of, run_parts, are_apart}
 use Rattle.tangle_text.proofs.RunPartLemmas.{run_count-line, run_size-fits, get_drop}
-use Rattle.tangle_lexer.specs.declared.modes.Mode.TheVariants as mode
+use Rattle.tangle_lexer.specs.declared.modes.Mode.{Mode}
 use Rattle.tangle_lexer.specs.declared.modes.LineOfC.{LineOfC}
 use Rattle.tangle_lexer.specs.declared.modes.LexerState.{LexerState}
 use Rattle.tangle_lexer.specs.declared.simple.SimpleLexeme.{SimpleLexeme}
 use Rattle.tangle_lexer.specs.declared.tokens.Token.{Token}
 use Rattle.tangle_lexer.specs.declared.tokens.Token.TheVariants as token
 use Rattle.tangle_lexer.specs.LinesOfC.{with_item}
-use Rattle.tangle_lexer.specs.Lexemes.{elsewhere, is_c_part}
+use Rattle.tangle_lexer.specs.Lexemes.{elsewhere}
 use Rattle.tangle_lexer.specs.Reads.{ReadsOn}
 use Rattle.tangle_lexer.specs.Runs.{part_token, unfolded, IsRunOf, IsRunIn}
 use Rattle.tangle_lexer.specs.Simple.{IsSimple, simple_kind, is_c_text, is_word_or_sign, begins_run, is_apart}
 use Rattle.tangle_lexer.specs.Steps.{c_lexeme, lexeme, tokens_from}
 use Rattle.tangle_lexer.specs.Steps.{occurrences_from}
 use Rattle.tangle_lexer.proofs.lemmas.BlockLemmas.{unfolded-append, rest-drop}
-use Rattle.tangle_lexer.proofs.lemmas.RunTokens.{in_part, front-byte, run-goes}
+use Rattle.tangle_lexer.proofs.lemmas.RunTokens.{in_text, front-byte, run-goes}
 use Rattle.tangle_lexer.specs.declared.modes.IncludeState.{IncludeState}
 use Rattle.tangle_lexer.proofs.lemmas.SimpleLemmas.{lexeme-simple}
 use Rattle.tangle_lexer.proofs.lemmas.StepLemmas.{tokens_from-step, occurrences_from-step}
@@ -132,11 +132,11 @@ run-end : (bytes : List ℕ) (column n : ℕ) → 0 < n → (get_or (0 ∷ drop 
 run-end bytes column zero some h = absurd (omega arith)
 run-end bytes column (suc n) some h = grind (arith, get_or-drop)
 
-line-run : (lines : List SourceLine) (l : LineOfC) (stays : (b : Bool) → with_item b l ≡ l) (occurrences last : ℕ)
+line-run : (lines : List SourceLine) (m : Mode) → is_c_text m ≡ true → (l : LineOfC) (stays : (b : Bool) → with_item b l ≡ l) (occurrences last : ℕ)
     (text : List Cell) → IsInLine (texts_of lines) 0 text → holds_plain (byte_at 0 text) ≡ true
     → holds number_sign (byte_at 0 text) ≡ false → 0 < run_count text
-    → IsRunRead lines (in_part l occurrences last) (in_part l occurrences last) text
-line-run lines l stays occurrences last text place plain sign some =
+    → IsRunRead lines (in_text m l occurrences last) (in_text m l occurrences last) text
+line-run lines m c_text l stays occurrences last text place plain sign some =
     let texts = texts_of lines in
     let line : ℕ = place.line in
     let column : ℕ = place.column in
@@ -151,7 +151,7 @@ line-run lines l stays occurrences last text place plain sign some =
     let count : run_count text ≡ n = ap run_count is ∙ run_count-line line column bytes place.rest in
     let span_is = ap (span_at n) is ∙ span-line line column n bytes place.rest in
     let parts = parts-are texts line column n in
-    let goes = run-goes l stays occurrences last line place.rest column 0 n bytes (omega arith) refl in
+    let goes = run-goes m c_text l stays occurrences last line place.rest column 0 n bytes (omega arith) refl in
     let run : IsRunOf texts (record { line = line; start = column; end = column + n }) = record {
       span = record {
         line = place.real;
@@ -190,21 +190,21 @@ apart-sign : (inc : IncludeState) (b : Option ℕ) → is_apart inc b ≡ true �
 apart-sign x b h = grind arith
 
 -- a run that may begin at a simple lexeme, and has bytes, is read from there on
-pub run-read : (lines : List SourceLine) (s : LexerState) (text : List Cell) (p : SimpleLexeme)
-    → IsSimple text p → begins_run s.mode s.line.include p (byte_at 0 text) ≡ true → 0 < run_count text
+pub run-read : (lines : List SourceLine) (tokens : List Token) (s : LexerState) (text : List Cell) (p : SimpleLexeme)
+    → IsSimple text p → is_c_text s.mode ≡ true
+    → begins_run tokens s.mode s.line.include p (byte_at 0 text) ≡ true → 0 < run_count text
     → IsRestOf lines text → IsRunRead lines s (elsewhere s) text
-run-read lines s text p here begins some_bytes ours =
-    let all = and_parts (is_c_part s.mode && is_word_or_sign p) _ begins in
-    let both = and_parts (is_c_part s.mode) (is_word_or_sign p) all.0 in
-    let m : s.mode ≡ mode.CPart = (grind arith) in
-    let plain : holds_plain (byte_at 0 text) ≡ true = here.plain both.1 in
-    let some = here.byte (λ e. let never = rw e at both.1 in cc) in
+run-read lines tokens s text p here c_text begins some_bytes ours =
+    let all = and_parts (is_word_or_sign p && is_apart s.line.include (byte_at 0 text)) _ begins in
+    let both = and_parts (is_word_or_sign p) (is_apart s.line.include (byte_at 0 text)) all.0 in
+    let plain : holds_plain (byte_at 0 text) ≡ true = here.plain both.0 in
+    let some = here.byte (λ e. let never = rw e at both.0 in cc) in
     let place : IsInLine (texts_of lines) 0 text
     = rw ours.1 (text-place 0 lines ours.0 (subst (λ t. IsSome (byte_at 0 t)) ours.1 some)) in
-    let part : LexerState = in_part (with_item false s.line.line) s.occurrences s.last_line in
+    let part : LexerState = in_text s.mode (with_item false s.line.line) s.occurrences s.last_line in
     let run : IsRunRead lines part part text
-    = line-run lines (with_item false s.line.line) (λ b. item-stays false b s.line.line) s.occurrences s.last_line
-    text place plain (apart-sign s.line.include (byte_at 0 text) all.1) some_bytes in
+    = line-run lines s.mode c_text (with_item false s.line.line) (λ b. item-stays false b s.line.line) s.occurrences s.last_line
+    text place plain (apart-sign s.line.include (byte_at 0 text) both.1) some_bytes in
     grind (arith, nat_tests, lexeme-apart s text p here, tokens_from-step, occurrences_from-step)
 
 -- the token of a run is added

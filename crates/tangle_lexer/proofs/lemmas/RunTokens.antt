@@ -25,7 +25,7 @@ use Rattle.tangle_text.proofs.ItemLemmas.{run-after}
 use Rattle.tangle_text.proofs.PartLemmas.{part-fits, part-taken}
 use Rattle.tangle_text.proofs.UnitLemmas.{counted, count-is}
 use Rattle.tangle_text.proofs.WordLemmas.{word_more-plain}
-use Rattle.tangle_lexer.specs.declared.modes.Mode.TheVariants as mode
+use Rattle.tangle_lexer.specs.declared.modes.Mode.{Mode}
 use Rattle.tangle_lexer.specs.declared.modes.IncludeState.TheVariants as include
 use Rattle.tangle_lexer.specs.declared.modes.LineOfC.{LineOfC}
 use Rattle.tangle_lexer.specs.declared.modes.AtLineEnd.TheVariants.{Ends}
@@ -34,12 +34,14 @@ use Rattle.tangle_lexer.specs.declared.lexeme_kinds.LexemeKind.TheVariants as le
 use Rattle.tangle_lexer.specs.declared.tokens.SpanKind.TheVariants as span_kind
 use Rattle.tangle_lexer.specs.declared.tokens.Token.TheVariants as token
 use Rattle.tangle_lexer.specs.LinesOfC.{with_item}
-use Rattle.tangle_lexer.specs.CText.{kind_by}
+use Rattle.tangle_lexer.specs.CText.{kind_by, kind_at}
+use Rattle.tangle_lexer.specs.Simple.{is_c_text}
+use Rattle.tangle_lexer.specs.declared.lexeme_kinds.LexemeKind.{LexemeKind}
 use Rattle.tangle_lexer.specs.Lexemes.{lexeme_of}
 use Rattle.tangle_lexer.specs.Quoted.{kind_in, one_if, cut_range, cut_tokens, quote_end, quoted_text}
 use Rattle.tangle_lexer.specs.Runs.{part_token}
-use Rattle.tangle_lexer.specs.Steps.{lexeme, c_lexeme, tokens_from, occurrences_from}
-use Rattle.tangle_lexer.proofs.lemmas.StepLemmas.{lexeme-here, tokens_from-step, occurrences_from-step}
+use Rattle.tangle_lexer.specs.Steps.{lexeme, c_lexeme, macro_lexeme, tokens_from, occurrences_from}
+use Rattle.tangle_lexer.proofs.lemmas.StepLemmas.{tokens_from-step, occurrences_from-step}
 
 -- the rest of a line
 
@@ -81,6 +83,8 @@ module _ (r : Region) (close : ℕ) (units : (b next : Option ℕ) → unit_of r
 abbrev IsText : ℕ → Type 0
 IsText b =
     (r : Region) × ((c next : Option ℕ) → unit_of r c next ≡ quoted_unit b c next) × (kind_in r ≡ span_kind.Quoted)
+    × ((next : Option ℕ) (s : LexerState) (text : List Cell) →
+    let kind = kind_by include.Elsewhere (Some b) next in macro_lexeme kind s text ≡ c_lexeme kind s text)
     × ((next : Option ℕ) (s : LexerState) (text : List Cell)
     → c_lexeme (kind_by include.Elsewhere (Some b) next) s text ≡ quoted_text r b s text)
 
@@ -88,8 +92,8 @@ text-of : (b : ℕ) → is_quote b ≡ true → IsText b
 text-of b h =
     let quote : (b ≡ double_quote) ⊎ (b ≡ apostrophe) = grind (arith, nat_tests) in
     elim quote [
-      | inl e ↦ subst IsText (sym e) (region.DoubleQuote, (λ c d. refl), refl, λ d s text. refl)
-      | inr e ↦ subst IsText (sym e) (region.Apostrophe, (λ c d. refl), refl, λ d s text. refl)
+      | inl e ↦ subst IsText (sym e) (region.DoubleQuote, (λ c d. refl), refl, (λ d s text. refl), λ d s text. refl)
+      | inr e ↦ subst IsText (sym e) (region.Apostrophe, (λ c d. refl), refl, (λ d s text. refl), λ d s text. refl)
     ]
 
 -- words
@@ -99,13 +103,13 @@ before-word : (bs : List ℕ) → is_before_quote (drop (prefix_len is_word_byte
 before-word [] = refl
 before-word (b ∷ bs) = grind (arith, nat_tests, one-add (prefix_len is_word_byte bs), before-word bs)
 
--- lexemes of a C part where no #include was begun, after an item of a line
+-- lexemes of C text where no #include was begun, after an item of a line
 
-abbrev pub in_part : LineOfC → ℕ → ℕ → LexerState
-in_part l occurrences last = record {
+abbrev pub in_text : Mode → LineOfC → ℕ → ℕ → LexerState
+in_text m l occurrences last = record {
   occurrences = occurrences;
   last_line = last;
-  mode = mode.CPart;
+  mode = m;
   line = record { include = include.Elsewhere; line = l; at_line_end = Ends };
 }
 
@@ -138,9 +142,17 @@ some-size : (m : ℕ) → not (m == 0) ≡ true → (n : ℕ) × (m ≡ suc n)
 some-size zero h = cc
 some-size (suc n) h = (n, refl)
 
-module _ (l : LineOfC) (stays : (b : Bool) → with_item b l ≡ l) (count last line : ℕ) (rest : List Cell) where
+-- a lexeme of a kind that is the same in C parts and in macros
+lexeme-here : (s : LexerState) (text : List Cell) (kind : LexemeKind) → is_c_text s.mode ≡ true
+    → macro_lexeme kind s text ≡ c_lexeme kind s text → kind_at s.line.include text ≡ kind
+    → lexeme s text ≡ c_lexeme kind s text
+unfolding lexeme
+lexeme-here s text kind m same h = grind (arith, nat_tests)
+
+module _ (m : Mode) (c_text : is_c_text m ≡ true) (l : LineOfC) (stays : (b : Bool) → with_item b l ≡ l)
+    (count last line : ℕ) (rest : List Cell) where
   abbrev here : LexerState
-  here = in_part l count last
+  here = in_text m l count last
 
   -- the text of the line from a column on, where these are its bytes
   abbrev at : ℕ → List ℕ → List Cell
@@ -161,7 +173,7 @@ module _ (l : LineOfC) (stays : (b : Bool) → with_item b l ≡ l) (count last 
       let last = prefix_len_passes is_word_byte (b ∷ bs) (prefix_len is_word_byte bs) 0 (rw word (omega arith)) in
       let size = word_more-plain line column b bs rest (not-true (is_before_quote bs) apart) in
       record {
-        lexeme = lexeme-here here text lexeme_kind.Word refl (grind (arith, nat_tests))
+        lexeme = lexeme-here here text lexeme_kind.Word c_text refl (grind (arith, nat_tests))
             ∙ rw (blank, word, size, stays false) refl;
         apart = λ parts more. rw (blank, word)
             (loosened _ _ false true parts more (λ e. cc) (λ e. rw word (ap not (before-word bs) ∙ apart)));
@@ -170,7 +182,7 @@ module _ (l : LineOfC) (stays : (b : Bool) → with_item b l ≡ l) (count last 
 
   space-part : (column : ℕ) (bs : List ℕ) → begins_item bs ≡ true → IsPart column space bs
   space-part column bs begins = record {
-    lexeme = lexeme-here here (at column (space ∷ bs)) lexeme_kind.White refl refl
+    lexeme = lexeme-here here (at column (space ∷ bs)) lexeme_kind.White c_text refl refl
         ∙ rw (item-dark line (column + 1) bs rest begins) refl;
     apart = λ parts more. loosened _ _ true false parts more (λ e. begins) (λ e. cc);
     ends = refl;
@@ -179,14 +191,15 @@ module _ (l : LineOfC) (stays : (b : Bool) → with_item b l ≡ l) (count last 
   quoted-part : (column b n : ℕ) (bs : List ℕ) → (b == space) ≡ false → is_word_byte b ≡ false → is_quote b ≡ true
       → quote_size b false bs ≡ suc n → IsPart column b bs
   quoted-part column b n bs blank word quote size =
-      let (r, units, kind, opens) = text-of b quote in
+      let (r, units, kind, same, opens) = text-of b quote in
       let end : ℕ = column + (1 + suc n) in
       let text = closes-at r b units last line column end rest false (column + 1) bs n size (omega arith) in
       let inside : count_before r (at (column + 1) bs) ≡ n = count-is r (at (column + 1) bs) ∙ text.count in
       let span : Span = record { line = line; start = column; end = end } in
       let cut : cut_range r line column end ≡ token.Span (kind_in r) span ∷ [] = grind (arith, nat_tests) in
       record {
-        lexeme = lexeme-here here (at column (b ∷ bs)) _ refl refl
+        lexeme = lexeme-here here (at column (b ∷ bs)) _ c_text
+            (same (byte_at 0 (at (column + 1) bs)) here (at column (b ∷ bs))) refl
             ∙ (opens (byte_at 0 (at (column + 1) bs)) here (at column (b ∷ bs))
             ∙ rw (inside, text.closes, text.tokens, cut, kind, eq-eqb b b refl, add-one n, stays false)
             (rw (blank, word, quote, size) refl));
@@ -200,7 +213,7 @@ module _ (l : LineOfC) (stays : (b : Bool) → with_item b l ≡ l) (count last 
       let next = front-byte line (column + 1) bs rest in
       let other : (b == backslash) ≡ false = grind (arith, nat_tests) in
       record {
-        lexeme = lexeme-here here (at column (b ∷ bs)) lexeme_kind.Other refl (grind (arith, nat_tests))
+        lexeme = lexeme-here here (at column (b ∷ bs)) lexeme_kind.Other c_text refl (grind (arith, nat_tests))
             ∙ rw (blank, word, quote, other, stays (b == number_sign)) refl;
         apart = λ parts more. rw (blank, word, quote) (loosened _ _ false false parts more (λ e. cc) (λ e. cc));
         ends = rw (word, quote) other;

@@ -12,7 +12,7 @@ use Rattle.digraph.specs.Graph.{row_at}
 use Rattle.tangle_faults.specs.Faults.{FaultRead}
 use Rattle.tangle_faults.specs.declared.faults.FaultKind.TheVariants as fault
 use Rattle.tangle_lexer.specs.Heads.{is_head}
-use Rattle.tangle_lexer.specs.Runs.{IsRunIn, unfolded}
+use Rattle.tangle_lexer.specs.Runs.{IsRunIn, first_is_alone, unfolded}
 use Rattle.tangle_lexer.specs.declared.tokens.Token.{Token}
 use Rattle.tangle_lexer.specs.declared.tokens.Token.TheVariants as token
 use Rattle.tangle_lines.specs.Reading.{SourceRead, origin_at}
@@ -26,7 +26,7 @@ use Rattle.tangle_scan.specs.Texts.{TextRead, TextsRead, IsTextOf, item_uses, no
 use Rattle.tangle_scan.specs.Web.{scan_faults, section_count}
 use Rattle.tangle_scan.specs.Web.{PieceRead, WebRead, blocks, fault_on, is_all_macros, no_piece, macro_token_faults, token_faults}
 use Rattle.tangle_scan.specs.WebBuilder.{AreTextsOf, IsGathered, StoredBuilder, nothing_stored, part_head}
-use Rattle.tangle_scan.proofs.lemmas.UnfoldedTokens.{all_macros-unfolded, faults-unfolded, unfolded-no_head}
+use Rattle.tangle_scan.proofs.lemmas.UnfoldedTokens.{all_macros-unfolded, faults-unfolded, macro_faults-unfolded, unfolded-no_head}
 use Rattle.tangle_scan.proofs.lemmas.TextLemmas.{no-items}
 use Rattle.tangle_scan.proofs.lemmas.WebBuilderLemmas.{body-whole, no-section, no-blocks, no-head_faults}
 use Rattle.tangle_scan.proofs.lemmas.WebBuilderLemmas.{sections-added, blocks-added, faults-added}
@@ -101,24 +101,26 @@ module _ (source : SourceRead) (stored : StoredBuilder) (before tokens : List To
       (rw (sections-added token.Section all refl plain 0 before, h.sections) refl)
       (rw (faults-added token.Section all refl plain source.files source.lines before, faults, h.faults) refl)
 
-  pub macro-stored : (line : ℕ) → IsGathered source before stored →
-      let items = macro_items texts tokens in
+  pub macro-stored : (line : ℕ) → All (IsRunIn texts) tokens → first_is_alone tokens ≡ true
+      → IsGathered source before stored →
+      let items = macro_items texts all in
       let is_macro = is_macro texts items in
-      IsGathered source (before ++ token.MacroStart line ∷ tokens) (record stored {
+      IsGathered source (before ++ token.MacroStart line ∷ all) (record stored {
         macros = stored.macros ++ (if is_macro then macro_bytes texts items else []);
         faults = (stored.faults ++ (if is_macro then []
             else fault_on source.files source.lines fault.MacroName line ∷ []))
             ++ macro_token_faults source.files source.lines tokens;
       })
-  macro-stored line h =
+  macro-stored line runs alone h =
       let head = token.MacroStart line in
       grind (
         arith,
         nat_tests,
-        sections-added head tokens refl none 0 before,
-        blocks-added head tokens refl none 0 before,
-        faults-added head tokens refl none source.files source.lines before,
-        body-whole tokens none,
+        sections-added head all refl plain 0 before,
+        blocks-added head all refl plain 0 before,
+        faults-added head all refl plain source.files source.lines before,
+        macro_faults-unfolded source.files source.lines tokens runs alone,
+        body-whole all plain,
         flat_map-append,
         list_any-append,
         append-nil,

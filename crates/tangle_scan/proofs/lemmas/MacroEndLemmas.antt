@@ -1,30 +1,113 @@
--- The items of a macro without those that are dropped at its end, of a macro with one more item.
-use Rattle.std.proofs.Common.{◌≡◌, ◌∙◌, ap, refl, sym, true, false, List, [], ◌∷◌, ◌++◌, ℕ}
-use Rattle.std.specs.List.{IsLastAndRest}
+-- The items of spaced tokens without those that are dropped at the end of a macro.
+use Rattle.std.proofs.Common.{◌≡◌, ◌∙◌, ap, map, refl, sym, inl, inr, not, Bool, true, false, List, [], ◌∷◌, ◌++◌, ℕ, arith, flat_map, append_assoc}
+use Rattle.std.proofs.lemmas.Bool.Decides.{nat_tests}
+use Rattle.std.proofs.lemmas.Bool.{and_parts}
+use Rattle.tangle_text.specs.Bytes.{backslash}
+use Rattle.tangle_text.specs.Text.{span_text}
+use Rattle.tangle_text.specs.declared.spans.Span.{Span}
+use Rattle.tangle_text.specs.declared.runs.RunPart.{RunPart}
+use Rattle.tangle_text.specs.declared.runs.RunPart.TheVariants as part
+use Rattle.tangle_text.specs.Runs.{are_apart, run_parts}
+use Rattle.tangle_lexer.specs.declared.tokens.Token.{Token}
+use Rattle.tangle_lexer.specs.declared.tokens.Token.TheVariants as token
+use Rattle.tangle_lexer.specs.declared.tokens.SpanKind.TheVariants as span_kind
+use Rattle.tangle_lexer.specs.Runs.{is_run, part_token}
+use Rattle.tangle_lexer.specs.SpanBytes.{ends_in}
 use Rattle.tangle_scan.specs.declared.items.Item.{Item}
-use Rattle.tangle_scan.specs.MacroBytes.{is_dropped_at_end, without_end, without_end_after}
+use Rattle.tangle_scan.specs.declared.items.Item.TheVariants as item
+use Rattle.tangle_scan.specs.Texts.{part_item}
+use Rattle.tangle_scan.specs.ItemBytes.{bytes_in}
+use Rattle.tangle_scan.specs.Passes.{is_written, last_of, spaced_items, IsWritten}
+use Rattle.tangle_scan.specs.MacroBytes.{is_dropped_at_end, is_dropped_token, macro_item_bytes, without_end, without_end_after}
+use Rattle.tangle_scan.proofs.lemmas.MacroRunLemmas.{parts-unmarked, run-or-not}
+use Rattle.tangle_scan.proofs.lemmas.RunItems.{run-ends}
+use Rattle.tangle_scan.proofs.lemmas.RunTags.{run_read}
+use Rattle.tangle_scan.proofs.lemmas.SpacedTokens.{spaced-push}
+
+apart-more : (space word : Bool) (p : RunPart) (ps : List RunPart) → are_apart space word (p ∷ ps) ≡ true
+    → (s : Bool) × (w : Bool) × (are_apart s w ps ≡ true)
+apart-more space word part.Space ps h = (true, false, (and_parts (not space) _ h).1)
+apart-more space word (part.Quoted s) ps h = (false, false, (and_parts (not word) _ h).1)
+apart-more space word (part.Word s) ps h = (false, true, h)
+apart-more space word (part.Sign s) ps h = (false, false, h)
 
 module _ (texts : List (List ℕ)) where
+  -- the bytes of a run
+  part-bytes : (ps : List RunPart)
+      → flat_map (macro_item_bytes texts) (map part_item ps) ≡ flat_map (bytes_in texts) (map part_item ps)
+  part-bytes [] = refl
+  part-bytes (p ∷ ps) = grind (arith, part-bytes ps)
+
+  pub run-bytes : (s : Span)
+      → flat_map (macro_item_bytes texts) (spaced_items texts (token.Run s ∷ [])) ≡ span_text texts s
+  run-bytes s = rw (parts-unmarked texts (run_parts texts s)) (part-bytes (run_parts texts s) ∙ (run_read texts s).0)
+
+  -- the last items are dropped, or the last one is written
+
   dropped_last : (xs : List Item) (x : Item)
       → is_dropped_at_end texts x ≡ true → without_end texts (xs ++ x ∷ []) ≡ without_end texts xs
   dropped_last [] x dropped = rw dropped
   dropped_last (y ∷ ys) x dropped = ap (without_end_after texts y) (dropped_last ys x dropped)
 
+  abbrev IsWhole : List Item → Type 0
+  IsWhole items = (xs : List Item) → without_end texts (xs ++ items) ≡ xs ++ items
+
   written_tail : (y : Item) (ys : List Item) (x : Item) → without_end_after texts y (ys ++ x ∷ []) ≡ y ∷ ys ++ x ∷ []
   written_tail y [] x = refl
   written_tail y (z ∷ zs) x = refl
 
-  written_last : (xs : List Item) (x : Item)
-      → is_dropped_at_end texts x ≡ false → without_end texts (xs ++ x ∷ []) ≡ xs ++ x ∷ []
-  written_last [] x written = rw written
-  written_last (y ∷ ys) x written = ap (without_end_after texts y) (written_last ys x written) ∙ written_tail y ys x
+  written_last : (x : Item) → is_dropped_at_end texts x ≡ false → IsWhole (x ∷ [])
+  written_last x written [] = rw written
+  written_last x written (y ∷ ys) = ap (without_end_after texts y) (written_last x written ys) ∙ written_tail y ys x
 
-  -- where the last item is dropped, and where it is written
+  written_more : (x : Item) (items : List Item) → IsWhole items → IsWhole (x ∷ items)
+  written_more x items whole xs =
+      ap (without_end texts) (sym (append_assoc xs (x ∷ []) items)) ∙ (whole (xs ++ x ∷ []) ∙ append_assoc xs (x ∷ []) items)
 
-  pub dropped_at : (items front : List Item) (x : Item) → IsLastAndRest items x front
-      → is_dropped_at_end texts x ≡ true → without_end texts front ≡ without_end texts items
-  dropped_at items front x is dropped = rw is.0 (sym (dropped_last front x dropped))
+  parts_whole : (space word : Bool) (p : RunPart) (ps : List RunPart) → are_apart space word (p ∷ ps) ≡ true
+      → ends_in backslash texts (last_of (part_token p) ps) ≡ false → IsWhole (map part_item (p ∷ ps))
+  parts_whole space word p [] apart ends = written_last (part_item p) (grind (arith, nat_tests))
+  parts_whole space word p (q ∷ ps) apart ends =
+      let (s, w, more) = apart-more space word p (q ∷ ps) apart in
+      written_more (part_item p) (map part_item (q ∷ ps)) (parts_whole s w q ps more ends)
 
-  pub written_at : (items front : List Item) (x : Item) → IsLastAndRest items x front
-      → is_dropped_at_end texts x ≡ false → without_end texts items ≡ items
-  written_at items front x is written = rw is.0 (written_last front x written)
+  -- the item of a token other than a run
+  one-item : (t : Token) → is_written t ≡ true → is_run t ≡ false
+      → (x : Item) × (spaced_items texts (t ∷ []) ≡ x ∷ []) × (is_dropped_at_end texts x ≡ is_dropped_token texts t)
+  one-item token.White h other = (item.Blank, refl, refl)
+  one-item (token.LineEnd line) h other = (item.LineEnd, refl, refl)
+  one-item (token.QuoteBreak line) h other = (item.QuoteBreak, refl, refl)
+  one-item (token.AsciiConstant value line) h other = (item.AsciiConstant value, refl, refl)
+  one-item (token.Span span_kind.Word s) h other = (item.Word s, refl, refl)
+  one-item (token.Span span_kind.Sign s) h other = (item.Sign s, refl, refl)
+  one-item (token.Span span_kind.Quoted s) h other = (item.Quoted s, refl, refl)
+  one-item (token.Span span_kind.Verbatim s) h other = (item.Verbatim s, refl, refl)
+  one-item t h other = cc
+
+  token-whole : (t : Token) → IsWritten texts t → is_dropped_token texts t ≡ false → IsWhole (spaced_items texts (t ∷ []))
+  token-whole t written kept =
+      elim (run-or-not t) [
+        | inl of ↦
+            let run = rw of.1 at written.run in
+            let ends = run-ends texts of.0 run in
+            rw (of.1, parts-unmarked texts (run_parts texts of.0), ends.parts)
+            (parts_whole true true ends.first ends.others ends.apart (ends.last.joins ∙ run.ends))
+        | inr other ↦
+            let (x, is, same) = one-item t written.written other in rw is (written_last x (same ∙ kept))
+      ]
+
+  pub dropped-at : (tokens front : List Token) (t : Token) → tokens ≡ front ++ t ∷ [] → IsWritten texts t
+      → is_dropped_token texts t ≡ true
+      → without_end texts (spaced_items texts front) ≡ without_end texts (spaced_items texts tokens)
+  dropped-at tokens front t is written dropped =
+      elim (run-or-not t) [
+        | inl of ↦ let never = rw of.1 at dropped in cc
+        | inr other ↦
+            let (x, last, same) = one-item t written.written other in
+            rw (is, spaced-push texts front t, last) (sym (dropped_last (spaced_items texts front) x (same ∙ dropped)))
+      ]
+
+  pub written-at : (tokens front : List Token) (t : Token) → tokens ≡ front ++ t ∷ [] → IsWritten texts t
+      → is_dropped_token texts t ≡ false → without_end texts (spaced_items texts tokens) ≡ spaced_items texts tokens
+  written-at tokens front t is written kept =
+      rw (is, spaced-push texts front t) (token-whole t written kept (spaced_items texts front))

@@ -15,7 +15,7 @@ use Rattle.tangle_scan.specs.declared.macro_items.Gap.{Gap}
 use Rattle.tangle_scan.specs.Rules.{next_item, has_blank_at_line_end, is_name_part, macro_blanks, unmarked_items, macro_items}
 use Rattle.tangle_scan.specs.Rules.{is_front_gap, is_line_backslash, without_backslashes, ends_line}
 use Rattle.tangle_scan.specs.Passes.{item_of, blank_if, from_item, left_gap, joined_from, is_solid, is_dropped}
-use Rattle.tangle_scan.specs.Passes.{has_white, line_ends, gap_of, has_blank, is_in_name, items_from, items_ahead}
+use Rattle.tangle_scan.specs.Passes.{has_white, line_ends, gap_of, has_blank, is_at_name, items_from, items_ahead}
 use Rattle.tangle_scan.proofs.lemmas.SpacingLemmas.{item-ahead, macro-begin, left-front_gap}
 
 -- the items after a gap, of which a part was read
@@ -118,7 +118,7 @@ pub ahead-item : (texts : List (List ℕ)) (at : MacroState) (e : Token) (es : L
     is_dropped texts e gap ≡ false → items_ahead texts at (e ∷ es)
     ≡ blank_if (has_blank texts at.in_name at.item at.gap e)
     ++ (replicate at.gap.line_ends item.LineEnd ++ (option_to_list (item_of e)
-    ++ items_ahead texts (record { is_first = false; item = Some e; in_name = is_in_name at e; gap = gap }) (from_item es)))
+    ++ items_ahead texts (record { is_first = false; item = Some e; in_name = is_at_name at && is_name_part e; gap = gap }) (from_item es)))
 unfolding items_ahead
 ahead-item texts at e es h kept = grind (arith, nat_tests, ahead, gap-on_line, left-front_gap, solid-items)
 

@@ -27,7 +27,7 @@ use Rattle.tangle_scan.specs.Rules.{has_join, texts_of, is_continued, at_line_fr
 use Rattle.tangle_text.specs.Bytes.{slash}
 use Rattle.tangle_scan.specs.Rules.{blanks, part_items, is_front_gap}
 use Rattle.tangle_scan.specs.LineTruth.{counted_after_line_end}
-use Rattle.tangle_scan.specs.Passes.{IsPassed, from_gap, start_of_gap, items_after, spaced_after, blank_before, origin_of}
+use Rattle.tangle_scan.specs.Passes.{IsPassed, last_of, from_gap, start_of_gap, items_after, spaced_after, blank_before, origin_of}
 use Rattle.tangle_scan.specs.Passes.{turn_at_gap, counted_at_gap, continues, ends_open, run_ends_in, would_merge_in_run}
 use Rattle.tangle_scan.specs.Passes.{is_joined, is_item, is_touching, items_by_origin, keeps_white, last_after_line_end}
 use Rattle.tangle_scan.specs.Passes.{line_item, items_at, counted_after_token, blank_if}
@@ -38,7 +38,7 @@ use Rattle.tangle_scan.specs.Passes.{is_number_sign}
 use Rattle.tangle_scan.proofs.lemmas.ItemsByOrigin.{part_items-by_origin}
 use Rattle.tangle_scan.proofs.lemmas.RuleLemmas.{has_join-push, is_solid}
 use Rattle.tangle_scan.proofs.lemmas.SpacingLemmas.{spaced-inside}
-use Rattle.tangle_scan.proofs.lemmas.RunItems.{is_end, last_token, run-ends}
+use Rattle.tangle_scan.proofs.lemmas.RunItems.{is_end, run-ends}
 
 abbrev white_if : Bool → List Token
 white_if b = if b then token.White ∷ [] else []
@@ -332,7 +332,7 @@ run-settled texts at s = grind arith
 parts-ahead : (lines : List SourceLine) (e : Token) (at : Turn) (counted : Origin) (after_word : Bool)
     (ps : List RunPart) (es : List Token) → is_settled at ≡ true → is_constant e ≡ false
     → are_apart false after_word ps ≡ true → ahead lines e at counted (map part_token ps ++ es)
-    ≡ map part_item ps ++ ahead lines (last_token e ps) at counted es
+    ≡ map part_item ps ++ ahead lines (last_of e ps) at counted es
 parts-ahead lines e at counted after_word [] es settled plain h = refl
 parts-ahead lines e at counted after_word (part.Space ∷ p ∷ ps) es settled plain h =
     grind (
@@ -355,7 +355,7 @@ part-ahead : (lines : List SourceLine) (whole items kept : List Item) (at : Part
     → whole ≡ items
     ++ (blank_if (blank_before lines at (part_token p))
     ++ (map part_item (p ∷ ps)
-    ++ ahead lines (last_token (part_token p) ps) (turn_after_run (texts_of lines) at.turn s) (origin_of at.counted) es))
+    ++ ahead lines (last_of (part_token p) ps) (turn_after_run (texts_of lines) at.turn s) (origin_of at.counted) es))
 part-ahead lines whole items kept at s p ps es is number apart h =
     grind (
       arith,
@@ -377,7 +377,7 @@ passed-run lines whole items kept at s es run h =
     let passed = subst (λ ps. IsPassed lines whole items kept at (map part_token ps ++ es)) ends.parts h in
     let last = ends.last in
     rw ends.parts
-    (item-passed lines whole _ _ (last_token (part_token ends.first) ends.others) es refl refl last.solid
+    (item-passed lines whole _ _ (last_of (part_token ends.first) ends.others) es refl refl last.solid
     (last.joins ∙ run.ends) last.opens (λ f other. grind (arith, nat_tests, last.merges, last.plain))
     (part-ahead lines whole items kept at s ends.first ends.others es ends.parts ends.number ends.apart passed
     ∙ rw (ends.merges at.item, append_assoc, append_assoc) refl))

@@ -5,7 +5,7 @@ use Rattle.std.proofs.Common.{List, [], ◌∷◌, ◌++◌, length, drop, get_o
 use Rattle.std.specs.List.{prefix_len}
 use Rattle.std.proofs.lemmas.List.{get_or-drop, get_or_append_left, length-take-le, take-append-drop}
 use Rattle.tangle_files.specs.Bytes.{space}
-use Rattle.tangle_text.specs.Bytes.{is_word_byte, backslash, slash}
+use Rattle.tangle_text.specs.Bytes.{is_word_byte, backslash, slash, left_parenthesis}
 use Rattle.tangle_text.specs.declared.runs.RunPart.{RunPart}
 use Rattle.tangle_text.specs.declared.spans.Span.{Span}
 use Rattle.tangle_text.specs.Runs.{part_more, part_at, parts_of, run_parts, are_apart}
@@ -16,9 +16,9 @@ use Rattle.tangle_lexer.specs.declared.tokens.Token.{Token}
 use Rattle.tangle_lexer.specs.declared.tokens.Token.TheVariants as token
 use Rattle.tangle_lexer.specs.Runs.{is_run, part_token, unfolded_token, IsRunOf}
 use Rattle.tangle_lexer.specs.SpanBytes.{first_byte, last_byte, ends_in}
-use Rattle.tangle_scan.specs.Rules.{may_merge, is_character, is_constant}
+use Rattle.tangle_scan.specs.Rules.{may_merge, is_character, is_constant, may_follow_name}
 use Rattle.tangle_scan.specs.Texts.{part_item}
-use Rattle.tangle_scan.specs.Passes.{is_merging_byte, is_number_sign, would_merge_in_run}
+use Rattle.tangle_scan.specs.Passes.{is_merging_byte, is_number_sign, last_of, would_merge_in_run}
 use Rattle.tangle_scan.proofs.lemmas.RunTags.{part-by, front_byte, next_bytes}
 
 -- a token other than a run stands for itself
@@ -44,11 +44,6 @@ quote-last close escaped (b ∷ bs) =
     more : (n : ℕ) → get_or (close ∷ bs) n 0 ≡ close → get_or (close ∷ b ∷ bs) (one_more n) 0 ≡ close
     more zero h = refl
     more (suc n) h = h
-
--- the last token of a run that begins with this one
-abbrev pub last_token : Token → List RunPart → Token
-last_token e [] = e
-last_token e (p ∷ ps) = last_token (part_token p) ps
 
 abbrev pub is_end : Token → Bool
 is_end (token.LineEnd line) = true
@@ -76,7 +71,7 @@ part-ends texts line column b bs is =
 
 parts-end : (texts : List (List ℕ)) (line column k last : ℕ) (bs rest : List ℕ) (e : Token)
     → drop column (get_or texts line []) ≡ bs ++ rest → k ≤ length bs → EndsRun texts e (get_or (last ∷ bs) k 0)
-    → EndsRun texts (last_token e (parts_of line column k bs)) (get_or (last ∷ bs) (length bs) 0)
+    → EndsRun texts (last_of e (parts_of line column k bs)) (get_or (last ∷ bs) (length bs) 0)
 parts-end texts line column zero last [] rest e is low h = h
 parts-end texts line column (suc k) last [] rest e is low h = absurd (omega arith)
 parts-end texts line column (suc k) last (b ∷ bs) rest e is low h =
@@ -97,6 +92,13 @@ first-merges texts s size b ps x is apart =
     = grind (arith, nat_tests) in
     grind (arith, merges)
 
+-- the first part of a run may follow a macro's name if it is an opening parenthesis
+first-follows : (texts : List (List ℕ)) (s : Span) (size b : ℕ) (ps : List RunPart) →
+    let p : RunPart = part_at s.line s.start size b in
+    first_byte texts s ≡ b → are_apart true true (p ∷ ps) ≡ true
+    → may_follow_name texts (part_token p) ≡ (first_byte texts s == left_parenthesis)
+first-follows texts s size b ps is apart = grind (arith, nat_tests)
+
 -- what a run has by its first part, which begins with its first byte, and by its last part
 pub record HasEnds (texts : List (List ℕ)) (s : Span) : Type 0 where
   pub first : RunPart
@@ -105,7 +107,8 @@ pub record HasEnds (texts : List (List ℕ)) (s : Span) : Type 0 where
   pub apart : are_apart true true (first ∷ others) ≡ true
   pub number : is_number_sign texts (part_item first) ≡ false
   pub merges : (e : Token) → would_merge_in_run texts e (part_token first) ≡ would_merge_in_run texts e (token.Run s)
-  pub last : EndsRun texts (last_token (part_token first) others) (last_byte texts s)
+  pub follows : may_follow_name texts (part_token first) ≡ (first_byte texts s == left_parenthesis)
+  pub last : EndsRun texts (last_of (part_token first) others) (last_byte texts s)
 
 pub run-ends : (texts : List (List ℕ)) (s : Span) → IsRunOf texts s → HasEnds texts s
 unfolding run_parts
@@ -143,6 +146,7 @@ run-ends texts s run =
           number = part-by (λ q. is_number_sign texts (part_item q) ≡ false) s.line s.start (1 + m) b
               (λ h. refl) (λ h. refl) (λ h other. refl) (λ h other. run.begins);
           merges = λ e. first-merges texts s (1 + m) b (parts_of s.line (s.start + 1) m bs) e is apart;
+          follows = first-follows texts s (1 + m) b (parts_of s.line (s.start + 1) m bs) is apart;
           last = rw last
               (parts-end texts s.line s.start 0 space (b ∷ bs) rest token.White all (omega arith) (white-ends texts));
         }

@@ -1,5 +1,4 @@
 -- The tokens of runs are no heads, no faults and no @h.
-use Rattle.std.proofs.lemmas.Bool.Decides.{nat_tests}
 use Rattle.std.proofs.Common.{arith}
 use Rattle.std.proofs.Common.{◌≡◌, Bool, false, List, [], ◌∷◌, map, refl, sym, ◌∙◌}
 use Rattle.std.specs.List.{list_any}
@@ -15,14 +14,15 @@ use Rattle.tangle_lexer.specs.declared.tokens.Token.TheVariants as token
 use Rattle.tangle_lexer.specs.declared.tokens.SpanKind.{SpanKind}
 use Rattle.tangle_lexer.specs.declared.tokens.SpanKind.TheVariants as span_kind
 use Rattle.tangle_lexer.specs.Heads.{is_head}
-use Rattle.tangle_lexer.specs.Runs.{part_token, unfolded_token, unfolded, HasNoRun}
+use Rattle.tangle_lexer.specs.Runs.{first_is_alone, part_token, unfolded_token, unfolded}
 use Rattle.tangle_scan.specs.Web.{is_all_macros}
 use Rattle.std.proofs.Common.{ℕ, suc, true, ◌++◌, ap, Option, Some, None, is_some}
 use Rattle.std.specs.List.{All}
+use Rattle.std.proofs.lemmas.List.Elements.{All-tail}
 use Rattle.tangle_text.specs.Runs.{are_apart}
 use Rattle.tangle_lexer.specs.Runs.{IsRunIn}
 use Rattle.tangle_scan.specs.Rules.{texts_of}
-use Rattle.tangle_scan.specs.Web.{own_fault, raw_fault, token_faults, quoted_ahead, last_word, word_at_end}
+use Rattle.tangle_scan.specs.Web.{macro_token_faults, own_fault, raw_fault, token_faults, quoted_ahead, last_word, word_at_end}
 
 -- a test that neither a run nor a part of one passes: the parts are white space and spans
 
@@ -98,14 +98,18 @@ faults-unfolded files lines word (t ∷ ts) runs =
     ∙ ap (λ fs. (raw_fault files lines word (quoted_ahead (t ∷ ts)) ++ own_fault files lines t) ++ fs)
     (faults-unfolded files lines (word_at_end (texts_of lines) t) ts (λ k d low. runs (suc k) d (omega arith)))
 
+-- the first item of a macro is in no run
+pub macro_faults-unfolded : (files : FileTable) (lines : List SourceLine) (ts : List Token) → All (IsRunIn (texts_of lines)) ts
+    → first_is_alone ts ≡ true
+    → macro_token_faults files lines (unfolded (texts_of lines) ts) ≡ macro_token_faults files lines ts
+macro_faults-unfolded files lines [] runs alone = refl
+macro_faults-unfolded files lines (token.Run s ∷ ts) runs alone = cc
+macro_faults-unfolded files lines (t ∷ ts) runs alone =
+    let more = All-tail (IsRunIn (texts_of lines)) t ts runs in
+    grind (arith, macro_faults-unfolded files lines ts more, faults-unfolded files lines None ts more)
+
 -- tokens without a head
 
 pub unfolded-no_head : (texts : List (List ℕ)) (ts : List Token) → list_any is_head ts ≡ false
     → list_any is_head (unfolded texts ts) ≡ false
 unfolded-no_head texts ts none = any-unfolded is_head refl (λ kind s. refl) (λ s. refl) texts ts ∙ none
-
--- tokens without a run
-pub unfolded-same : (texts : List (List ℕ)) (ts : List Token) → HasNoRun ts → unfolded texts ts ≡ ts
-unfolded-same texts [] none = refl
-unfolded-same texts (token.Run s ∷ ts) none = cc
-unfolded-same texts (t ∷ ts) none = grind (arith, nat_tests, unfolded-same texts ts)

@@ -1,7 +1,7 @@
 use Rattle.std.proofs.Common.{rules}
 use Rattle.std.proofs.Common.{◌<◌, ◌≡◌, false, length, get_or, arith, inl, inr, ◌∙◌, sym, true≢false}
 use Rattle.std.proofs.lemmas.List.{get_or_read}
-use Rattle.digraph.proofs.OrderSoFarLemmas.{order_push, listed_row}
+use Rattle.digraph.proofs.OrderSoFarLemmas.{order_push}
 use Rattle.digraph.proofs.ordering.add_to_order.Goals as goal
 use Rattle.digraph.proofs.ordering.add_to_order.Goals.{then-index-via-then-index}
 use Rattle.digraph.proofs.ordering.add_to_order.Goals.{then-index-via-else-index+then-any_with}
@@ -27,4 +27,4 @@ returns-clause-order c =
     let free : get_or c.args.flags.now.items c.args.n false ≡ false =
     sym (get_or_read _ c.args.n _ room c.index.ensures false) ∙ c.if-index.false in
     rw (c.in_ok-push.ensures.items, c.new.ensures)
-    (search (rules, order_push, listed_row))
+    (search (rules, order_push))

@@ -4,13 +4,13 @@ use Rattle.std.specs.List.{list_any, All}
 use Rattle.tangle_text.specs.Text.{texts_of}
 use Rattle.tangle_lexer.specs.Steps.{lexeme, tokens_from}
 use Rattle.tangle_lexer.specs.Heads.{is_head}
-use Rattle.tangle_lexer.specs.Runs.{unfolded, is_run, IsRunIn}
+use Rattle.tangle_lexer.specs.Runs.{unfolded, is_run, first_is_alone, IsRunIn}
 use Rattle.tangle_lexer.specs.Occurrences.{occurrence_of}
 use Rattle.tangle_lexer.proofs.lemmas.HeadLemmas.{IsPlain}
 use Rattle.tangle_lexer.proofs.lemmas.PlainTokens.{HasNone}
 use Rattle.tangle_lexer.proofs.lemmas.StepLemmas.{step-occurrences, step-count, step-shorter}
 use Rattle.tangle_lexer.proofs.lemmas.BlockLemmas.{taken, taken-tokens, not-taken, no-head, no-run}
-use Rattle.tangle_lexer.proofs.lemmas.BlockLemmas.{plain-tokens, plain-runs, plain-none, read-ours}
+use Rattle.tangle_lexer.proofs.lemmas.BlockLemmas.{plain-tokens, plain-runs, plain-none, plain-alone, read-ours}
 use Rattle.tangle_lexer.proofs.lexer.next_block.Goals as goal
 
 pub returns-in-Some-pop_head : goal.returns-in-Some-pop_head
@@ -30,7 +30,7 @@ returns-in-Some-pop_head c =
       tokens = sym (taken-tokens s read texts _ head inside popped found ∙ before.tokens);
       ours = read-ours s read lines before.ours;
       runs = subst (All (IsRunIn texts)) (sym found.same) before.runs;
-      no_run = λ other. ap (list_any is_run) found.same ∙ before.no_run other;
+      alone = λ other. ap first_is_alone found.same ∙ before.alone other;
       no_head = ap (list_any is_head) found.same ∙ before.no_head;
       head = popped.1;
       in_macro = grind (arith, nat_tests);
@@ -62,9 +62,9 @@ loop-front-preserved c =
           ∙ (plain-tokens s read texts inside no_run ∙ before.tokens));
       ours = more.ours;
       runs = more.runs (subst (All (IsRunIn texts)) (sym kept.0) (plain-runs s read texts no_run before.runs));
-      no_run = λ other. simple.adds.no_run
+      alone = λ other. simple.adds.alone
           (λ part. other (before.mode (plain.1 (sym (ap (λ s. s.mode) read.state) ∙ part))))
-          (ap (list_any is_run) kept.0 ∙ plain-none s read is_run no_run (before.no_run other));
+          (ap first_is_alone kept.0 ∙ plain-alone s read no_run (before.alone other));
       mode = λ part. before.mode (plain.1 (sym (ap (λ s. s.mode) read.state) ∙ (sym simple.mode ∙ part)));
       no_head = simple.adds.no_head (ap (list_any is_head) kept.0
           ∙ plain-none s read is_head (no-head (lexeme s text).tokens plain.0) before.no_head);

@@ -1,11 +1,11 @@
-use Rattle.std.proofs.Common.{◌≡◌, ◌≤◌, ◌++◌, false, length, map}
+use Rattle.std.proofs.Common.{◌≡◌, ◌≤◌, ◌++◌, true, false, length, map}
 use Rattle.std.specs.List.{list_any, All}
 use Rattle.tangle_text.specs.Text.{texts_of, IsRestOf}
 use Rattle.tangle_lexer.specs.declared.modes.Mode.TheVariants as mode
 use Rattle.tangle_lexer.specs.Steps.{tokens_from, occurrences_from}
 use Rattle.tangle_lexer.specs.Occurrences.{occurrence_of}
 use Rattle.tangle_lexer.specs.Heads.{is_head}
-use Rattle.tangle_lexer.specs.Runs.{unfolded, is_run, IsRunIn}
+use Rattle.tangle_lexer.specs.Runs.{unfolded, first_is_alone, IsRunIn}
 use Rattle.tangle_lexer.proofs.lexer.next_block.Given as goal
 
 abbrev pub invariant-loop-front : goal.invariant-loop-front
@@ -14,7 +14,7 @@ invariant-loop-front l = record {
       ≡ tokens_from l.fn.from l.fn.reader;
   ours : IsRestOf l.source.lines l.reader;
   runs : All (IsRunIn (texts_of l.source.lines)) l.buffers.tokens.items;
-  no_run : (l.fn.from.mode ≡ mode.CPart → ⊥) → list_any is_run l.buffers.tokens.items ≡ false;
+  alone : (l.fn.from.mode ≡ mode.CPart → ⊥) → first_is_alone l.buffers.tokens.items ≡ true;
   mode : l.state.mode ≡ mode.CPart → l.fn.from.mode ≡ mode.CPart;
   no_head : list_any is_head l.buffers.tokens.items ≡ false;
   occurrences : l.buffers.occurrences.items ++ map (occurrence_of l.source.lines) (occurrences_from l.state l.reader)

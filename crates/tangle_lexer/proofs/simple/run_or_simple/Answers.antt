@@ -8,7 +8,7 @@ use Rattle.tangle_lexer.specs.Simple.{begins_run, simple_kind}
 use Rattle.tangle_lexer.specs.Steps.{c_lexeme}
 use Rattle.tangle_lexer.proofs.lemmas.BlockLemmas.{no-run, plain-reads-on}
 use Rattle.tangle_lexer.proofs.lemmas.RunLemmas.{run-read, run-reads-on}
-use Rattle.tangle_lexer.proofs.lemmas.SimpleLemmas.{simple-again, simple-read, simple-occurrences_from, simple-special}
+use Rattle.tangle_lexer.proofs.lemmas.SimpleLemmas.{simple-adds, run-adds, simple-again, simple-read, simple-occurrences_from, simple-special}
 use Rattle.tangle_lexer.proofs.simple.run_or_simple.Goals as goal
 use Rattle.tangle_lexer.proofs.simple.run_or_simple.Goals.{then-begins_run+in_default, else-begins_run}
 
@@ -16,12 +16,19 @@ pub returns-in-Some-clause-read : goal.returns-in-Some-clause-read
 returns-in-Some-clause-read c = λ lines ours.
     let text = c.args.reader.now in
     let state = with_line c.args.line.now c.args.from in
-    let begins : begins_run state.mode state.line.include c.args.simple (byte_at 0 text) ≡ true = search rules in
+    let tokens = c.args.tokens.now.items in
+    let begins : begins_run tokens state.mode state.line.include c.args.simple (byte_at 0 text) ≡ true = search rules in
     let run = run_at-is text c.in-Some.run' (sym c.take_run.ensures.span ∙ c.in-Some.is) in
     rw (c.set.ensures, c.elsewhere.ensures, c.with_line-state.ensures)
     (run-reads-on lines _ _ state text _ c.in-Some.run'
     c.in_ok-push.ensures.items run.span c.take_run.ensures.ahead ours
-    (run-read lines state text c.args.simple c.requires.simple begins run.some ours))
+    (run-read lines tokens state text c.args.simple c.requires.simple c.requires.mode begins run.some ours))
+
+pub returns-in-Some-clause-adds : goal.returns-in-Some-clause-adds
+returns-in-Some-clause-adds c =
+    let some = c.in_ok-push.ensures.items in
+    rw some (run-adds c.args.from.mode c.args.tokens.now.items (with_line c.args.line.now c.args.from) c.args.simple
+    (byte_at 0 c.args.reader.now) c.in-Some.run' (search rules))
 
 -- where no run was read, the reader is where it was
 same-place : (c : goal.After-set-2) → c.if-begins_run.reader ≡ c.args.reader.now
@@ -46,6 +53,10 @@ returns-clause-read c = λ lines ours.
     let again = simple-again _ _ c.args.line.now c.args.from _ _ text _ c.args.simple c.with_line-state.ensures here in
     let read = simple-read state text c.args.simple c.requires.simple c.requires.mode _ _ _ _ again in
     rw c.set-2.ensures (search (rules, plain-reads-on, no-run, simple-special, simple-occurrences_from))
+
+pub returns-clause-adds : goal.returns-clause-adds
+returns-clause-adds c =
+    simple-adds c.args.from.mode _ _ c.with_line-state.result c.if-begins_run.reader c.args.simple c.in_ok-after.ensures.tokens
 
 pub returns-clause-shorter : goal.returns-clause-shorter
 returns-clause-shorter c =

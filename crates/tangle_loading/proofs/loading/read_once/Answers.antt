@@ -23,21 +23,19 @@ returns-in-Ok g c =
     let said = c.in-Ok.ensures in
     rw c.in_ok-insert.ensures (step_answered _ _ _ _ _ _ (sym c.contains.ensures ∙ c.if-contains.false) _
     (is_found _ _ c.in-Ok.bytes said.answer)
-    (folder_is _ _ _ _ _ _ said.files_stay said.created_stay said.asks said.fails said.counted) _ c.add_file.ensures)
+    (folder_is said.files_stay said.created_stay said.asks said.fails said.counted) _ c.add_file.ensures)
 
 pub returns-in-Err-Missing : goal.returns-in-Err-Missing
 returns-in-Err-Missing g c =
     let said = rw c.in-Err-Missing.field-0-is at c.in-Err-Missing.ensures in
-    rw (c.in_ok-insert.ensures, c.if-not-needed.true) (step_answered _ _ _ _ _ _
-    (sym c.contains.ensures ∙ c.if-contains.false) None (is_absent _ _ said.answer)
-    (folder_is _ _ _ _ _ _ said.files_stay said.created_stay said.asks said.fails said.counted) _ (inl refl))
+    rw (c.in_ok-insert.ensures, c.if-not-needed.true) (step_answered _ _ _ _ _ _ (sym c.contains.ensures ∙ c.if-contains.false) None (is_absent _ _ said.answer)
+    (folder_is said.files_stay said.created_stay said.asks said.fails said.counted) _ (inl refl))
 
 pub returns-in-Err-Missing-2 : goal.returns-in-Err-Missing-2
 returns-in-Err-Missing-2 g c =
     let said = rw c.in-Err-Missing.field-0-is at c.in-Err-Missing.ensures in
-    rw (c.in_ok-insert.ensures, c.if-not-needed.false) (step_answered _ _ _ _ _ _
-    (sym c.contains.ensures ∙ c.if-contains.false) None (is_absent _ _ said.answer)
-    (folder_is _ _ _ _ _ _ said.files_stay said.created_stay said.asks said.fails said.counted) _
+    rw (c.in_ok-insert.ensures, c.if-not-needed.false) (step_answered _ _ _ _ _ _ (sym c.contains.ensures ∙ c.if-contains.false) None (is_absent _ _ said.answer)
+    (folder_is said.files_stay said.created_stay said.asks said.fails said.counted) _
     c.cannot_read.ensures)
 
 pub returns-in-Err-TooBig : goal.returns-in-Err-TooBig

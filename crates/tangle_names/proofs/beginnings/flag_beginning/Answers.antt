@@ -4,7 +4,7 @@ use Rattle.tangle_names.specs.declared.Resolved.TheVariants.{Name}
 use Rattle.tangle_names.specs.Names.{NameText, One}
 use Rattle.tangle_names.specs.Resolving.{resolved_meaning}
 use Rattle.tangle_names.proofs.NumberLemmas.{flags-kept, flags-made}
-use Rattle.tangle_names.proofs.SortedLemmas.{at_text, begins_another-read, begins_none-read}
+use Rattle.tangle_names.proofs.SortedLemmas.{at_text, begins_another-read, begins-none, size}
 use Rattle.tangle_names.proofs.beginnings.flag_beginning.Goals as goal
 
 pub returns-then-begins_at : goal.returns-then-begins_at
@@ -17,4 +17,4 @@ returns-then-begins_at c =
     (sym (at_text c.args.sorted.now c.args.position _ c.requires.inside)))
 
 pub returns-else-begins_at : goal.returns-else-begins_at
-returns-else-begins_at c = flags-kept _ _ _ (search (rules, begins_none-read))
+returns-else-begins_at c = flags-kept _ _ _ (search (rules, size, begins-none, at_text))

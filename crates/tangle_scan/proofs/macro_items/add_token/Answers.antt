@@ -1,11 +1,17 @@
-use Rattle.std.proofs.Common.{arith}
 use Rattle.std.proofs.lemmas.Bool.Decides.{nat_tests}
-use Rattle.std.proofs.Common.{append_assoc}
-use Rattle.tangle_scan.proofs.lemmas.MacroItemLemmas.{ahead-item, ahead-backslash}
+use Rattle.std.proofs.Common.{arith, append_assoc, sym, ◌∙◌}
+use Rattle.tangle_scan.specs.Rules.{texts_of}
+use Rattle.tangle_scan.specs.Passes.{plain_state}
+use Rattle.tangle_scan.proofs.lemmas.MacroItemLemmas.{ahead-backslash}
+use Rattle.tangle_scan.proofs.lemmas.MacroRunLemmas.{ahead-token}
 use Rattle.tangle_scan.proofs.macro_items.add_token.Goals as goal
 
 pub returns-then-is_dropped-clause-items : goal.returns-then-is_dropped-clause-items
 returns-then-is_dropped-clause-items c = grind (arith, nat_tests, ahead-backslash)
 
 pub returns-clause-items : goal.returns-clause-items
-returns-clause-items c = grind (arith, nat_tests, append_assoc, ahead-item)
+returns-clause-items c = λ rest gap.
+    let texts = texts_of c.args.source.now.lines in
+    let ahead = ahead-token texts (plain_state texts c.args.at) c.args.token c.args.gap rest c.requires.solid c.requires.run
+    c.requires.alone gap (sym c.is_dropped.ensures ∙ c.if-is_dropped.false) in
+    rw (c.in_ok-push_item.ensures.items, c.is_in_name.ensures, ahead) (grind (arith, append_assoc))

@@ -45,6 +45,4 @@ returns-in-Err-answer_chunk g c =
 
 pub loop-count-preserved : goal.loop-count-preserved
 loop-count-preserved g c =
-    midway_more c.loop-count.invariant _ _ _ _ c.in_default.ensures.bytes c.in-Some.ensures.read
-    _ c.in-Some.ensures.failed (omega (arith, c.in-Some.ensures.within)) _ _
-    c.in_default-answer_chunk.ensures.answered c.in_default-answer_chunk.ensures.pending
+    search (rules, midway_more)

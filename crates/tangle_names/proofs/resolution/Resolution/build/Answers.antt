@@ -2,10 +2,12 @@ use Rattle.std.proofs.lemmas.Bool.Decides.{nat_tests}
 use Rattle.std.proofs.Common.{◌≡◌, ◌∙◌, ap, map, length, arith}
 use Rattle.std.proofs.lemmas.List.{length-map}
 use Rattle.tangle_names.specs.Resolving.{first_file_number, names_in_order, resolve}
-use Rattle.tangle_names.specs.Numbers.{is_unresolved, number_below, numbers_from}
+use Rattle.tangle_names.specs.Numbers.{number_below}
+use Rattle.std.proofs.lemmas.Simd.{map-map}
+use Rattle.tangle_names.specs.declared.first_numbers.Counted.TheVariants.{All, Files}
 use Rattle.tangle_names.specs.Sorted.{borrowed_names}
-use Rattle.tangle_names.proofs.KeptLemmas.{beginning_numbers_are}
-use Rattle.tangle_names.proofs.TableLemmas.{first_file_occurrences_are, first_occurrences_are}
+use Rattle.tangle_names.proofs.KeptLemmas.{begins_are}
+use Rattle.tangle_names.proofs.TableLemmas.{firsts_are}
 use Rattle.tangle_names.proofs.resolution.Resolution.build.Goals as goal
 
 pub returns : goal.returns
@@ -17,12 +19,14 @@ returns c =
     let long : length keys ≡ length (names_in_order os) = ap length named in
     let all : resolved ≡ map (resolve os) os = c.in_ok-resolved.ensures.resolved in
     let count : length resolved ≡ length os = ap length all ∙ length-map os (resolve os) in
-    let firsts = first_occurrences_are os c.in_ok-first_occurrences.first_occurrences.items
-    (omega (arith, c.in_ok-first_occurrences.ensures.size, c.len.ensures.len)) (grind (arith, nat_tests)) in
+    let firsts = firsts_are os All c.in_ok-first_occurrences.first_occurrences.items
+    (omega (arith, c.in_ok-first_occurrences.ensures.size, c.len-count.ensures.len)) (grind (arith, nat_tests)) in
+    let below = number_below (length os) in
     let files : map (number_below (length resolved)) c.in_ok-first_file_occurrences.first_file_occurrences.items
     ≡ map (first_file_number os) (names_in_order os) =
-    rw count (first_file_occurrences_are os c.in_ok-first_file_occurrences.first_file_occurrences.items
-    (omega (arith, c.in_ok-first_file_occurrences.ensures.size, c.len-2.ensures.len)) (grind (arith, nat_tests))) in
+    rw count (ap (map below) (firsts_are os Files c.in_ok-first_file_occurrences.first_file_occurrences.items
+    (omega (arith, c.in_ok-first_file_occurrences.ensures.size, c.len-count.ensures.len)) (grind (arith, nat_tests)))
+    ∙ map-map below _ (names_in_order os)) in
     record {
       table = λ i. record {
         names = named i;
@@ -31,12 +35,11 @@ returns c =
         first_file_occurrences = files i;
       };
       kept = record {
-        first_occurrences = c.in_ok-first_occurrences.ensures.size ∙ c.len.ensures.len;
-        first_file_occurrences = c.in_ok-first_file_occurrences.ensures.size ∙ c.len-2.ensures.len;
-        unresolved = c.in_ok-unresolved.ensures ∙ ap (numbers_from is_unresolved 0) c.deref-4.ensures.value;
-        beginning_numbers = rw (c.in_ok-beginning_numbers.ensures, c.deref-6.ensures.value, named)
-            (beginning_numbers_are os (borrowed_names c.deref-5.result.now) c.in_ok-flags.flags.items
-            (grind (arith, nat_tests)) (omega (arith, c.in_ok-flags.ensures.size))
-            (λ id h. rw (← named) (c.in_ok-flags.ensures.begins id (omega (arith, h)))));
+        first_occurrences = c.in_ok-first_occurrences.ensures.size ∙ c.len-count.ensures.len;
+        first_file_occurrences = c.in_ok-first_file_occurrences.ensures.size ∙ c.len-count.ensures.len;
+        begins = rw named
+            (begins_are os (borrowed_names c.deref-4.result.now) c.in_ok-begins.begins.items
+            (grind (arith, nat_tests)) (omega (arith, c.in_ok-begins.ensures.size))
+            (λ id h. rw (← named) (c.in_ok-begins.ensures.begins id (omega (arith, h)))));
       };
     }

@@ -5,7 +5,7 @@ use Rattle.tangle_lexer.specs.declared.tokens.Token.TheVariants as token
 use Rattle.tangle_scan.specs.Rules.{texts_of}
 use Rattle.tangle_scan.specs.WebBuilder.{IsGathered}
 use Rattle.tangle_scan.proofs.lemmas.GatheredLemmas.{section-stored, macro-stored}
-use Rattle.tangle_scan.proofs.lemmas.UnfoldedTokens.{unfolded-same}
+use Rattle.tangle_lexer.specs.Runs.{unfolded}
 use Rattle.tangle_scan.proofs.web_builder.WebBuilder.add_block.Goals as goal
 
 pub returns-in-Section-clause-builder : goal.returns-in-Section-clause-builder
@@ -16,10 +16,11 @@ returns-in-MacroStart-clause-builder c =
     let source = c.args.source.now in
     let tokens = c.args.tokens.now in
     let line = c.in-MacroStart.line in
+    let alone = c.requires.alone line c.in-MacroStart.is in
     on_ok_weaker c.add_macro.result (λ added before h.
-    rw (c.in-MacroStart.is, unfolded-same (texts_of source.lines) tokens (c.requires.no_run line c.in-MacroStart.is))
-    (subst (IsGathered source (before ++ token.MacroStart line ∷ tokens)) (sym added)
-    (macro-stored source c.args.self.now before tokens c.requires.no_head line h)))
+    rw c.in-MacroStart.is
+    (subst (IsGathered source (before ++ token.MacroStart line ∷ unfolded (texts_of source.lines) tokens)) (sym added)
+    (macro-stored source c.args.self.now before tokens c.requires.no_head line c.requires.runs alone h)))
     c.add_macro.ensures
 
 pub returns-in-UnnamedPart-clause-builder : goal.returns-in-UnnamedPart-clause-builder

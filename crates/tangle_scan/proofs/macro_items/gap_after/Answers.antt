@@ -1,0 +1,13 @@
+use Rattle.std.proofs.lemmas.Bool.Decides.{nat_tests}
+use Rattle.std.proofs.Common.{arith}
+use Rattle.tangle_scan.specs.Rules.{texts_of}
+use Rattle.tangle_scan.proofs.lemmas.MacroRunLemmas.{gap-unfolded}
+use Rattle.tangle_scan.proofs.macro_items.gap_after.Goals as goal
+
+pub returns-then-gap-clause-gap : goal.returns-then-gap-clause-gap
+returns-then-gap-clause-gap c =
+    let same = gap-unfolded (texts_of c.args.source.now.lines) c.args.rest.now c.requires.runs in grind (arith, nat_tests)
+
+pub returns-clause-gap : goal.returns-clause-gap
+returns-clause-gap c =
+    let same = gap-unfolded (texts_of c.args.source.now.lines) c.args.rest.now c.requires.runs in grind (arith, nat_tests)
