@@ -1,21 +1,28 @@
--- Lists that are made element by element.
+-- Lists that are made element by element, joined and cut.
 use Rattle.std.proofs.lemmas.Bool.Decides.{nat_tests}
-use Rattle.std.proofs.Common.{◌≡◌, ℕ, zero, suc, All, arith, get_or, List, [], ◌∷◌, map, refl}
+use Rattle.std.proofs.Common.{◌≡◌, ◌∙◌, ℕ, ◌+◌, ◌<◌, zero, suc, All, arith, get_or, List, [], ◌∷◌, ◌++◌, map, refl}
+use Rattle.std.proofs.Common.{append_assoc, ap, drop, length, sym, take}
 use Rattle.std.specs.Prelude.{flat_map}
-use Rattle.std.proofs.lemmas.Grind.{flat_map-append}
-use Rattle.std.proofs.lemmas.List.{map-append}
+use Rattle.std.proofs.lemmas.List.{drop_more, map-append}
+use Rattle.std.proofs.Math.Seq.{take-append_seam, drop-append_seam}
+
+-- for `grind`: lists that are joined
+pub ruleset joins = (arith, nat_tests, append_assoc)
+
+-- two lists that are joined, cut where they meet
+pub seams : {X : Type 0} (xs ys : List X)
+    → (take (length xs) (xs ++ ys) ≡ xs) × (drop (length xs) (xs ++ ys) ≡ ys)
+seams xs ys = (take-append_seam xs ys, drop-append_seam xs ys)
+
+pub drop_at : {X : Type 0} (xs : List X) (i : ℕ) (x : X)
+    → i < length xs → x ≡ get_or xs i x → drop i xs ≡ x ∷ drop (i + 1) xs
+drop_at xs i x h e = drop_more xs i x h ∙ ap (λ v. v ∷ drop (i + 1) xs) (sym e)
 
 -- what `f` gives for each element, mapped, is what `h` gives for each element that `g` makes of them
 pub each_mapped : {X Y A B : Type 0} (k : A → B) (f : X → List A) (h : Y → List B) (g : X → Y)
     → ((x : X) → map k (f x) ≡ h (g x)) → (xs : List X) → map k (flat_map f xs) ≡ flat_map h (map g xs)
 each_mapped k f h g same [] = refl
 each_mapped k f h g same (x ∷ xs) = grind (arith, nat_tests, map-append k, each_mapped k f h g same xs)
-
--- what `f` gives for each element of lists is what `h` gives for each list
-pub each_of_lists : {X Y A : Type 0} (f : Y → List A) (g : X → List Y) (h : X → List A)
-    → ((x : X) → flat_map f (g x) ≡ h x) → (xs : List X) → flat_map f (flat_map g xs) ≡ flat_map h xs
-each_of_lists f g h same [] = refl
-each_of_lists f g h same (x ∷ xs) = grind (arith, nat_tests, flat_map-append f, each_of_lists f g h same xs)
 
 -- what holds of each item of a list, and of the default, holds of whatever is read from the list
 pub all_or : {X : Type 0} (P : X → Type 0) (xs : List X) (d : X) → P d → All P xs → (i : ℕ) → P (get_or xs i d)

@@ -3,15 +3,15 @@ use Rattle.std.proofs.Common.{arith}
 use Rattle.std.proofs.Common.{rules}
 use Rattle.std.proofs.lemmas.Bool.Decides.{nat_tests}
 use Rattle.std.proofs.Common.{◌≡◌, ◌∙◌, ℕ, ◌+◌, zero, suc, List, [], ◌∷◌, ◌++◌, map, take, drop}
-use Rattle.std.proofs.Common.{length, refl, ap, append_assoc}
+use Rattle.std.proofs.Common.{length, refl, ap}
 use Rattle.std.specs.Prelude.{flat_map}
 use Rattle.std.proofs.lemmas.List.{map-append, take-append-drop, length-take-le}
-use Rattle.std.proofs.Math.Seq.{take-append_seam, drop-append_seam}
 use Rattle.tangle_text.specs.Runs.{part_more, parts_of}
 use Rattle.tangle_text.proofs.PartLemmas.{part-fits}
 use Rattle.tangle_bodies.specs.Shapes.{Title, Kind, ShapeItem, Written, Shape}
 use Rattle.tangle_bodies.specs.Flat.{Symbol, Byte, items_flat, marks_after_shape_item}
 use Rattle.tangle_bodies.specs.Flat.{pieces_flat}
+use Rattle.tangle_bodies.proofs.EachLemmas.{joins, seams}
 use Rattle.tangle_bodies.specs.Meaning.{next_piece, next_mark, with_used, tags_flat, body_flat}
 use Rattle.tangle_bodies.specs.Flat.{own_symbols}
 use Rattle.tangle_bodies.specs.NodeBodies.{HoldsShape, body_title, body_uses, names_at}
@@ -35,18 +35,12 @@ module _ (node : Title) where
   parts_flat piece marks line column (suc k) (b ∷ bs) more tags used =
       parts_flat piece marks line (column + 1) k bs more tags used
   parts_flat piece marks line column zero (b ∷ bs) more tags used =
-      grind (
-        arith,
-        nat_tests,
-        append_assoc,
-        map-append {A = ℕ} {B = Symbol},
-        take-append-drop (part_more b bs) bs,
-        take-append_seam (b ∷ take (part_more b bs) bs),
-        drop-append_seam (b ∷ take (part_more b bs) bs),
-        part_size line column b bs,
-        length-take-le (part_more b bs) bs (part-fits b bs),
-        parts_flat piece marks line (column + 1) (part_more b bs) bs more tags used,
-      )
+      let k = part_more b bs in
+      let part = b ∷ take k bs in
+      let fits = length-take-le k bs (part-fits b bs) in
+      let sizes = part_size line column b bs in
+      let rest = parts_flat piece marks line (column + 1) k bs more tags used in
+      grind (joins, map-append {A = ℕ} {B = Symbol}, take-append-drop k bs, seams part, fits, sizes, rest)
 
   -- the symbols are those of the unfolded tags
 
@@ -83,30 +77,18 @@ module _ (node : Title) where
         ++ tags_flat node (piece + 1) 0 bytes tags (map symbols names)
     items_shaped piece marks [] bytes tags names = refl
     items_shaped piece marks (Written k written ∷ items) bytes tags names =
-        grind (
-          arith,
-          nat_tests,
-          append_assoc,
-          written_flat piece marks k written,
-          take-append_seam written,
-          drop-append_seam written,
-          items_shaped piece marks items bytes tags names,
-        )
+        let rest = items_shaped piece marks items bytes tags names in
+        grind (joins, written_flat piece marks k written, seams written, rest)
     items_shaped piece marks (x ∷ items) bytes tags names =
-        grind (arith, nat_tests, append_assoc, items_shaped piece (marks_after_shape_item marks x) items bytes tags names)
+        grind (joins, items_shaped piece (marks_after_shape_item marks x) items bytes tags names)
 
     pub shape_flat : (piece marks : ℕ) (shape : Shape)
         → tags_flat node piece marks (shape_bytes shape) (shape_tags shape) (map symbols (shape_names shape))
         ≡ pieces_flat symbols node piece shape
     shape_flat piece marks [] = refl
     shape_flat piece marks (items ∷ pieces) =
-        grind (
-          arith,
-          nat_tests,
-          append_assoc,
-          items_shaped piece 0 items (shape_bytes pieces) (shape_tags pieces) (shape_names pieces),
-          shape_flat (piece + 1) 0 pieces,
-        )
+        let first = items_shaped piece 0 items (shape_bytes pieces) (shape_tags pieces) (shape_names pieces) in
+        grind (joins, first, shape_flat (piece + 1) 0 pieces)
 
 -- the symbols of a body, where each name that it uses has the symbols that it has in the shape
 pub held_flat : (names : List (List ℕ)) (shape : Shape) (body : NodeBody)

@@ -1,7 +1,4 @@
 pub mod InsideLemmas
-pub mod ShapeLemmas
-pub mod SameNames
-pub mod DropLemmas
 pub mod EachLemmas
 pub mod ResolvedLemmas
 pub mod AddingPieces

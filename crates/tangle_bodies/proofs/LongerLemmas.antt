@@ -20,13 +20,11 @@ module _ (weight : Option (List Symbol) → ℕ)
   kind_is_longer : (k : ItemKind) (node : Title) (piece marks : ℕ) (used : List (Option (List Symbol)))
       (rest : List (List Symbol) → List Symbol)
       → ((used : List (Option (List Symbol))) → most weight used ≤ length (rest (shared_symbols used)))
-      → most weight used
-      ≤ length (with_used k (own_symbols node piece marks k) (shared_symbols used) rest)
+      → most weight used ≤ length (with_used k (own_symbols node piece marks k) (shared_symbols used) rest)
   kind_is_longer tag.Use node piece marks [] rest longer = omega arith
   kind_is_longer tag.Use node piece marks (o ∷ used) rest longer =
       omega (arith, within o, longer used, length-append {A = Symbol})
-  kind_is_longer k node piece marks used rest longer =
-      omega (arith, longer used, length-append {A = Symbol})
+  kind_is_longer k node piece marks used rest longer = omega (arith, longer used, length-append {A = Symbol})
 
   pub tags_are_longer : (node : Title) (piece marks : ℕ) (bytes : List ℕ) (tags : List ItemTag)
       (used : List (Option (List Symbol)))

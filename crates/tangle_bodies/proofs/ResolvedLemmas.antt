@@ -13,7 +13,7 @@ use Rattle.tangle_scan.specs.UnfoldedTags.{StandFor, part_tag, run_tags, tag_siz
 use Rattle.tangle_names.specs.NameTable.{TableRead}
 use Rattle.tangle_bodies.specs.ItemTags.{is_name, resolved_tags}
 use Rattle.tangle_bodies.specs.WebShapes.{resolved_at}
-use Rattle.tangle_bodies.proofs.DropLemmas.{drop_at}
+use Rattle.tangle_bodies.proofs.EachLemmas.{drop_at}
 
 module _ (table : TableRead) where
   parts-resolved : (ps : List RunPart) (ts : List ItemTag) (ns : List ℕ)
@@ -44,8 +44,7 @@ module _ (table : TableRead) where
   sizes-resolved (t ∷ tags) ns = grind (arith, nat_tests, sizes-resolved tags)
 
   pub stand-resolved : (tags : List ItemTag) (bytes : List ℕ) (unfolded : List ItemTag) (ns : List ℕ)
-      → StandFor tags bytes unfolded
-      → StandFor (resolved_tags table tags ns) bytes (resolved_tags table unfolded ns)
+      → StandFor tags bytes unfolded → StandFor (resolved_tags table tags ns) bytes (resolved_tags table unfolded ns)
   stand-resolved tags bytes unfolded ns h = record {
     are = unfolded-resolved tags bytes ns ∙ ap (λ ts. resolved_tags table ts ns) h.are;
     sizes = sizes-resolved tags ns ∙ h.sizes;

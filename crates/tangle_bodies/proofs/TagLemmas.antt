@@ -1,12 +1,12 @@
 -- Tags, bytes and names determine a shape.
-use Rattle.std.proofs.Common.{arith}
 use Rattle.std.proofs.Common.{rules}
-use Rattle.std.proofs.lemmas.Bool.Decides.{nat_tests}
-use Rattle.std.proofs.Common.{◌≡◌, ◌∙◌, ℕ, List, [], ◌∷◌, ◌++◌, map, take, drop, get_or, length, refl, ap, sym, append_assoc}
+use Rattle.std.proofs.Common.{◌≡◌, ◌↔◌, ◌∙◌, ℕ, List, [], ◌∷◌, ◌++◌, map, take, drop, get_or, length, refl, ap, sym}
 use Rattle.std.specs.Prelude.{flat_map}
-use Rattle.std.proofs.Math.Seq.{take-append_seam, drop-append_seam}
 use Rattle.tangle_bodies.specs.Shapes.{Kind, ShapeItem, Written, Mark, AllMacros, Use, NoUse, Shape}
 use Rattle.tangle_bodies.specs.Shapes as kind
+use Rattle.tangle_bodies.proofs.EachLemmas.{joins, seams}
+use Rattle.tangle_bodies.specs.NodeBodies.{HoldsShape, HaveOneShape, body_items}
+use Rattle.tangle_bodies.specs.declared.nodes.NodeBody.{NodeBody}
 use Rattle.tangle_bodies.specs.Tags.{written_kind, item_tag, piece_end, item_bytes, shape_tags, shape_bytes}
 use Rattle.tangle_bodies.specs.Shapes.{item_names}
 use Rattle.tangle_bodies.specs.Shapes.{shape_names}
@@ -54,17 +54,22 @@ piece_from_tags : (items : List ShapeItem) (tags : List ItemTag) (bytes : List �
 unfolding shape_from_tags item_from_tag onto
 piece_from_tags [] tags bytes names = refl
 piece_from_tags (Written k written ∷ items) tags bytes names =
-    grind (arith, nat_tests, append_assoc, written_from_tag k (length written), take-append_seam written, drop-append_seam written, piece_from_tags items tags bytes names)
+    grind (joins, written_from_tag k (length written), seams written, piece_from_tags items tags bytes names)
 piece_from_tags (x ∷ items) tags bytes names = ap (onto x) (piece_from_tags items tags bytes names)
 
 shape_from_its_tags : (shape : Shape)
     → shape_from_tags (shape_tags shape) (shape_bytes shape) (shape_names shape) ≡ shape
 unfolding shape_from_tags item_from_tag
 shape_from_its_tags [] = refl
-shape_from_its_tags (items ∷ pieces) =
-    grind (arith, nat_tests, append_assoc, piece_from_tags items, shape_from_its_tags pieces)
+shape_from_its_tags (items ∷ pieces) = grind (joins, piece_from_tags items, shape_from_its_tags pieces)
 
 pub same_by_tags : (s t : Shape)
     → shape_tags s ≡ shape_tags t → shape_bytes s ≡ shape_bytes t → shape_names s ≡ shape_names t → s ≡ t
 same_by_tags s t tags bytes names =
     sym (shape_from_its_tags s) ∙ (λ i. shape_from_tags (tags i) (bytes i) (names i)) ∙ shape_from_its_tags t
+
+-- the bodies of two nodes determine whether their shapes are equal
+pub bodies_decide : (names other_names : List (List ℕ)) (body other : NodeBody) (shape other_shape : Shape)
+    → HoldsShape names shape body → HoldsShape other_names other_shape other
+    → (HaveOneShape names other_names (body_items body) (body_items other) ↔ (shape ≡ other_shape))
+bodies_decide names other_names body other shape other_shape h k = search (rules, same_by_tags)

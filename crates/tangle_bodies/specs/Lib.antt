@@ -3,7 +3,6 @@ pub mod Flat
 pub mod WebShapes
 pub mod Meaning
 pub mod Nodes
-pub mod MakingBodies
 pub mod Tags
 pub mod ItemTags
 pub mod NodeBodies

@@ -1,11 +1,12 @@
--- The body of a node, as contracts mention it.
-use Rattle.std.specs.Prelude.{◌≡◌, ℕ, List, [], map, slice_index_or}
+-- The body of a node, as contracts mention it, and its items while they are made.
+use Rattle.std.specs.Prelude.{◌≡◌, ℕ, List, [], ◌∷◌, ◌++◌, map, slice_index_or}
+use Rattle.tangle_scan.specs.Texts.{TextRead}
 use Rattle.tangle_scan.specs.Web.{PieceRead}
 use Rattle.tangle_names.specs.NameTable.{TableRead}
 use Rattle.tangle_bodies.specs.Shapes.{Title, Shape}
-use Rattle.tangle_bodies.specs.Tags.{shape_tags, shape_bytes}
+use Rattle.tangle_bodies.specs.Tags.{piece_end, piece_start, shape_tags, shape_bytes}
 use Rattle.tangle_bodies.specs.Shapes.{shape_names}
-use Rattle.tangle_bodies.specs.ItemTags.{pieces_uses}
+use Rattle.tangle_bodies.specs.ItemTags.{names_of, pieces_uses, resolved_tags}
 use Rattle.tangle_bodies.specs.WebShapes.{shape_of}
 use Rattle.tangle_bodies.specs.Meaning.{title_of}
 use Rattle.tangle_scan.specs.declared.texts.ItemTag.{ItemTag}
@@ -22,16 +23,19 @@ abbrev pub body_items : NodeBody → ItemsRead
 body_items body =
     record { tags = body.tags.items; bytes = body.bytes.items; uses = body.uses.items }
 
+abbrev pub nothing_made : ItemsRead
+nothing_made = record { tags = []; bytes = []; uses = [] }
+
+-- the items with one more piece, which has this text
+abbrev pub with_piece : TableRead → ItemsRead → TextRead → ItemsRead
+with_piece table old text = record old {
+  tags = old.tags ++ (piece_start ∷ resolved_tags table text.tags text.uses ++ piece_end ∷ []);
+  bytes = old.bytes ++ text.bytes;
+  uses = old.uses ++ names_of table text.uses;
+}
+
 abbrev pub body_title : NodeBody → Title
 body_title body = title_of body.name
-
--- the tags of all items
-abbrev pub body_tags : NodeBody → List ItemTag
-body_tags body = unfolded_tags body.tags.items body.bytes.items
-
--- the bytes of all items
-abbrev pub body_bytes : NodeBody → List ℕ
-body_bytes body = body.bytes.items
 
 -- the numbers of the names that the items use: one for each use that resolves to a name
 abbrev pub body_uses : NodeBody → List ℕ
@@ -43,8 +47,8 @@ names_at names numbers = map (λ id. slice_index_or names id []) numbers
 
 -- the body determines this shape, where the table has these names
 pub record HoldsShape (names : List (List ℕ)) (shape : Shape) (body : NodeBody) : Type 0 where
-  pub tags : body_tags body ≡ shape_tags shape
-  pub bytes : body_bytes body ≡ shape_bytes shape
+  pub tags : unfolded_tags body.tags.items body.bytes.items ≡ shape_tags shape
+  pub bytes : body.bytes.items ≡ shape_bytes shape
   pub names_used : names_at names (body_uses body) ≡ shape_names shape
 
 -- these are the items of these pieces

@@ -10,9 +10,8 @@ pub data Title : Type 0 where
 
 abbrev pub title_eq : Title → Title → Bool
 title_eq Program Program = true
-title_eq Program (Named name) = false
-title_eq (Named name) Program = false
 title_eq (Named name) (Named other) = bytes_eq name other
+title_eq _ _ = false
 
 -- the kind of an item whose bytes are written unchanged
 pub data Kind : Type 0 where

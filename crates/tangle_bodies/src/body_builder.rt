@@ -5,10 +5,9 @@ ghost use Rattle.std.specs.List.{All, list_all};
 ghost use Rattle.tangle_scan.specs.Texts.{text_of};
 ghost use Rattle.tangle_scan.specs.declared.texts.ItemTag.{ItemTag as TagRead};
 ghost use Rattle.tangle_bodies.specs.ItemTags.{is_name, names_of, resolved_tags};
-ghost use Rattle.tangle_bodies.specs.MakingBodies.{nothing_made, with_piece};
 ghost use Rattle.tangle_bodies.specs.Meaning.{title_of};
-ghost use Rattle.tangle_bodies.specs.NodeBodies.{AreItemsOf, HaveOneShape, body_items};
-ghost use Rattle.tangle_bodies.specs.NodeBodies.{body_title, body_uses};
+ghost use Rattle.tangle_bodies.specs.NodeBodies.{AreItemsOf, HaveOneShape, body_items, body_title};
+ghost use Rattle.tangle_bodies.specs.NodeBodies.{body_uses, nothing_made, with_piece};
 ghost use Rattle.tangle_bodies.specs.Nodes.{pieces_at};
 ghost use Rattle.tangle_bodies.specs.WebShapes.{resolved_at};
 
@@ -28,12 +27,11 @@ pub struct BodyBuilder {
 }
 
 impl Model for BodyBuilder {
-    ghost use Rattle.tangle_bodies.specs.MakingBodies.{items_made};
-    ghost use Rattle.tangle_bodies.specs.NodeBodies.{ItemsRead};
+    ghost use Rattle.tangle_bodies.specs.NodeBodies.{ItemsRead, body_items};
 
     ghost Value = { ItemsRead };
 
-    ghost view = { items_made };
+    ghost view = { λ b. body_items b.made };
 }
 
 impl BodyBuilder {
@@ -146,29 +144,6 @@ impl BodyBuilder {
         Ok(all)
     }
 
-    /// Adds the tags of a piece in which these occurrences are used. `all_resolve` says whether each
-    /// resolves to a name.
-    fn add_tags(
-        &mut self,
-        table: &NameTable,
-        tags: &[ItemTag],
-        uses: &[OccurrenceNumber],
-        all_resolve: bool,
-    ) -> Result<(), NoMemory>
-        requires uses { All (λ n. n < length table.now.resolved) uses.now }
-        requires all { all_resolve ≡ list_all (λ n. is_name (resolved_at table.now n)) uses.now }
-        ensures { OnOk result (self.new ≡ record self.old {
-          tags = self.old.tags ++ resolved_tags table.now tags.now uses.now;
-        }) }
-    {
-        let first = self.made.tags.len();
-        self.made.tags.extend_from_slice(tags)?;
-        if !all_resolve {
-            mark_unresolved(&mut self.made.tags, first, table, uses);
-        }
-        Ok(())
-    }
-
     /// Adds a piece.
     fn add_piece(&mut self, table: &NameTable, text: PieceText) -> Result<(), NoMemory>
         requires { All (λ n. n < length table.now.resolved) (text_of text).uses }
@@ -176,7 +151,9 @@ impl BodyBuilder {
     {
         let all_resolve = self.add_uses(table, text.uses)?;
         self.add_border(ItemKind::PieceStart)?;
-        self.add_tags(table, text.tags, text.uses, all_resolve)?;
+        let first = self.made.tags.len();
+        self.made.tags.extend_from_slice(text.tags)?;
+        mark_unresolved(&mut self.made.tags, first, table, text.uses, all_resolve);
         self.made.bytes.extend_from_slice(text.bytes)?;
         self.add_border(ItemKind::PieceEnd)
     }
@@ -207,17 +184,23 @@ fn resolved_tag<'u>(
 }
 
 /// Marks the uses among the tags from this one on whose occurrences resolve to no name.
+/// `all_resolve` says whether each resolves to one.
 fn mark_unresolved(
     tags: &mut Vec<ItemTag>,
     first: usize,
     table: &NameTable,
     uses: &[OccurrenceNumber],
+    all_resolve: bool,
 )
     requires first { first ≤ length tags.old.items }
     requires uses { All (λ n. n < length table.now.resolved) uses.now }
+    requires all { all_resolve ≡ list_all (λ n. is_name (resolved_at table.now n)) uses.now }
     ensures { tags.new.items ≡ take first tags.old.items
         ++ resolved_tags table.now (drop first tags.old.items) uses.now }
 {
+    if all_resolve {
+        return;
+    }
     let mut left = uses;
     for i in first..tags.len() {
         let (tag, rest) = resolved_tag(table, tags[i], left);

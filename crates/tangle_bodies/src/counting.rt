@@ -15,11 +15,8 @@ pub fn symbols_of_kind(kind: ItemKind) -> usize
 {
     match kind {
         ItemKind::PieceStart => 2,
-        ItemKind::Mark
-        | ItemKind::AllMacros
-        | ItemKind::Use
-        | ItemKind::NoUse
-        | ItemKind::PieceEnd => 1,
+        ItemKind::Mark | ItemKind::AllMacros | ItemKind::PieceEnd => 1,
+        ItemKind::Use | ItemKind::NoUse => 1,
         _ => 0,
     }
 }

@@ -1,8 +1,8 @@
 //! Compares shapes.
 ghost use Rattle.std.specs.Prelude.{◌≡◌, ◌<◌, ◌↔◌, true, false, length};
 ghost use Rattle.std.specs.List.{All};
-ghost use Rattle.tangle_bodies.specs.NodeBodies.{HaveOneShape, body_tags, body_bytes, body_items};
-ghost use Rattle.tangle_bodies.specs.NodeBodies.{body_uses, names_at};
+ghost use Rattle.tangle_scan.specs.UnfoldedTags.{unfolded_tags};
+ghost use Rattle.tangle_bodies.specs.NodeBodies.{HaveOneShape, body_items, body_uses, names_at};
 
 use crate::nodes::NodeBody;
 use tangle_names::Names;
@@ -29,8 +29,9 @@ fn use_same_names(names: &Names, uses: &[usize], other_names: &Names, other_uses
 
 /// Whether the items of two bodies have the same kinds and the same bytes.
 pub(crate) fn same_items(body: &NodeBody, other: &NodeBody) -> bool
-    ensures { (result ≡ true) ↔ ((body_tags body.now ≡ body_tags other.now)
-        × (body_bytes body.now ≡ body_bytes other.now)) }
+    ensures { (result ≡ true) ↔ ((unfolded_tags body.now.tags.items body.now.bytes.items
+        ≡ unfolded_tags other.now.tags.items other.now.bytes.items)
+        × (body.now.bytes.items ≡ other.now.bytes.items)) }
 {
     body.bytes == other.bytes && have_same_items(&body.tags, &other.tags, &body.bytes)
 }

@@ -15,7 +15,7 @@ use Rattle.tangle_bodies.specs.declared.nodes.NodeBody.{NodeBody}
 use Rattle.tangle_scan.specs.declared.texts.ItemKind.{ItemKind}
 use Rattle.tangle_scan.specs.declared.texts.ItemKind.TheVariants as tag
 use Rattle.tangle_scan.specs.declared.texts.ItemTag.{ItemTag}
-use Rattle.tangle_bodies.proofs.DropLemmas.{drop_at}
+use Rattle.tangle_bodies.proofs.EachLemmas.{drop_at}
 use Rattle.tangle_expansion.specs.Numbers.{NumbersRead, expansion_bytes}
 use Rattle.tangle_expansion.specs.Writing.{bytes_between, IsAfterTag, symbols_from, bytes_from, from_use}
 use Rattle.tangle_expansion.specs.declared.cursor.Cursor.{Cursor}

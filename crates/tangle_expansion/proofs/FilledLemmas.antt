@@ -12,8 +12,7 @@ use Rattle.tangle_bodies.proofs.FlatLemmas.{held_flat}
 use Rattle.tangle_expansion.proofs.SameShapes.{flat_by_uses, map_same}
 
 pub body_expands : (names : List (List ℕ)) (shapes : Shapes) (levels : ℕ) (body : NodeBody) (symbols : ℕ → List Symbol)
-    → HoldsShape names (shapes (body_title body)) body
-    → depth levels shapes (body_title body) < levels
+    → HoldsShape names (shapes (body_title body)) body → depth levels shapes (body_title body) < levels
     → ((id : ℕ) → Contains (body_uses body) id → symbols id ≡ flat levels shapes (Named (slice_index_or names id [])))
     → body_flat body (map symbols (body_uses body)) ≡ flat levels shapes (body_title body)
 body_expands names shapes levels body symbols h shallow fit = search (rules, held_flat, map_same, map-map, flat_by_uses)

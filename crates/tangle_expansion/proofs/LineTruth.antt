@@ -110,8 +110,7 @@ module _ (web : WebRead) (lines : List SourceLine)
   items_are_located node piece marks read q line (item.Blank ∷ items) ss origins own =
       (tt, items_are_located node piece marks read q (line ++ item.Blank ∷ []) items ss origins own)
   items_are_located node piece marks read q line (item.LineMark origin ∷ items) ss origins own =
-      let next =
-      next_of no_origin (numbers_at numbers node piece).origins (marks + 1) origin (flat_map item_origins items) origins in
+      let next = next_of no_origin _ (marks + 1) origin (flat_map item_origins items) origins in
       each-choice (border_after texts line) read _ _
       (λ now h. (
         tt,
@@ -155,9 +154,8 @@ module _ (web : WebRead) (lines : List SourceLine)
   pieces_are_located node piece (p ∷ pieces) (e ∷ locations) origins own read q =
       elim (cases_Bool (is_piece_of (table_of web) node p)) [
         | inl of ↦
-            let next =
-            next_of no_numbers (node_numbers numbers node) piece (numbers_of_piece p) (map numbers_of_piece (of_node node pieces))
-            (rw of at origins) in
+            let more = map numbers_of_piece (of_node node pieces) in
+            let next = next_of no_numbers _ piece (numbers_of_piece p) more (rw of at origins) in
             let first : get_or (numbers_at numbers node piece).origins 0 no_origin ≡ p.origin =
             ap (λ n. get_or n.origins 0 no_origin) next.0 in
             rw of (

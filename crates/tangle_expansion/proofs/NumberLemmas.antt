@@ -30,8 +30,7 @@ module _ (table : TableRead) (name : List ℕ)
 
   no_pieces : ResolvesInside table → (pieces : List PieceRead) → filter (is_piece_of table (Named name)) pieces ≡ []
   no_pieces inside [] = refl
-  no_pieces inside (p ∷ pieces) =
-      cc (no_piece inside p.occurrence, no_pieces inside pieces)
+  no_pieces inside (p ∷ pieces) = cc (no_piece inside p.occurrence, no_pieces inside pieces)
 
 pub node_numbers_of : (web : WebRead) (table : TableRead) (marks : MarkMode) → ResolvesInside table → (node : Title)
     → node_numbers (numbers_of web table marks) node ≡ map numbers_of_piece (pieces_of web table node)

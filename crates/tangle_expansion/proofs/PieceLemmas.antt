@@ -1,8 +1,6 @@
 -- The bytes of a node are those of its pieces.
 use Rattle.std.proofs.Common.{rules}
-use Rattle.std.proofs.Common.{◌≡◌, ℕ, ◌+◌, List, [], ◌∷◌, ◌++◌, map, drop, refl, ap, append_assoc}
-use Rattle.std.proofs.Common.{append-nil, arith}
-use Rattle.std.proofs.lemmas.Bool.Decides.{nat_tests}
+use Rattle.std.proofs.Common.{◌≡◌, ℕ, ◌+◌, List, [], ◌∷◌, ◌++◌, map, drop, refl, ap, append-nil}
 use Rattle.std.proofs.lemmas.Grind.{flat_map-append}
 use Rattle.std.specs.Prelude.{flat_map, slice_index_or}
 use Rattle.tangle_files.specs.Bytes.{space, line_feed}
@@ -22,6 +20,7 @@ use Rattle.tangle_scan.specs.Texts.{item_origins}
 use Rattle.tangle_expansion.specs.Numbers.{no_origin, no_numbers, node_numbers, numbers_at, numbers_of_piece}
 use Rattle.tangle_expansion.specs.Numbers.{origin_of_mark}
 use Rattle.tangle_expansion.specs.PieceBytes.{bytes_after_mark, items_bytes, piece_bytes, resolved_bytes}
+use Rattle.tangle_bodies.proofs.EachLemmas.{joins}
 use Rattle.tangle_expansion.proofs.LineTruth.{next_of}
 use Rattle.tangle_expansion.proofs.WrittenLemmas.{bytes_then}
 
@@ -48,12 +47,11 @@ module _ (numbers : NumbersRead) where
         ≡ items_bytes numbers table used texts items ++ closing_bytes (numbers_at numbers node piece).section
     items_written piece marks [] origins = append-nil (closing_bytes (numbers_at numbers node piece).section)
     items_written piece marks (item.LineMark origin ∷ items) origins =
-        let next =
-        next_of no_origin (numbers_at numbers node piece).origins (marks + 1) origin (flat_map item_origins items) origins in
-        grind (arith, nat_tests, append_assoc, mark_then node piece (marks + 1) origin, next.0, items_written piece (marks + 1) items next.1)
+        let next = next_of no_origin _ (marks + 1) origin (flat_map item_origins items) origins in
+        grind (joins, mark_then node piece (marks + 1) origin, next.0, items_written piece (marks + 1) items next.1)
     items_written piece marks (x ∷ items) origins =
         let bytes = bytes_then numbers (bytes_in texts x) in
-        grind (arith, nat_tests, append_assoc, bytes, use_then piece marks, items_written piece marks items origins)
+        grind (joins, bytes, use_then piece marks, items_written piece marks items origins)
 
     -- the pieces of a node, from the one with this number on
     pub pieces_written : (piece : ℕ) (pieces : List PieceRead)
@@ -63,16 +61,8 @@ module _ (numbers : NumbersRead) where
         ≡ flat_map (piece_bytes numbers table used texts) pieces
     pieces_written piece [] are = refl
     pieces_written piece (p ∷ pieces) are =
-        let next =
-        next_of no_numbers (node_numbers numbers node) piece (numbers_of_piece p) (map numbers_of_piece pieces) are in
+        let next = next_of no_numbers _ piece (numbers_of_piece p) (map numbers_of_piece pieces) are in
         let marks : drop (0 + 1) (numbers_at numbers node piece).origins ≡ flat_map item_origins p.items =
         ap (λ n. drop 1 n.origins) next.0 in
-        grind (
-          arith,
-          nat_tests,
-          append_assoc,
-          next.0,
-          flat_map-append (symbol_bytes numbers),
-          items_written piece 0 p.items marks,
-          pieces_written (piece + 1) pieces next.1,
-        )
+        let rest = pieces_written (piece + 1) pieces next.1 in
+        grind (joins, next.0, flat_map-append (symbol_bytes numbers), items_written piece 0 p.items marks, rest)

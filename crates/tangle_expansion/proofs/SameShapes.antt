@@ -41,8 +41,7 @@ module _ (cap : ℕ) (f g : List ℕ → ℕ) where
       → (min (suc cap) (pieces_weight f pieces) ≡ min (suc cap) (pieces_weight g pieces))
       × (min (suc cap) (pieces_depth f pieces) ≡ min (suc cap) (pieces_depth g pieces))
   pieces_alike [] same = (refl, refl)
-  pieces_alike (items ∷ pieces) same =
-      grind (arith, nat_tests, names_alike (shape_names (items ∷ pieces)) same)
+  pieces_alike (items ∷ pieces) same = grind (arith, nat_tests, names_alike (shape_names (items ∷ pieces)) same)
 
 -- no depth exceeds the fuel
 

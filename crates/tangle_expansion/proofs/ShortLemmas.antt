@@ -79,15 +79,10 @@ unfolding longest_symbol heaviest
 light_fits numbers h symbols light =
     omega (arith, written-short numbers longest_symbol symbols (all_symbols numbers h symbols))
 
--- at most 2 ^ 66 bytes come before those of a node
-pub front_fits : (numbers : NumbersRead) → SymbolsAreShort numbers → (has_macros : Bool)
-    → length (front_bytes numbers has_macros) ≤ 2 ^ 66
-unfolding longest_symbol
-front_fits numbers h x = grind (arith, h AllMacros)
-
 -- a file whose node has a piece is short enough
 pub file_fits : (numbers : NumbersRead) → SymbolsAreShort numbers
     → (has_macros : Bool) (symbols : List Symbol) → length symbols ≤ heaviest
     → length ((front_bytes numbers has_macros ++ expansion_bytes numbers symbols) ++ 10 ∷ []) < 2 ^ 128
-file_fits numbers short has_macros symbols light =
-    omega (arith, front_fits numbers short has_macros, light_fits numbers short symbols light, length-append {A = ℕ})
+unfolding longest_symbol
+file_fits numbers short x symbols light =
+    grind (arith, short AllMacros, light_fits numbers short symbols light, length-append {A = ℕ})

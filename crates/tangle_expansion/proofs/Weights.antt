@@ -26,28 +26,22 @@ module _ (used : List ℕ → List Symbol) (node : Title) where
       + sum_by used_weight (flat_map item_names items)
   items_length piece marks [] = refl
   items_length piece marks (item ∷ items) =
-      omega (
-        arith,
-        item_length piece marks item,
-        items_length piece (marks_after_shape_item marks item) items,
-        length-append {A = Symbol},
-        length-append (item_bytes item) (flat_map item_bytes items),
-        sum_by-append used_weight (item_names item) (flat_map item_names items),
-      )
+      let first = item_length piece marks item in
+      let rest = items_length piece (marks_after_shape_item marks item) items in
+      let bytes = length-append (item_bytes item) (flat_map item_bytes items) in
+      let names = sum_by-append used_weight (item_names item) (flat_map item_names items) in
+      omega (arith, length-append {A = Symbol})
 
   pub pieces_length : (piece : ℕ) (pieces : Shape)
       → length (pieces_flat used node piece pieces) ≡ pieces_weight used_weight pieces
   pieces_length piece [] = refl
   pieces_length piece (items ∷ pieces) =
-      omega (
-        arith,
-        items_length piece 0 items,
-        pieces_length (piece + 1) pieces,
-        length-append (items_flat used node piece 0 items) (pieces_flat used node (piece + 1) pieces),
-        length-append (flat_map item_bytes items) (shape_bytes pieces),
-        own_counts-append (map item_tag items ++ piece_end ∷ []) (shape_tags pieces),
-        sum_by-append used_weight (flat_map item_names items) (shape_names pieces),
-      )
+      let first = items_length piece 0 items in
+      let rest = pieces_length (piece + 1) pieces in
+      let symbols = length-append (items_flat used node piece 0 items) (pieces_flat used node (piece + 1) pieces) in
+      let bytes = length-append (flat_map item_bytes items) (shape_bytes pieces) in
+      let counts = own_counts-append (map item_tag items ++ piece_end ∷ []) (shape_tags pieces) in
+      omega (arith, sum_by-append used_weight (flat_map item_names items) (shape_names pieces))
 
 pub weight-suc : (fuel : ℕ) (shapes : Shapes) (node : Title)
     → weight (suc fuel) shapes node ≡ pieces_weight (λ name. weight fuel shapes (Named name)) (shapes node)

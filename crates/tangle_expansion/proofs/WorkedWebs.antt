@@ -35,11 +35,10 @@ output lines node =
     (flat 1001 (shapes (web lines) (table_of (web lines))) node)
     ++ codes "\n"
 
-abbrev weight_in : List (List ℕ) → Title → ℕ
-weight_in lines node = weight 16777217 (shapes (web lines) (table_of (web lines))) node
-
-abbrev depth_in : List (List ℕ) → Title → ℕ
-depth_in lines node = depth 1001 (shapes (web lines) (table_of (web lines))) node
+-- the weight and the depth of a node
+abbrev limits_in : List (List ℕ) → Title → ℕ × ℕ
+limits_in lines node =
+    let of_web = shapes (web lines) (table_of (web lines)) in (weight 16777217 of_web node, depth 1001 of_web node)
 
 abbrev one_part : List (List ℕ)
 one_part = codes "@ A." ∷ codes "@c" ∷ codes "int x;" ∷ []
@@ -48,23 +47,17 @@ one_part = codes "@ A." ∷ codes "@c" ∷ codes "int x;" ∷ []
 abbrev one_use : List (List ℕ)
 one_use = codes "@ A." ∷ codes "@c" ∷ codes "int x=@<v@>;" ∷ codes "@ @<v@>=" ∷ codes "1" ∷ []
 
--- the macros inside the program
-abbrev macros_in_program : List (List ℕ)
-macros_in_program = codes "@ A." ∷ codes "@d N 10" ∷ codes "@c" ∷ codes "@h" ∷ codes "int x=N;" ∷ []
-
 -- a join over a line end
 abbrev joined : List (List ℕ)
 joined = codes "@ A." ∷ codes "@c" ∷ codes "a@&" ∷ codes "b;" ∷ codes "c;" ∷ []
 
--- An abbreviation that resolves to two names: its uses give no symbols of a name, and no other name is used.
-abbrev ambiguous : List (List ℕ)
-ambiguous =
-    codes "@ A." ∷ codes "@c" ∷ codes "@<Ini...@>" ∷ codes "@ @<Initialize@>="
-    ∷ codes "x=0;" ∷ codes "@ @<Init table@>=" ∷ []
-
 -- An abbreviation that comes before the one name to which it resolves.
 abbrev early : List (List ℕ)
 early = codes "@ A." ∷ codes "@c" ∷ codes "@<Ini...@>" ∷ codes "@ @<Initialize@>=" ∷ codes "x=0;" ∷ []
+
+-- An abbreviation that resolves to two names: its uses give no symbols of a name, and no other name is used.
+abbrev ambiguous : List (List ℕ)
+ambiguous = early ++ codes "@ @<Init table@>=" ∷ []
 
 -- Two names that use each other, or the second of which uses no name, and a named file.
 abbrev two_names : List ℕ → List (List ℕ)
@@ -75,28 +68,21 @@ two_names line =
 -- One more line at the top adds 1 to each line number, and one more section adds 1 to each section number too.
 outputs : (output one_part Program ≡ codes "/*1:*/\n#line 2 \"a.w\"\n\nint x;\n/*:1*/\n")
     × (output one_use Program
-    ≡ codes "/*1:*/\n#line 2 \"a.w\"\n\nint x= /*2:*/\n#line 4 \"a.w\"\n\n1\n/*:2*/\n"
-    ++ codes "#line 3 \"a.w\"\n;\n/*:1*/\n")
+    ≡ codes "/*1:*/\n#line 2 \"a.w\"\n\nint x= /*2:*/\n#line 4 \"a.w\"\n\n1\n/*:2*/\n#line 3 \"a.w\"\n;\n/*:1*/\n")
     × (output (codes "% top" ∷ one_use) Program
-    ≡ codes "/*1:*/\n#line 3 \"a.w\"\n\nint x= /*2:*/\n#line 5 \"a.w\"\n\n1\n/*:2*/\n"
-    ++ codes "#line 4 \"a.w\"\n;\n/*:1*/\n")
+    ≡ codes "/*1:*/\n#line 3 \"a.w\"\n\nint x= /*2:*/\n#line 5 \"a.w\"\n\n1\n/*:2*/\n#line 4 \"a.w\"\n;\n/*:1*/\n")
     × (output (codes "@ Z." ∷ one_use) Program
-    ≡ codes "/*2:*/\n#line 3 \"a.w\"\n\nint x= /*3:*/\n#line 5 \"a.w\"\n\n1\n/*:3*/\n"
-    ++ codes "#line 4 \"a.w\"\n;\n/*:2*/\n")
-    × (output macros_in_program Program
-    ≡ codes "/*1:*/\n#line 3 \"a.w\"\n\n\n#define N 10\n\n#line 4 \"a.w\"\n\nint x=N;\n"
-    ++ codes "/*:1*/\n")
+    ≡ codes "/*2:*/\n#line 3 \"a.w\"\n\nint x= /*3:*/\n#line 5 \"a.w\"\n\n1\n/*:3*/\n#line 4 \"a.w\"\n;\n/*:2*/\n")
+    × (output (codes "@ A." ∷ codes "@d N 10" ∷ codes "@c" ∷ codes "@h" ∷ codes "int x=N;" ∷ []) Program
+    ≡ codes "/*1:*/\n#line 3 \"a.w\"\n\n\n#define N 10\n\n#line 4 \"a.w\"\n\nint x=N;\n/*:1*/\n")
     × (output joined Program ≡ codes "/*1:*/\n#line 2 \"a.w\"\n\nab;\n#line 5 \"a.w\"\nc;\n/*:1*/\n")
     × (output ambiguous Program ≡ codes "/*1:*/\n#line 2 \"a.w\"\n\n \n#line 3 \"a.w\"\n\n/*:1*/\n")
     × (output early Program
-    ≡ codes "/*1:*/\n#line 2 \"a.w\"\n\n /*2:*/\n#line 4 \"a.w\"\n\nx=0;\n/*:2*/\n"
-    ++ codes "#line 3 \"a.w\"\n\n/*:1*/\n")
-    × (output (two_names (codes "@<A@>")) (Named (codes "h.h"))
-    ≡ codes "/*4:*/\n#line 8 \"a.w\"\n\nint h;\n/*:4*/\n")
+    ≡ codes "/*1:*/\n#line 2 \"a.w\"\n\n /*2:*/\n#line 4 \"a.w\"\n\nx=0;\n/*:2*/\n#line 3 \"a.w\"\n\n/*:1*/\n")
+    × (output (two_names (codes "@<A@>")) (Named (codes "h.h")) ≡ codes "/*4:*/\n#line 8 \"a.w\"\n\nint h;\n/*:4*/\n")
     × (output (two_names (codes "b;")) Program
-    ≡ codes "/*1:*/\n#line 2 \"a.w\"\n\n /*2:*/\n#line 4 \"a.w\"\n\n /*3:*/\n"
-    ++ codes "#line 6 \"a.w\"\n\nb;\n/*:3*/\n#line 5 \"a.w\"\n\n/*:2*/\n#line 3 \"a.w\"\n\n"
-    ++ codes "/*:1*/\n")
+    ≡ codes "/*1:*/\n#line 2 \"a.w\"\n\n /*2:*/\n#line 4 \"a.w\"\n\n /*3:*/\n#line 6 \"a.w\"\n\nb;\n"
+    ++ codes "/*:3*/\n#line 5 \"a.w\"\n\n/*:2*/\n#line 3 \"a.w\"\n\n/*:1*/\n")
 unfolding lexeme tokens_from occurrences_from digits
 outputs = (refl, refl, refl, refl, refl, refl, refl, refl, refl, refl)
 
@@ -116,15 +102,12 @@ doubling =
     codes "@ @<a@>=" ∷ codes "@<b@>@<b@>" ∷ codes "@ @<b@>=" ∷ codes "@<d@>@<d@>"
     ∷ codes "@ @<d@>=" ∷ codes "@<e@>@<e@>" ∷ codes "@ @<e@>=" ∷ codes "1" ∷ []
 
-limits : (weight_in one_part Program ≡ 11) × (depth_in one_part Program ≡ 1)
-    × (weight_in one_use Program ≡ 20) × (weight_in one_use (Named (codes "v")) ≡ 6)
-    × (depth_in one_use Program ≡ 2) × (depth_in one_use (Named (codes "v")) ≡ 1)
-    × (weight_in doubling (Named (codes "e")) ≡ 15 * 2 ^ 0 - 9)
-    × (weight_in doubling (Named (codes "d")) ≡ 15 * 2 ^ 1 - 9)
-    × (weight_in doubling (Named (codes "b")) ≡ 15 * 2 ^ 2 - 9)
-    × (weight_in doubling (Named (codes "a")) ≡ 15 * 2 ^ 3 - 9) × (depth_in doubling (Named (codes "a")) ≡ 4)
+limits : (limits_in one_part Program ≡ (11, 1))
+    × (limits_in one_use Program ≡ (20, 2)) × (limits_in one_use (Named (codes "v")) ≡ (6, 1))
+    × (map (λ name. limits_in doubling (Named (name ∷ []))) (codes "edba")
+    ≡ (15 * 2 ^ 0 - 9, 1) ∷ (15 * 2 ^ 1 - 9, 2) ∷ (15 * 2 ^ 2 - 9, 3) ∷ (15 * 2 ^ 3 - 9, 4) ∷ [])
 unfolding lexeme tokens_from occurrences_from
-limits = (refl, refl, refl, refl, refl, refl, refl, refl, refl, refl, refl)
+limits = (refl, refl, refl, refl)
 
 abbrev macros_of : List (List ℕ) → List ℕ
 macros_of lines = (numbers_of (web lines) (table_of (web lines)) Full).macros

@@ -15,5 +15,4 @@ pub written-short : (numbers : NumbersRead) (b : ℕ) (symbols : List Symbol)
     → AllByRecursion (λ p. length (symbol_bytes numbers p) ≤ b) symbols
     → length (expansion_bytes numbers symbols) ≤ length symbols * b
 written-short numbers b [] h = omega arith
-written-short numbers b (p ∷ symbols) h =
-    grind (arith, nat_tests, written-short numbers b symbols h.1, length-append)
+written-short numbers b (p ∷ symbols) h = grind (arith, nat_tests, written-short numbers b symbols h.1, length-append)

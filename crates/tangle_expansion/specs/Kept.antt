@@ -17,10 +17,6 @@ pub record PutsKept (old new : Kept) (node : Node) (symbols : List Symbol) : Typ
 abbrev pub SameKept : Kept → Kept → Type 0
 SameKept old new = (node : Node) → kept_at new node ≡ kept_at old node
 
--- the expansion that is kept for the name with this number, if there is one
-abbrev pub kept_for : Kept → ℕ → Option (List Symbol)
-kept_for kept id = kept_at kept (suc id)
-
 -- the symbols that are kept for the name with this number
 abbrev pub used_symbols : Kept → ℕ → List Symbol
-used_symbols kept id = unwrap_or (kept_for kept id) []
+used_symbols kept id = unwrap_or (kept_at kept (suc id)) []

@@ -20,8 +20,5 @@ within (Some symbols) = omega arith
 pub is_longer : (e : Inside) → deep-Expansion e ≤ length (expansion_symbols e)
 is_longer e =
     let body = e.shared.value.body.value in
-    omega (
-      arith,
-      tags_are_longer weight_of within (title_of body.name)
-          0 0 body.bytes.items body.tags.items e.shared.value.used.items,
-    )
+    let longer = tags_are_longer weight_of within (title_of body.name) 0 0 body.bytes.items body.tags.items in
+    omega (arith, longer e.shared.value.used.items)

@@ -1,6 +1,6 @@
 //! Makes the expansion of a node from those of the names that it uses.
-ghost use Rattle.std.specs.Prelude.{◌≡◌, ◌++◌, ◌∷◌, [], map, IfOk, OnOk, OnErr};
-ghost use Rattle.tangle_expansion.specs.Kept.{kept_for, used_symbols};
+ghost use Rattle.std.specs.Prelude.{◌≡◌, ◌++◌, ◌∷◌, [], map, suc, IfOk, OnOk, OnErr};
+ghost use Rattle.tangle_expansion.specs.Kept.{kept_at, used_symbols};
 ghost use Rattle.tangle_bodies.specs.Meaning.{body_flat};
 ghost use Rattle.tangle_bodies.specs.NodeBodies.{body_uses};
 
@@ -15,7 +15,7 @@ use tangle_lines::NoMemory;
 
 /// Shares the kept expansion of the name with this number, if there is one.
 fn share_kept(kept: &Kept, id: usize) -> Result<Option<Expansion>, NoMemory>
-    ensures { IfOk result (λ shared. shared ≡ kept_for kept.now id) }
+    ensures { IfOk result (λ shared. shared ≡ kept_at kept.now (suc id)) }
 {
     match kept.get(Node::name(id)) {
         Some(expansion) => Ok(Some(expansion.share()?)),

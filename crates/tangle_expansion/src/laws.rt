@@ -8,7 +8,7 @@ ghost use Rattle.tangle_scan.specs.LineTruth.{PiecesAreAtTheirLines};
 ghost use Rattle.tangle_names.specs.NameTable.{TableRead, table_of};
 ghost use Rattle.tangle_files.specs.declared.marks.MarkMode.{MarkMode};
 ghost use Rattle.tangle_files.specs.declared.marks.MarkMode.TheVariants.{Full};
-ghost use Rattle.digraph.specs.Reach.{Reaches, ContainsItself};
+ghost use Rattle.digraph.specs.Reach.{ReachesCycle};
 ghost use Rattle.tangle_bodies.specs.Shapes.{Title, Named, Shapes, Uses};
 ghost use Rattle.tangle_bodies.specs.Meaning.{body_flat};
 ghost use Rattle.tangle_bodies.specs.NodeBodies.{HoldsShape, body_title, body_uses};
@@ -20,7 +20,7 @@ ghost use Rattle.tangle_bodies.specs.WebShapes.{shapes, pieces_of, ResolvesInsid
 ghost use Rattle.tangle_expansion.specs.Numbers.{NumbersRead, numbers_of, symbol_bytes};
 ghost use Rattle.tangle_expansion.specs.Numbers.{expansion_bytes};
 ghost use Rattle.std.specs.List.{AllByRecursion};
-ghost use Rattle.tangle_expansion.specs.Limits.{flat_of, heaviest, IsExpandableNode};
+ghost use Rattle.tangle_expansion.specs.Limits.{flat_of, IsExpandableNode};
 ghost use Rattle.tangle_expansion.specs.PieceBytes.{piece_bytes, AreWrittenAsMeant};
 ghost use Rattle.tangle_expansion.specs.Location.{AreAtTheirOrigins, classes};
 
@@ -50,17 +50,11 @@ pub fn unaffected_nodes_stay()
 /// An expandable node reaches no name that contains itself. So a caller that expands only
 /// expandable nodes needs no search for cycles. With any fuel, the depth and the weight of a node
 /// that reaches such a name are at least the fuel: the limit of depth alone excludes the node.
-#[tactic(auto, using(crate::proofs::Unaffected::no_cycle, crate::proofs::SameShapes::cycle_deep_and_heavy))]
 pub fn expandable_nodes_reach_no_cycle()
-    ensures none { (levels limit : ℕ) (shapes : Shapes) (node other : Title)
-        → IsExpandable levels limit shapes node → Reaches (Uses shapes) node other
-        → ¬ (ContainsItself (Uses shapes) other) }
-    ensures depth { (fuel : ℕ) (shapes : Shapes) (node other : Title)
-        → Reaches (Uses shapes) node other → ContainsItself (Uses shapes) other
-        → fuel ≤ depth fuel shapes node }
-    ensures weight { (fuel : ℕ) (shapes : Shapes) (node other : Title)
-        → Reaches (Uses shapes) node other → ContainsItself (Uses shapes) other
-        → fuel ≤ weight fuel shapes node }
+    ensures none { (levels limit : ℕ) (shapes : Shapes) (node : Title)
+        → IsExpandable levels limit shapes node → ¬ (ReachesCycle (Uses shapes) node) }
+    ensures fuel { (fuel : ℕ) (shapes : Shapes) (node : Title) → ReachesCycle (Uses shapes) node
+        → (fuel ≤ depth fuel shapes node) × (fuel ≤ weight fuel shapes node) }
 {}
 
 /// The expansion of a node, its capped weight and its capped depth follow from those of the names

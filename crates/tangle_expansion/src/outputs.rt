@@ -8,9 +8,10 @@ ghost use Rattle.tangle_expansion.specs.Outputs.{kept_output_bytes};
 use crate::expansion::Expansion;
 use crate::kept::Kept;
 use crate::numbers::Numbers;
+use crate::writing::Written;
 use digraph::Node;
 use std::marker::Model;
-use tangle_lines::{Discarding, Sink, WriteFault, write_after};
+use tangle_lines::{Discarding, Sink, write_after};
 
 /// An output file of a web: the expansion of a node. Where the file is the main file and no C part
 /// has `@h`, all macros come before it.
@@ -31,8 +32,7 @@ impl Model for Output {
     ghost view = { λ o. record {
       name = o.name.items;
       node = o.node;
-      has_macros =
-          o.has_macros;
+      has_macros = o.has_macros;
       has_piece = o.has_piece;
     } };
 }
@@ -44,8 +44,7 @@ impl Output {
         ensures { result ≡ record {
           name = name.items;
           node = node;
-          has_macros =
-              has_macros;
+          has_macros = has_macros;
           has_piece = has_piece;
         } }
     {
@@ -106,12 +105,7 @@ fn kept_expansion(kept: &Kept, node: Node) -> &Expansion
 /// # Errors
 ///
 /// `WriteFault(n)` where the sink failed, or took no byte, after the first `n` bytes of the file.
-pub fn write_file<S: Sink>(
-    output: &Output,
-    kept: &Kept,
-    numbers: &Numbers,
-    sink: &mut S,
-) -> Result<u128, WriteFault>
+pub fn write_file<S: Sink>(output: &Output, kept: &Kept, numbers: &Numbers, sink: &mut S) -> Written
     requires { IsReady output.now kept.now }
     ensures { IsWritten (S.stream sink.old) (S.stream sink.new)
         (kept_output_bytes numbers.now kept.now output.now) result }

@@ -1,12 +1,12 @@
 //! Writing an expansion.
-ghost use Rattle.std.specs.Prelude.{◌≡◌, ◌+◌, ◌^◌, ◌<◌, ◌≤◌, ◌++◌, List, decimal, length};
+ghost use Rattle.std.specs.Prelude.{◌≡◌, ◌+◌, ◌^◌, ◌<◌, ◌≤◌, ◌++◌, ℕ, List, codes, decimal, length};
 ghost use Rattle.tangle_streams.specs.Streams.{IsWritten, IsWrittenAfter};
 ghost use Rattle.tangle_expansion.specs.Limits.{heaviest};
 ghost use Rattle.tangle_bodies.specs.Flat.{Symbol};
 ghost use Rattle.tangle_bodies.specs.Meaning.{title_of};
 ghost use Rattle.tangle_bodies.specs.Flat.{own_symbols};
 ghost use Rattle.tangle_expansion.specs.Numbers.{node_numbers};
-ghost use Rattle.tangle_expansion.specs.Numbers.{opening_bytes, mark_bytes_at, expansion_bytes};
+ghost use Rattle.tangle_expansion.specs.Numbers.{mark_bytes_at, expansion_bytes};
 ghost use Rattle.tangle_expansion.specs.SymbolLimits.{SymbolsAreShort};
 ghost use Rattle.tangle_expansion.specs.Writing.{Wrote, bytes_between, bytes_from, from_use};
 
@@ -19,6 +19,9 @@ use itoa::Buffer;
 use tangle_bodies::{ItemKind, NodeBody};
 use tangle_lines::{MarkMode, Origin, Sink, WriteFault, write_after};
 
+/// What was written so far: the number of bytes, or a fault, after which nothing is written.
+pub(crate) type Written = Result<u128, WriteFault>;
+
 /// What the text of a node is written from: its body, the numbers of its web, and among those the
 /// numbers of its own pieces.
 #[derive(Drop)]
@@ -28,69 +31,38 @@ struct NodeParts<'n> {
     pieces: NodeNumbers<'n>,
 }
 
-/// Writes a number between these bytes, unless `so_far` is an error.
+/// Writes these bytes and a number, unless `so_far` is an error.
 #[inline(always)]
-fn write_between<S: Sink>(
-    before: &[u8],
-    number: usize,
-    after: &[u8],
-    sink: &mut S,
-    so_far: Result<u128, WriteFault>,
-) -> Result<u128, WriteFault>
+fn write_number<S: Sink>(before: &[u8], number: usize, sink: &mut S, so_far: Written) -> Written
     ensures { IsWrittenAfter (S.stream sink.old) (S.stream sink.new)
-        so_far (before.now ++ decimal number ++ after.now) result }
+        so_far (before.now ++ decimal number) result }
 {
     let mut digits = Buffer::new();
     let opened = write_after(sink, so_far, before);
-    let numbered = write_after(sink, opened, digits.format(number).as_bytes());
-    write_after(sink, numbered, after)
+    write_after(sink, opened, digits.format(number).as_bytes())
 }
 
-/// Writes a line mark: in full, or as a line feed.
+/// Writes a line mark after other bytes: in full, or as a line feed. `full` and `bare` are these
+/// bytes with the beginning of such a mark, so that both are one write.
+#[inline(always)]
 fn write_mark<S: Sink>(
     numbers: &Numbers,
     origin: Origin,
+    full: &[u8],
+    bare: &[u8],
     sink: &mut S,
-    so_far: Result<u128, WriteFault>,
-) -> Result<u128, WriteFault>
-    ensures { IsWrittenAfter (S.stream sink.old) (S.stream sink.new)
-        so_far (mark_bytes_at numbers.now origin) result }
+    so_far: Written,
+) -> Written
+    ensures { (before : List ℕ) → full.now ≡ before ++ codes "\n#line "
+        → bare.now ≡ before ++ codes "\n" → IsWrittenAfter (S.stream sink.old) (S.stream sink.new)
+        so_far (before ++ mark_bytes_at numbers.now origin) result }
 {
     match numbers.marks() {
-        MarkMode::Full => write_between(
-            b"\n#line ",
-            origin.line as usize,
-            numbers.mark_end(origin),
-            sink,
-            so_far,
-        ),
-        MarkMode::Bare => write_after(sink, so_far, b"\n"),
-    }
-}
-
-/// Writes the opening of a piece of this section, and its opening mark.
-fn write_opening<S: Sink>(
-    numbers: &Numbers,
-    section: usize,
-    origin: Origin,
-    sink: &mut S,
-    so_far: Result<u128, WriteFault>,
-) -> Result<u128, WriteFault>
-    ensures { IsWrittenAfter (S.stream sink.old) (S.stream sink.new)
-        so_far (opening_bytes section ++ mark_bytes_at numbers.now origin) result }
-{
-    let mut digits = Buffer::new();
-    let opened = write_after(sink, so_far, b"/*");
-    let numbered = write_after(sink, opened, digits.format(section).as_bytes());
-    match numbers.marks() {
-        MarkMode::Full => write_between(
-            b":*/\n#line ",
-            origin.line as usize,
-            numbers.mark_end(origin),
-            sink,
-            numbered,
-        ),
-        MarkMode::Bare => write_after(sink, numbered, b":*/\n"),
+        MarkMode::Full => {
+            let opened = write_number(full, origin.line as usize, sink, so_far);
+            write_after(sink, opened, numbers.mark_end(origin))
+        }
+        MarkMode::Bare => write_after(sink, so_far, bare),
     }
 }
 
@@ -108,8 +80,8 @@ fn write_symbols<S: Sink>(
     at: Cursor,
     kind: ItemKind,
     sink: &mut S,
-    so_far: Result<u128, WriteFault>,
-) -> Result<u128, WriteFault>
+    so_far: Written,
+) -> Written
     requires ours { text.now.pieces
         ≡ node_numbers text.now.numbers.now (title_of text.now.body.now.name) }
     requires tag { at.tag + 1 < 2 ^ 64 }
@@ -118,31 +90,24 @@ fn write_symbols<S: Sink>(
         (own_symbols (title_of text.now.body.now.name) at.piece at.marks kind)) result }
 {
     match kind {
-        ItemKind::PieceStart => write_opening(
-            text.numbers,
-            text.pieces.section(at.piece),
-            text.pieces.mark_origin(at.piece, 0),
-            sink,
-            so_far,
-        ),
-        ItemKind::Mark => write_mark(
-            text.numbers,
-            text.pieces.mark_origin(at.piece, at.marks + 1),
-            sink,
-            so_far,
-        ),
+        ItemKind::PieceStart => {
+            let opened = write_number(b"/*", text.pieces.section(at.piece), sink, so_far);
+            let first = text.pieces.mark_origin(at.piece, 0);
+            write_mark(text.numbers, first, b":*/\n#line ", b":*/\n", sink, opened)
+        }
+        ItemKind::Mark => {
+            let origin = text.pieces.mark_origin(at.piece, at.marks + 1);
+            write_mark(text.numbers, origin, b"\n#line ", b"\n", sink, so_far)
+        }
         ItemKind::AllMacros => {
             let opened = write_after(sink, so_far, b"\n");
             write_after(sink, opened, text.numbers.macros())
         }
         ItemKind::Use | ItemKind::NoUse => write_after(sink, so_far, b" "),
-        ItemKind::PieceEnd => write_between(
-            b"/*:",
-            text.pieces.section(at.piece),
-            b"*/",
-            sink,
-            so_far,
-        ),
+        ItemKind::PieceEnd => {
+            let closed = write_number(b"/*:", text.pieces.section(at.piece), sink, so_far);
+            write_after(sink, closed, b"*/")
+        }
         _ => so_far,
     }
 }
@@ -152,8 +117,8 @@ fn write_to_use<S: Sink>(
     text: &NodeParts,
     from: Cursor,
     sink: &mut S,
-    so_far: Result<u128, WriteFault>,
-) -> (Cursor, Result<u128, WriteFault>)
+    so_far: Written,
+) -> (Cursor, Written)
     requires { text.now.pieces
         ≡ node_numbers text.now.numbers.now (title_of text.now.body.now.name) }
     ensures { (used : List (List Symbol)) → Wrote (S.stream sink.old) (S.stream sink.new)
@@ -168,11 +133,8 @@ fn write_to_use<S: Sink>(
     while end.tag < body.tags.len() {
         let tag = body.tags[end.tag];
         let next = cursor_after(end, tag);
-        so_far = write_after(
-            sink,
-            so_far,
-            bytes_between(&body.bytes, at.start, next.start),
-        );
+        let bytes = bytes_between(&body.bytes, at.start, next.start);
+        so_far = write_after(sink, so_far, bytes);
         if let ItemKind::Use = tag.kind {
             return (next, so_far);
         }
@@ -180,12 +142,8 @@ fn write_to_use<S: Sink>(
         at = next;
         end = after_bytes(body, at);
     }
-    let all = write_after(
-        sink,
-        so_far,
-        bytes_between(&body.bytes, at.start, end.start),
-    );
-    (end, all)
+    let rest = bytes_between(&body.bytes, at.start, end.start);
+    (end, write_after(sink, so_far, rest))
 }
 
 impl Expansion {
@@ -200,8 +158,8 @@ impl Expansion {
         &self,
         numbers: &Numbers,
         sink: &mut S,
-        so_far: Result<u128, WriteFault>,
-    ) -> Result<u128, WriteFault>
+        so_far: Written,
+    ) -> Written
         ensures writes { IsWrittenAfter (S.stream sink.old) (S.stream sink.new)
             so_far (expansion_bytes numbers.now self.now) result }
         ensures short { SymbolsAreShort numbers.now }
@@ -233,11 +191,7 @@ impl Expansion {
 /// # Errors
 ///
 /// `WriteFault(n)` where the sink failed, or took no byte, after the first `n` bytes of the text.
-pub fn write_text<S: Sink>(
-    expansion: &Expansion,
-    numbers: &Numbers,
-    sink: &mut S,
-) -> Result<u128, WriteFault>
+pub fn write_text<S: Sink>(expansion: &Expansion, numbers: &Numbers, sink: &mut S) -> Written
     requires { length expansion.now ≤ heaviest }
     ensures { IsWritten (S.stream sink.old) (S.stream sink.new)
         (expansion_bytes numbers.now expansion.now) result }

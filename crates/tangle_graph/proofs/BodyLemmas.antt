@@ -14,7 +14,7 @@ use Rattle.tangle_bodies.specs.Nodes.{title_at}
 use Rattle.tangle_bodies.specs.NodeBodies.{HaveOneShape, HoldsShape, body_items}
 use Rattle.tangle_bodies.specs.NodeBodies.{body_uses}
 use Rattle.tangle_bodies.specs.Shapes.{Named, Shape, Shapes, Uses}
-use Rattle.tangle_bodies.proofs.ShapeLemmas.{bodies_decide}
+use Rattle.tangle_bodies.proofs.TagLemmas.{bodies_decide}
 use Rattle.tangle_bodies.specs.declared.nodes.NodeBody.{NodeBody}
 use Rattle.tangle_graph.specs.Bodies.{IsBodyOf, node_bodies}
 

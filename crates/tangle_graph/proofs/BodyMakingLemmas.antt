@@ -13,7 +13,7 @@ use Rattle.tangle_bodies.specs.NodeBodies.{body_uses, names_at}
 use Rattle.tangle_bodies.specs.Shapes.{Shape}
 use Rattle.tangle_bodies.specs.WebShapes.{pieces_of, shapes}
 use Rattle.tangle_bodies.proofs.HeldLemmas.{names_held}
-use Rattle.tangle_bodies.proofs.ShapeLemmas.{bodies_decide}
+use Rattle.tangle_bodies.proofs.TagLemmas.{bodies_decide}
 use Rattle.tangle_bodies.specs.declared.nodes.NodeBody.{NodeBody}
 use Rattle.tangle_graph.specs.Bodies.{IsBodyOf}
 use Rattle.tangle_graph.specs.Nodes.{IsNodeOf}

@@ -2,14 +2,12 @@ pub mod BlockLemmas
 pub mod CutLemmas
 pub mod HeadLemmas
 pub mod LexemeCases
-pub mod LexemeLemmas
 pub mod NameLemmas
 pub mod NameWords
 pub mod OccurrencesCounted
-pub mod OrdinaryLemmas
 pub mod PlainLexemes
 pub mod PlainTokens
-pub mod OpenedRegions
+pub mod RegionSteps
 pub mod RunLemmas
 pub mod RunTokens
 pub mod SimpleLemmas

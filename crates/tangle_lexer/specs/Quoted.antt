@@ -1,6 +1,6 @@
 -- Quoted and verbatim texts. They are cut after the first @ of each @@ and at a line end inside, so
 -- that the bytes of an item are always a range of a line.
-use Rattle.std.specs.Prelude.{Bool, false, ◌&&◌, ℕ, ◌+◌, zero, suc, ◌==◌, nat_lt, List, [], ◌∷◌, ◌++◌}
+use Rattle.std.specs.Prelude.{Bool, false, ◌&&◌, ℕ, ◌+◌, zero, suc, nat_lt, List, [], ◌∷◌, ◌++◌}
 use Rattle.std.specs.Prelude.{drop, if◌then◌else◌, Option}
 use Rattle.tangle_faults.specs.declared.faults.FaultKind.TheVariants as fault
 use Rattle.tangle_text.specs.declared.spans.Span.{Span}
@@ -104,37 +104,21 @@ verbatim_end start (c ∷ cs) =
     cut_range region.Verbatim c.line start c.column
     ++ fault_if (is_line_end c.byte) fault.VerbatimEnd c.line
 
--- the fault of an empty verbatim text that a line end ends
-abbrev pub empty_end : List Cell → List Token
-empty_end [] = []
-empty_end (c ∷ cs) = fault_if (is_line_end c.byte) fault.VerbatimEnd c.line
+-- An empty verbatim text is one empty item, which keeps the white space on both sides of it.
+abbrev pub empty_text : List Cell → List Token
+empty_text text =
+    at_stop (unit_at region.Verbatim text) (token.Span span_kind.Verbatim (span_at 0 text) ∷ []) []
 
--- a region is empty: it ends at the front
-abbrev pub ends_at_once : Region → List Cell → Bool
-ends_at_once r text = count_before r text == 0
-
--- The tokens after @=. An empty text is one empty item, which keeps the white space on both sides
--- of it.
+-- the tokens after @=
 abbrev pub verbatim_tokens : List Cell → List Token
 verbatim_tokens text =
-    if ends_at_once region.Verbatim text
-    then token.Span span_kind.Verbatim (span_at 0 text) ∷ empty_end text
-    else cut_tokens verbatim_end region.Verbatim 0 (front_column text) text
+    empty_text text ++ cut_tokens verbatim_end region.Verbatim 0 (front_column text) text
 
--- the unit is a backslash, by its cells, or by its kind and its first cell
-
-abbrev pub is_backslash : List Cell → Bool
-is_backslash (c ∷ []) = holds backslash c.byte
-is_backslash _ = false
-
-abbrev pub is_backslash_at : Unit-of → Option ℕ → Bool
-is_backslash_at unit.One b = holds backslash b
-is_backslash_at _ b = false
-
--- the last of these units is a backslash; `last`: the unit before them is one
+-- The last of these units is a backslash; `last`: the unit before them is one. A backslash is always
+-- a unit by itself.
 abbrev pub last_is_backslash : Bool → List (List Cell) → Bool
 last_is_backslash last [] = last
-last_is_backslash last (u ∷ us) = last_is_backslash (is_backslash u) us
+last_is_backslash last (u ∷ us) = last_is_backslash (holds backslash (byte_at 0 u)) us
 
 -- the verbatim text at the front ends in a backslash
 abbrev pub verbatim_ends_in_backslash : List Cell → Bool

@@ -39,7 +39,7 @@ is_run _ = false
 abbrev pub has_item : List Token → Bool
 has_item tokens = list_any (λ t. not (is_between_items t)) tokens
 
--- no run is before the first item of these tokens, nor begins with it
+-- the first item of these tokens is in no run
 abbrev pub first_is_alone : List Token → Bool
 first_is_alone [] = true
 first_is_alone (t ∷ ts) = if is_between_items t then first_is_alone ts else not (is_run t)

@@ -1,13 +1,16 @@
 //! Comments and control texts, which count as white space.
-ghost use Rattle.std.specs.Prelude.{◌≡◌, ◌++◌, true, drop, map, IfOk, OnOk};
+#![tactic(auto, using(crate::proofs::lemmas::RegionSteps::comment_steps))]
+
+ghost use Rattle.std.specs.Prelude.{◌≡◌, ◌++◌, true, drop, map, Decides, IfOk, OnOk};
+ghost use Rattle.tangle_text.specs.declared.regions.Unit.TheVariants as unit;
 ghost use Rattle.tangle_lexer.specs.Reads.{IsRead};
-ghost use Rattle.tangle_text.specs.Regions.{skips_ordinary, region_end};
+ghost use Rattle.tangle_text.specs.Regions.{skips_ordinary, region_end, unit_at};
 ghost use Rattle.tangle_lexer.specs.LinesOfC.{after_line_ends, inner_end_in};
 ghost use Rattle.tangle_lexer.specs.Lexemes.{line_end_by, is_in_directive};
 ghost use Rattle.tangle_lexer.specs.Comments as spec;
 
-use crate::modes::{LexerState, LineState};
-use crate::tokens::{Token, push_fault_if};
+use crate::modes::{Lexed, LexerState, LineState};
+use crate::tokens::{Token, Tokens, push_fault_if};
 use std::alloc::AllocError;
 use tangle_lines::FaultKind;
 use tangle_text::{Reader, Region, Unit, holds, is_end_code, is_section_start, unit_of};
@@ -15,7 +18,7 @@ use tangle_text::{Reader, Region, Unit, holds, is_end_code, is_section_start, un
 /// Adds a line end, if `byte` is one (`None`), and returns how the line of C was read then. In a
 /// directive the line end is white space, which changes nothing of that.
 fn push_line_end(
-    tokens: &mut Vec<Token>,
+    tokens: &mut Tokens,
     in_directive: bool,
     at: LineState,
     byte: Option<u8>,
@@ -43,7 +46,7 @@ fn push_line_end(
 /// web, and the text after the comment needs no line mark.
 #[inline(always)]
 fn pass_line_ends(
-    tokens: &mut Vec<Token>,
+    tokens: &mut Tokens,
     reader: &mut Reader,
     region: Region,
     state: LexerState,
@@ -69,6 +72,17 @@ fn pass_line_ends(
         reader.skip_ordinary();
     }
     Ok(at)
+}
+
+/// Whether a region ends at the position.
+#[inline(always)]
+pub fn is_region_end(region: Region, reader: &Reader) -> bool
+    ensures { Decides result (unit_at region reader.now ≡ unit.Stop) }
+{
+    match reader.front() {
+        Some(front) => matches!(unit_of(region, front.byte, front.next), Unit::Stop),
+        None => matches!(unit_of(region, None, None), Unit::Stop),
+    }
 }
 
 /// Whether the text ahead begins with a section start.
@@ -111,10 +125,10 @@ pub fn pass_end(region: Region, reader: &mut Reader) -> bool
 fn comment_or_control_text(
     region: Region,
     kind: FaultKind,
-    tokens: &mut Vec<Token>,
+    tokens: &mut Tokens,
     reader: &mut Reader,
     state: LexerState,
-) -> Result<LexerState, AllocError>
+) -> Lexed
     requires { skips_ordinary region ≡ true }
     ensures { IfOk result (λ after. IsRead tokens.old.items tokens.new.items reader.old reader.new
         after (spec.comment_or_control_text region kind state reader.old)) }
@@ -130,11 +144,7 @@ fn comment_or_control_text(
 
 /// Reads a comment from `/*` to `*/`. A section start or the end of the source before `*/` is a
 /// fault.
-pub fn block_comment(
-    tokens: &mut Vec<Token>,
-    reader: &mut Reader,
-    state: LexerState,
-) -> Result<LexerState, AllocError>
+pub fn block_comment(tokens: &mut Tokens, reader: &mut Reader, state: LexerState) -> Lexed
     ensures { IfOk result (λ after. IsRead tokens.old.items tokens.new.items reader.old reader.new
         after (spec.block_comment state reader.old)) }
 {
@@ -143,11 +153,7 @@ pub fn block_comment(
 }
 
 /// Reads a comment from `//` up to the line end. A section start before the line end is a fault.
-pub fn line_comment(
-    tokens: &mut Vec<Token>,
-    reader: &mut Reader,
-    state: LexerState,
-) -> Result<LexerState, AllocError>
+pub fn line_comment(tokens: &mut Tokens, reader: &mut Reader, state: LexerState) -> Lexed
     ensures { IfOk result (λ after. IsRead tokens.old.items tokens.new.items reader.old reader.new
         after (spec.line_comment state reader.old)) }
 {
@@ -161,11 +167,7 @@ pub fn line_comment(
 
 /// Reads a control text, from its control code to `@>`. The end of the source before `@>`, or a
 /// control code other than `@@`, is a fault.
-pub fn control_text(
-    tokens: &mut Vec<Token>,
-    reader: &mut Reader,
-    state: LexerState,
-) -> Result<LexerState, AllocError>
+pub fn control_text(tokens: &mut Tokens, reader: &mut Reader, state: LexerState) -> Lexed
     ensures { IfOk result (λ after. IsRead tokens.old.items tokens.new.items reader.old reader.new
         after (spec.control_text state reader.old)) }
 {

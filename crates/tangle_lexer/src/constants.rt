@@ -1,11 +1,12 @@
 //! ASCII constants.
+#![tactic(auto, using(crate::proofs::lemmas::RegionSteps::opened_steps))]
+
 ghost use Rattle.std.specs.Prelude.{◌≡◌, ◌<◌, IfOk};
 ghost use Rattle.tangle_lexer.specs.Reads.{IsRead};
 ghost use Rattle.tangle_lexer.specs.Constants as spec;
 
-use crate::modes::LexerState;
-use crate::tokens::Token;
-use std::alloc::AllocError;
+use crate::modes::{Lexed, LexerState};
+use crate::tokens::{Token, Tokens};
 use tangle_lines::FaultKind;
 use tangle_text::{Reader, Region, Unit, holds, is_octal};
 
@@ -110,11 +111,7 @@ fn constant_at(reader: &Reader) -> Option<AsciiConstant>
 
 /// Reads `@'` without a valid constant, through the next apostrophe on the line, or up to the line
 /// end: white space with a fault.
-fn bad_constant(
-    tokens: &mut Vec<Token>,
-    reader: &mut Reader,
-    state: LexerState,
-) -> Result<LexerState, AllocError>
+fn bad_constant(tokens: &mut Tokens, reader: &mut Reader, state: LexerState) -> Lexed
     ensures { IfOk result (λ after. IsRead tokens.old.items tokens.new.items reader.old reader.new
         after (spec.bad_constant state reader.old)) }
 {
@@ -129,11 +126,7 @@ fn bad_constant(
 }
 
 /// Reads `@'` with the ASCII constant after it, or with the fault of a bad one.
-pub fn ascii_constant(
-    tokens: &mut Vec<Token>,
-    reader: &mut Reader,
-    state: LexerState,
-) -> Result<LexerState, AllocError>
+pub fn ascii_constant(tokens: &mut Tokens, reader: &mut Reader, state: LexerState) -> Lexed
     ensures { IfOk result (λ after. IsRead tokens.old.items tokens.new.items reader.old reader.new
         after (spec.ascii_constant state reader.old)) }
 {

@@ -15,7 +15,7 @@ ghost use Rattle.tangle_lexer.specs.Heads.{HasNoHead, PopsHead};
 use crate::modes::{LexerState, LineState, Mode};
 use crate::simple::read_simple;
 use crate::steps::step;
-use crate::tokens::{LexerBuffers, Token};
+use crate::tokens::{LexerBuffers, Token, Tokens};
 use tangle_lines::{NoMemory, Source};
 use tangle_text::Reader;
 
@@ -32,7 +32,7 @@ pub fn first_state(source: &Source) -> LexerState
 }
 
 /// Removes and returns the last token, if it is a head: it begins a section, a macro or a C part.
-fn pop_head(tokens: &mut Vec<Token>) -> Option<Token>
+fn pop_head(tokens: &mut Tokens) -> Option<Token>
     ensures { PopsHead tokens.old.items tokens.new.items result }
 {
     match tokens.last() {

@@ -5,6 +5,7 @@ ghost use Rattle.tangle_lexer.specs.LinesOfC as lines_of_c;
 ghost use Rattle.tangle_lexer.specs.Lexemes as lexemes;
 ghost use Rattle.tangle_lexer.specs.CText as c_text;
 
+use std::alloc::AllocError;
 use tangle_text::holds;
 
 /// The kind of text at a position. It decides what a control code means there.
@@ -175,6 +176,9 @@ pub struct LexerState {
     /// How the line of C was read so far.
     pub line: LineState,
 }
+
+/// The state after a step that has read something, if memory did not run out.
+pub type Lexed = Result<LexerState, AllocError>;
 
 impl LexerState {
     /// This state in another mode. A part begins, so `#include` may be the first thing in it.

@@ -1,4 +1,6 @@
 //! Section names.
+#![tactic(auto, using(crate::proofs::lemmas::NameLemmas::name_steps))]
+
 ghost use Rattle.std.specs.Prelude.{◌≡◌, ◌+◌, ◌++◌, [], ◌∷◌, ℕ, List, length, drop, not, true};
 ghost use Rattle.std.specs.Prelude.{if◌then◌else◌, Decides, IfOk, OnOk};
 ghost use Rattle.tangle_text.specs.Bytes as byte;
@@ -17,10 +19,10 @@ ghost use Rattle.tangle_lexer.specs.Names as spec;
 ghost use Rattle.tangle_lexer.specs.Names.{form_after};
 ghost use Rattle.tangle_text.specs.NameBytes as name_bytes;
 
-use crate::comments::pass_end;
-use crate::modes::{LexerState, Mode};
+use crate::comments::{is_region_end, pass_end};
+use crate::modes::{Lexed, LexerState, Mode};
 use crate::occurrences::{Occurrence, OccurrenceRole};
-use crate::tokens::{LexerBuffers, Token, push_fault_if};
+use crate::tokens::{LexerBuffers, Pushed, Token, Tokens, push_fault_if};
 use crate::white::skip_white;
 use bstr::ByteSlice;
 use std::alloc::{AllocError, Global};
@@ -71,12 +73,7 @@ fn push_byte(name: &mut Vec<u8>, white: bool, byte: u8) -> Result<bool, AllocErr
 
 /// Adds a unit of one or two bytes to a name; `@@` adds one `@`, and a line end (`None`) a space.
 /// `white` and the result are those of `push_byte`.
-fn push_name_unit(
-    name: &mut Vec<u8>,
-    white: bool,
-    unit: Unit,
-    front: Front,
-) -> Result<bool, AllocError>
+fn push_unit(name: &mut Vec<u8>, white: bool, unit: Unit, front: Front) -> Result<bool, AllocError>
     ensures { IfOk result (λ after. (rest : List ℕ) → form_after name.new.items after rest
         ≡ form_after name.old.items white
         (name_bytes.unit_name_bytes unit front.byte front.next ++ rest)) }
@@ -123,17 +120,6 @@ fn has_single_spaces(bytes: &[u8]) -> bool
     !white || bytes.is_empty()
 }
 
-/// Whether a name ends at the position.
-#[inline(always)]
-fn is_name_end(reader: &Reader) -> bool
-    ensures { Decides result (unit_at region.Name reader.now ≡ unit.Stop) }
-{
-    match reader.front() {
-        Some(front) => matches!(unit_of(Region::Name, front.byte, front.next), Unit::Stop),
-        None => false,
-    }
-}
-
 /// The initial capacity of the text of a name, in bytes. Most names are not longer.
 const NAME_CAPACITY: usize = 32;
 
@@ -145,7 +131,7 @@ fn read_text(alloc: Global, reader: &mut Reader) -> Result<SharedSlice, AllocErr
 {
     let slice = reader.take_name_bytes()?;
     // Most names end on their line and are written as they are stored.
-    if is_name_end(reader) && has_single_spaces(slice.bytes()) {
+    if is_region_end(Region::Name, reader) && has_single_spaces(slice.bytes()) {
         return Ok(slice);
     }
     let mut name = Vec::with_capacity(alloc, NAME_CAPACITY)?;
@@ -155,7 +141,7 @@ fn read_text(alloc: Global, reader: &mut Reader) -> Result<SharedSlice, AllocErr
         if let Unit::Stop = unit {
             return SharedSlice::whole(alloc, name);
         }
-        white = push_name_unit(&mut name, white, unit, front)?;
+        white = push_unit(&mut name, white, unit, front)?;
         reader.pass(unit);
         let slice = reader.take_name_bytes()?;
         white = push_bytes(&mut name, white, slice.bytes())?;
@@ -205,7 +191,7 @@ fn push_occurrence(
     name: Name,
     role: OccurrenceRole,
     state: LexerState,
-) -> Result<LexerState, AllocError>
+) -> Lexed
     requires { state.occurrences ≡ length occurrences.old.items }
     ensures occurrences { OnOk result (occurrences.new.items ≡ occurrences.old.items
         ++ occurrence_of source.now.lines (spec.in_role role name) ∷ []) }
@@ -288,12 +274,7 @@ fn has_single_equals(reader: &Reader) -> bool
 }
 
 /// Adds a use of this name, which is the next occurrence, and the faults of the use.
-fn push_use(
-    tokens: &mut Vec<Token>,
-    name: &Name,
-    state: LexerState,
-    has_single_equals: bool,
-) -> Result<(), AllocError>
+fn push_use(tokens: &mut Tokens, name: &Name, state: LexerState, has_single_equals: bool) -> Pushed
     ensures { OnOk result (tokens.new.items ≡ tokens.old.items
         ++ token.UseOf name.now.end_line state.occurrences
         ∷ fault_if (is_in_directive state) fault.UseInDirective name.now.line
@@ -315,7 +296,7 @@ pub fn use_of_name(
     buffers: &mut LexerBuffers,
     reader: &mut Reader,
     state: LexerState,
-) -> Result<LexerState, AllocError>
+) -> Lexed
     requires { state.occurrences ≡ length buffers.old.occurrences.items }
     ensures { IfOk result (λ after. ReadsLexeme source.now.lines buffers.old buffers.new
         reader.old reader.new after (spec.use_of_name state reader.old)) }
@@ -355,7 +336,7 @@ pub fn name_in_documentation(
     buffers: &mut LexerBuffers,
     reader: &mut Reader,
     state: LexerState,
-) -> Result<LexerState, AllocError>
+) -> Lexed
     requires { state.occurrences ≡ length buffers.old.occurrences.items }
     ensures { IfOk result (λ after. ReadsLexeme source.now.lines buffers.old buffers.new
         reader.old reader.new after (spec.name_in_documentation state reader.old)) }

@@ -1,4 +1,6 @@
 //! Quoted and verbatim texts, which are cut into ranges of lines.
+#![tactic(auto, using(crate::proofs::lemmas::RegionSteps::quoted_steps))]
+
 ghost use Rattle.std.specs.Prelude.{true, ◌≡◌, ◌≤◌, ◌++◌, ℕ, List, IfOk, OnOk, ◌∷◌, drop};
 ghost use Rattle.tangle_files.specs.Adding.{longest_line};
 ghost use Rattle.tangle_text.specs.Ahead.{IsFront};
@@ -12,9 +14,9 @@ ghost use Rattle.tangle_lexer.specs.declared.tokens.Token.TheVariants as token;
 ghost use Rattle.tangle_text.specs.Bytes as byte;
 ghost use Rattle.tangle_lexer.specs.Quoted as spec;
 
-use crate::comments::pass_end;
-use crate::modes::{IncludeState, LexerState};
-use crate::tokens::{SpanKind, Token, push_fault_if};
+use crate::comments::{is_region_end, pass_end};
+use crate::modes::{IncludeState, Lexed, LexerState};
+use crate::tokens::{Pushed, SpanKind, Token, Tokens, push_fault_if};
 use std::alloc::AllocError;
 use tangle_lines::FaultKind;
 use tangle_text::{Front, Reader, Region, Span, Unit, holds, unit_of};
@@ -30,13 +32,7 @@ fn kind_in(region: Region) -> SpanKind
 }
 
 /// Adds the range of a line from column `start` up to column `end`, unless it is empty.
-fn push_range(
-    tokens: &mut Vec<Token>,
-    region: Region,
-    line: u32,
-    start: usize,
-    end: usize,
-) -> Result<(), AllocError>
+fn push_range(tokens: &mut Tokens, region: Region, line: u32, start: usize, end: usize) -> Pushed
     requires { end ≤ longest_line }
     ensures { OnOk result (tokens.new.items ≡ tokens.old.items
         ++ spec.cut_range region line start end) }
@@ -56,7 +52,7 @@ fn push_range(
 /// the column at which the range after the unit starts: `start` itself, unless the text is cut.
 #[inline(always)]
 fn push_quoted_unit(
-    tokens: &mut Vec<Token>,
+    tokens: &mut Tokens,
     reader: &Reader,
     region: Region,
     start: usize,
@@ -92,7 +88,7 @@ fn push_quoted_unit(
 /// which the last range starts; the first one starts at column `first`.
 #[inline(always)]
 fn cut(
-    tokens: &mut Vec<Token>,
+    tokens: &mut Tokens,
     reader: &mut Reader,
     region: Region,
     first: usize,
@@ -121,13 +117,13 @@ fn cut(
 /// Adds the last range of a quoted text, from column `start` through the closing byte. A line end
 /// or the end of the source instead of the closing byte is a fault.
 fn end_quote(
-    tokens: &mut Vec<Token>,
+    tokens: &mut Tokens,
     reader: &mut Reader,
     region: Region,
     close: u8,
     start: usize,
     last: u32,
-) -> Result<(), AllocError>
+) -> Pushed
     ensures tokens { OnOk result (tokens.new.items ≡ tokens.old.items
         ++ spec.quote_end region close last start reader.old) }
     ensures ahead { OnOk result
@@ -150,12 +146,12 @@ fn end_quote(
 
 /// Reads a quoted text from its opening byte through its closing byte `close`.
 pub fn quoted_text(
-    tokens: &mut Vec<Token>,
+    tokens: &mut Tokens,
     reader: &mut Reader,
     region: Region,
     close: u8,
     state: LexerState,
-) -> Result<LexerState, AllocError>
+) -> Lexed
     requires { skips_ordinary region ≡ true }
     ensures { IfOk result (λ after. IsRead tokens.old.items tokens.new.items reader.old reader.new
         after (spec.quoted_text region close state reader.old)) }
@@ -169,12 +165,7 @@ pub fn quoted_text(
 
 /// Adds the last range of a verbatim text, from column `start` on, and a fault if a line end ends
 /// the text.
-fn end_verbatim(
-    tokens: &mut Vec<Token>,
-    reader: &Reader,
-    start: usize,
-    last: u32,
-) -> Result<(), AllocError>
+fn end_verbatim(tokens: &mut Tokens, reader: &Reader, start: usize, last: u32) -> Pushed
     ensures { OnOk result (tokens.new.items ≡ tokens.old.items
         ++ spec.verbatim_end start reader.now) }
 {
@@ -186,56 +177,32 @@ fn end_verbatim(
     push_fault_if(tokens, front.byte.is_none(), FaultKind::VerbatimEnd, line)
 }
 
-/// Whether a region is empty: its end is next, or the end of the source.
-fn ends_at_once(reader: &Reader, region: Region) -> bool
-    ensures { result ≡ spec.ends_at_once region reader.now }
+/// Adds an item for a verbatim text that is empty.
+fn push_if_empty(tokens: &mut Tokens, reader: &Reader) -> Pushed
+    ensures { OnOk result (tokens.new.items ≡ tokens.old.items ++ spec.empty_text reader.now) }
 {
-    match reader.front() {
-        Some(front) => matches!(unit_of(region, front.byte, front.next), Unit::Stop),
-        None => true,
-    }
-}
-
-/// Adds an empty verbatim text, and a fault if a line end ends it.
-fn push_empty(tokens: &mut Vec<Token>, reader: &Reader) -> Result<(), AllocError>
-    ensures { OnOk result (tokens.new.items
-        ≡ tokens.old.items ++ token.Span span_kind.Verbatim (span_at 0 reader.now)
-        ∷ spec.empty_end reader.now) }
-{
-    let line = reader.line(0);
-    let column = reader.column() as u16;
-    let span = Span {
-        line,
-        start: column,
-        end: column,
-    };
-    tokens.push(Token::Span(SpanKind::Verbatim, span))?;
-    if let Some(front) = reader.front() {
-        push_fault_if(tokens, front.byte.is_none(), FaultKind::VerbatimEnd, line)?;
+    if is_region_end(Region::Verbatim, reader) {
+        let column = reader.column() as u16;
+        let span = Span {
+            line: reader.line(0),
+            start: column,
+            end: column,
+        };
+        tokens.push(Token::Span(SpanKind::Verbatim, span))?;
     }
     Ok(())
 }
 
 /// Reads a verbatim text after its `@=`, up to its end.
-fn push_verbatim(tokens: &mut Vec<Token>, reader: &mut Reader, last: u32) -> Result<(), AllocError>
+fn push_verbatim(tokens: &mut Tokens, reader: &mut Reader, last: u32) -> Pushed
     ensures tokens { OnOk result
         (tokens.new.items ≡ tokens.old.items ++ spec.verbatim_tokens reader.old) }
     ensures ahead { OnOk result (reader.new ≡ region_end region.Verbatim reader.old) }
 {
-    if ends_at_once(reader, Region::Verbatim) {
-        push_empty(tokens, reader)?;
-        return Ok(());
-    }
+    push_if_empty(tokens, reader)?;
     let first = reader.column();
     let start = cut(tokens, reader, Region::Verbatim, first, last)?;
     end_verbatim(tokens, reader, start, last)
-}
-
-/// Whether a unit that begins with this byte is a backslash.
-fn is_backslash_at(unit: Unit, byte: Option<u8>) -> bool
-    ensures { result ≡ spec.is_backslash_at unit byte }
-{
-    matches!(unit, Unit::One) && holds(b'\\', byte)
 }
 
 /// Whether the verbatim text at the position ends in a backslash.
@@ -249,18 +216,14 @@ fn verbatim_ends_in_backslash(reader: &Reader) -> bool
         if let Unit::Stop = unit {
             return is_backslash;
         }
-        is_backslash = is_backslash_at(unit, front.byte);
+        is_backslash = holds(b'\\', front.byte);
         here.pass(unit);
     }
     is_backslash
 }
 
 /// Reads `@=` and the verbatim text through `@>`, or up to the line end, which is a fault.
-pub fn verbatim_text(
-    tokens: &mut Vec<Token>,
-    reader: &mut Reader,
-    state: LexerState,
-) -> Result<LexerState, AllocError>
+pub fn verbatim_text(tokens: &mut Tokens, reader: &mut Reader, state: LexerState) -> Lexed
     ensures { IfOk result (λ after. IsRead tokens.old.items tokens.new.items reader.old reader.new
         after (spec.verbatim_text state reader.old)) }
 {

@@ -10,10 +10,9 @@ ghost use Rattle.tangle_lexer.specs.Runs as runs;
 ghost use Rattle.tangle_lexer.specs.Simple as spec;
 ghost use Rattle.tangle_lexer.specs.Steps.{c_lexeme};
 
-use crate::modes::{IncludeState, LexerState, LineState, Mode};
+use crate::modes::{IncludeState, Lexed, LexerState, LineState, Mode};
 use crate::steps::{line_end, sign, white_space, word};
-use crate::tokens::{Token, is_between_items};
-use std::alloc::AllocError;
+use crate::tokens::{Pushed, Token, Tokens, is_between_items};
 use tangle_text::{Reader, Unit, holds, is_sign_byte, is_white, is_word_byte};
 
 /// A lexeme whose kind is known from its first byte, or from a line end.
@@ -55,11 +54,11 @@ fn simple_at(reader: &Reader) -> Option<SimpleLexeme>
 
 #[inline(always)]
 fn simple_step(
-    tokens: &mut Vec<Token>,
+    tokens: &mut Tokens,
     reader: &mut Reader,
     state: LexerState,
     simple: SimpleLexeme,
-) -> Result<LexerState, AllocError>
+) -> Lexed
     requires { IsSimple reader.old simple }
     ensures { IfOk result (λ after. IsRead tokens.old.items tokens.new.items reader.old reader.new
         after (c_lexeme (simple_kind simple) state reader.old)) }
@@ -104,12 +103,12 @@ fn begins_run(tokens: &[Token], state: LexerState, simple: SimpleLexeme, byte: O
 /// so far.
 #[inline(always)]
 fn run_or_simple(
-    tokens: &mut Vec<Token>,
+    tokens: &mut Tokens,
     reader: &mut Reader,
     from: LexerState,
     line: &mut LineState,
     simple: SimpleLexeme,
-) -> Result<(), AllocError>
+) -> Pushed
     requires simple { IsSimple reader.old simple }
     requires mode { spec.is_c_text from.mode ≡ true }
     ensures read { OnOk result ((lines : List SourceLine) → IsRestOf lines reader.old
@@ -133,11 +132,7 @@ fn run_or_simple(
 
 /// Reads simple lexemes of C text, and runs in place of those that they consist of, up to a byte
 /// that may open something longer. In limbo and in documentation it reads nothing.
-pub fn read_simple(
-    tokens: &mut Vec<Token>,
-    reader: &mut Reader,
-    from: LexerState,
-) -> Result<LexerState, AllocError>
+pub fn read_simple(tokens: &mut Tokens, reader: &mut Reader, from: LexerState) -> Lexed
     ensures read { IfOk result (λ after. (lines : List SourceLine) → IsRestOf lines reader.old
         → ReadsOn lines tokens.old.items tokens.new.items from after reader.old reader.new) }
     ensures adds { OnOk result (AddsSimple from.mode tokens.old.items tokens.new.items) }

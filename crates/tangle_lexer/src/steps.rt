@@ -16,20 +16,15 @@ ghost use Rattle.tangle_lexer.specs.Steps as spec;
 use crate::comments::{block_comment, control_text, line_comment};
 use crate::constants::ascii_constant;
 use crate::lexeme_kinds::{ControlCode, LexemeKind, code_at, kind_by};
-use crate::modes::{IncludeState, LexerState, Mode};
+use crate::modes::{IncludeState, Lexed, LexerState, Mode};
 use crate::names::{name_in_documentation, use_of_name};
 use crate::quoted::{quoted_text, verbatim_text};
-use crate::tokens::{LexerBuffers, SpanKind, Token, push_fault_if};
-use std::alloc::AllocError;
+use crate::tokens::{LexerBuffers, SpanKind, Token, Tokens, push_fault_if};
 use tangle_lines::{FaultKind, Source};
 use tangle_text::{Front, Reader, Region, Unit, holds, is_section_start, lower};
 
 /// Begins a section. Only the `@` is read: the byte after it is skipped as documentation.
-fn section_start(
-    tokens: &mut Vec<Token>,
-    reader: &mut Reader,
-    state: LexerState,
-) -> Result<LexerState, AllocError>
+fn section_start(tokens: &mut Tokens, reader: &mut Reader, state: LexerState) -> Lexed
     ensures { IfOk result (λ after. IsRead tokens.old.items tokens.new.items reader.old reader.new
         after (c_text.section_start state)) }
 {
@@ -58,12 +53,7 @@ fn is_limbo_code(next: Option<u8>) -> bool
 
 /// Reads the first section start, or skips text in limbo: a control code, which may be a fault, or
 /// the text up to an `@`.
-fn limbo(
-    tokens: &mut Vec<Token>,
-    reader: &mut Reader,
-    state: LexerState,
-    front: Front,
-) -> Result<LexerState, AllocError>
+fn limbo(tokens: &mut Tokens, reader: &mut Reader, state: LexerState, front: Front) -> Lexed
     requires { IsFront reader.old front }
     ensures { IfOk result (λ after. IsRead tokens.old.items tokens.new.items reader.old reader.new
         after (spec.limbo_lexeme state reader.old)) }
@@ -84,12 +74,7 @@ fn limbo(
 
 /// Reads a control code that becomes this token.
 #[inline(always)]
-fn code_token(
-    tokens: &mut Vec<Token>,
-    reader: &mut Reader,
-    token: Token,
-    after: LexerState,
-) -> Result<LexerState, AllocError>
+fn code_token(tokens: &mut Tokens, reader: &mut Reader, token: Token, after: LexerState) -> Lexed
     ensures { IfOk result (λ state. IsRead tokens.old.items tokens.new.items reader.old reader.new
         state (lexeme_of (token ∷ []) 1 after)) }
 {
@@ -105,7 +90,7 @@ fn documentation_code(
     reader: &mut Reader,
     state: LexerState,
     code: ControlCode,
-) -> Result<LexerState, AllocError>
+) -> Lexed
     requires { state.occurrences ≡ length buffers.old.occurrences.items }
     ensures { IfOk result (λ after. ReadsLexeme source.now.lines buffers.old buffers.new
         reader.old reader.new after (spec.documentation_code code state reader.old)) }
@@ -132,12 +117,7 @@ fn documentation_code(
 
 /// Reads one sign: a unit of one byte, or `@@`, a unit of two.
 #[inline(always)]
-pub fn sign(
-    tokens: &mut Vec<Token>,
-    reader: &mut Reader,
-    unit: Unit,
-    after: LexerState,
-) -> Result<LexerState, AllocError>
+pub fn sign(tokens: &mut Tokens, reader: &mut Reader, unit: Unit, after: LexerState) -> Lexed
     requires { IsSome (byte_at 0 reader.old) }
     ensures { IfOk result (λ state. IsRead tokens.old.items tokens.new.items reader.old reader.new
         state
@@ -149,12 +129,7 @@ pub fn sign(
 }
 
 /// Reads a control code that is a fault of this kind, and white space.
-fn code_fault(
-    tokens: &mut Vec<Token>,
-    reader: &mut Reader,
-    kind: FaultKind,
-    state: LexerState,
-) -> Result<LexerState, AllocError>
+fn code_fault(tokens: &mut Tokens, reader: &mut Reader, kind: FaultKind, state: LexerState) -> Lexed
     ensures { IfOk result (λ after. IsRead tokens.old.items tokens.new.items reader.old reader.new
         after (c_text.code_fault kind state reader.old)) }
 {
@@ -165,11 +140,7 @@ fn code_fault(
 }
 
 /// Reads `@h`. In a directive it is a fault.
-fn all_macros(
-    tokens: &mut Vec<Token>,
-    reader: &mut Reader,
-    state: LexerState,
-) -> Result<LexerState, AllocError>
+fn all_macros(tokens: &mut Tokens, reader: &mut Reader, state: LexerState) -> Lexed
     ensures { IfOk result (λ after. IsRead tokens.old.items tokens.new.items reader.old reader.new
         after (spec.c_code control_code.AllMacros state reader.old)) }
 {
@@ -182,12 +153,7 @@ fn all_macros(
 }
 
 /// Reads a control code in C text, except for one that opens a name.
-fn c_code(
-    tokens: &mut Vec<Token>,
-    reader: &mut Reader,
-    state: LexerState,
-    code: ControlCode,
-) -> Result<LexerState, AllocError>
+fn c_code(tokens: &mut Tokens, reader: &mut Reader, state: LexerState, code: ControlCode) -> Lexed
     requires byte { IsSome (byte_at 0 reader.old) }
     requires no_name { code ≢ control_code.Name }
     ensures read { IfOk result (λ after. IsRead tokens.old.items tokens.new.items
@@ -213,11 +179,7 @@ fn c_code(
 }
 
 #[inline(always)]
-pub fn word(
-    tokens: &mut Vec<Token>,
-    reader: &mut Reader,
-    state: LexerState,
-) -> Result<LexerState, AllocError>
+pub fn word(tokens: &mut Tokens, reader: &mut Reader, state: LexerState) -> Lexed
     requires { IsSome (byte_at 0 reader.old) }
     ensures { IfOk result (λ after. IsRead tokens.old.items tokens.new.items reader.old reader.new
         after (c_text.word state reader.old)) }
@@ -231,11 +193,7 @@ pub fn word(
 }
 
 #[inline(always)]
-pub fn white_space(
-    tokens: &mut Vec<Token>,
-    reader: &mut Reader,
-    state: LexerState,
-) -> Result<LexerState, AllocError>
+pub fn white_space(tokens: &mut Tokens, reader: &mut Reader, state: LexerState) -> Lexed
     requires { IsSome (byte_at 0 reader.old) }
     ensures { IfOk result (λ after. IsRead tokens.old.items tokens.new.items reader.old reader.new
         after (c_text.white_space state reader.old)) }
@@ -246,11 +204,7 @@ pub fn white_space(
 }
 
 #[inline(always)]
-pub fn line_end(
-    tokens: &mut Vec<Token>,
-    reader: &mut Reader,
-    state: LexerState,
-) -> Result<LexerState, AllocError>
+pub fn line_end(tokens: &mut Tokens, reader: &mut Reader, state: LexerState) -> Lexed
     ensures { IfOk result (λ after. IsRead tokens.old.items tokens.new.items reader.old reader.new
         after (spec.c_lexeme lexeme_kinds.LineEnd state reader.old)) }
 {
@@ -267,7 +221,7 @@ fn c_text(
     reader: &mut Reader,
     state: LexerState,
     lexeme_kind: LexemeKind,
-) -> Result<LexerState, AllocError>
+) -> Lexed
     requires byte { (lexeme_kind ≡ lexeme_kinds.LineEnd → ⊥) → IsSome (byte_at 0 reader.old) }
     requires occurrences { state.occurrences ≡ length buffers.old.occurrences.items }
     ensures { IfOk result (λ after. ReadsLexeme source.now.lines buffers.old buffers.new
@@ -302,7 +256,7 @@ fn macro_code(
     reader: &mut Reader,
     state: LexerState,
     code: ControlCode,
-) -> Result<LexerState, AllocError>
+) -> Lexed
     requires byte { IsSome (byte_at 0 reader.old) }
     requires occurrences { state.occurrences ≡ length buffers.old.occurrences.items }
     ensures { IfOk result (λ after. ReadsLexeme source.now.lines buffers.old buffers.new
@@ -331,7 +285,7 @@ pub fn step(
     reader: &mut Reader,
     state: LexerState,
     front: Front,
-) -> Result<LexerState, AllocError>
+) -> Lexed
     requires front { IsFront reader.old front }
     requires occurrences { state.occurrences ≡ length buffers.old.occurrences.items }
     ensures { IfOk result (λ after. ReadsLexeme source.now.lines buffers.old buffers.new

@@ -61,6 +61,11 @@ pub enum Token {
     Fault(FaultKind, u32),
 }
 
+pub type Tokens = Vec<Token>;
+
+/// Whether all was added; if not, memory ran out.
+pub type Pushed = Result<(), AllocError>;
+
 /// Whether a token is no item, but what may be between two of them.
 pub fn is_between_items(token: Token) -> bool
     ensures { result ≡ parts.is_between_items token }
@@ -82,12 +87,7 @@ pub struct LexerBuffers {
 
 /// Adds a fault of this kind, if `is_fault`.
 #[inline(always)]
-pub fn push_fault_if(
-    tokens: &mut Vec<Token>,
-    is_fault: bool,
-    kind: FaultKind,
-    line: u32,
-) -> Result<(), AllocError>
+pub fn push_fault_if(tokens: &mut Tokens, is_fault: bool, kind: FaultKind, line: u32) -> Pushed
     ensures { OnOk result (tokens.new.items ≡ tokens.old.items ++ fault_if is_fault kind line) }
 {
     if is_fault {

@@ -1,4 +1,6 @@
 //! White space of C text that ends on its line and without a fault, as a head may have it.
+#![tactic(auto, using(crate::proofs::lemmas::WhiteLemmas::white_steps))]
+
 ghost use Rattle.std.specs.Prelude.{◌≡◌, drop, true, IsSome};
 ghost use Rattle.tangle_text.specs.Text.{byte_at};
 ghost use Rattle.tangle_text.specs.Regions.{region_end};

@@ -1,5 +1,4 @@
 pub mod WorkedAsMeant
-pub mod WorkedDirectives
 pub mod WorkedLocations
 pub mod WorkedSegments
 pub mod WorkedWebs

@@ -21,12 +21,14 @@ module _ (texts : List (List ℕ)) where
   is_dropped_at_end (item.Sign span) = first_byte texts span == backslash
   is_dropped_at_end _ = false
 
-  -- the same of a token
+  -- all items of a token are dropped at the end, or it has none
   abbrev pub is_dropped_token : Token → Bool
-  is_dropped_token token.White = true
-  is_dropped_token (token.LineEnd line) = true
   is_dropped_token (token.Span span_kind.Sign s) = first_byte texts s == backslash
-  is_dropped_token _ = false
+  is_dropped_token (token.Span kind s) = false
+  is_dropped_token (token.Run s) = false
+  is_dropped_token (token.QuoteBreak line) = false
+  is_dropped_token (token.AsciiConstant value line) = false
+  is_dropped_token _ = true
 
   abbrev pub without_end_after : Item → List Item → List Item
   without_end_after x [] = if is_dropped_at_end x then [] else x ∷ []

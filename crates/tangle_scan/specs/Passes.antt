@@ -2,7 +2,7 @@
 use Rattle.std.specs.Prelude.{◌≡◌, ◌≤◌, ℕ, ◌+◌, suc, max, Bool, true, false, ◌==◌, nat_le, ◌&&◌, ◌||◌}
 use Rattle.std.specs.Prelude.{not}
 use Rattle.std.specs.Prelude.{if◌then◌else◌}
-use Rattle.std.specs.Prelude.{List, [], ◌∷◌, ◌++◌, length, take, replicate}
+use Rattle.std.specs.Prelude.{List, [], ◌∷◌, ◌++◌, length, map, flat_map, take, replicate}
 use Rattle.std.specs.Prelude.{Option, Some, None, is_some, option_to_list, option_map}
 use Rattle.std.specs.List.{list_all}
 use Rattle.tangle_lines.specs.declared.origin.Origin.{Origin}
@@ -33,10 +33,11 @@ use Rattle.tangle_scan.specs.Rules.{would_merge, full_stop}
 use Rattle.tangle_scan.specs.Rules.{has_join}
 use Rattle.tangle_scan.specs.Rules.{without_joins, left_of_run, blanks, is_open, is_continued, at_line_front}
 use Rattle.tangle_scan.specs.Rules.{texts_of, span_text, span_item, next_line}
-use Rattle.tangle_lexer.specs.Runs.{is_run, part_token, unfolded, IsRunIn}
+use Rattle.tangle_lexer.specs.Runs.{is_run, part_token}
 use Rattle.tangle_lexer.specs.SpanBytes.{first_byte, last_byte, ends_in, ends_in_backslash}
 use Rattle.tangle_scan.specs.declared.texts.TextSize.{TextSize}
-use Rattle.tangle_scan.specs.Texts.{TextRead, IsTextOf}
+use Rattle.tangle_scan.specs.Texts.{TextRead, IsTextOf, part_item}
+pub use Rattle.tangle_scan.specs.Web.{last_of, last_token}
 use Rattle.tangle_scan.specs.LineTruth.{is_expected, counted_after_line_end}
 use Rattle.tangle_scan.specs.Rules.{macro_blanks, unmarked_items, without_backslashes}
 use Rattle.tangle_scan.specs.Rules.{has_blank_at_line_end, next_item, is_name_part}
@@ -329,15 +330,6 @@ highest at = max at.counted.line at.start.counted.line
 
 -- Tokens as the lexer read them, some of them runs, and the tokens that they stand for.
 
--- the last token of these parts, or this one if there are none
-abbrev pub last_of : Token → List RunPart → Token
-last_of e [] = e
-last_of e (p ∷ ps) = last_of (part_token p) ps
-
-abbrev pub last_token : List (List ℕ) → Token → Token
-last_token texts (token.Run s) = last_of token.White (run_parts texts s)
-last_token texts e = e
-
 abbrev pub first_of : List RunPart → Token
 first_of [] = token.White
 first_of (p ∷ ps) = part_token p
@@ -354,23 +346,20 @@ abbrev pub are_name_parts : List (List ℕ) → Token → Bool
 are_name_parts texts (token.Run s) = are_words (run_parts texts s)
 are_name_parts texts e = is_name_part e
 
--- a token of which something is written in a macro
-abbrev pub is_written : Token → Bool
-is_written (token.Span kind s) = true
-is_written (token.Run s) = true
-is_written (token.QuoteBreak line) = true
-is_written (token.AsciiConstant value line) = true
-is_written token.White = true
-is_written (token.LineEnd line) = true
-is_written _ = false
+-- the items that are written in a macro for a token, which may be a run
+abbrev pub written_items : List (List ℕ) → Token → List Item
+written_items texts (token.Run s) = map part_item (run_parts texts s)
+written_items texts token.White = item.Blank ∷ []
+written_items texts (token.LineEnd line) = item.LineEnd ∷ []
+written_items texts e = option_to_list (item_of e)
 
-pub record IsWritten (texts : List (List ℕ)) (e : Token) : Type 0 where
-  pub written : is_written e ≡ true
-  pub run : IsRunIn texts e
-
--- the items that are written for spaced tokens of a macro
 abbrev pub spaced_items : List (List ℕ) → List Token → List Item
-spaced_items texts tokens = unmarked_items (unfolded texts tokens)
+spaced_items texts tokens = flat_map (written_items texts) tokens
+
+-- a blank or none, and this number of line ends
+abbrev pub gap_tokens : Bool → ℕ → List Token
+gap_tokens blank ends =
+    (if blank then token.White ∷ [] else []) ++ replicate ends (token.LineEnd 0)
 
 -- the joins, white space and line ends before the first item of these tokens
 abbrev pub gap_before : List Token → List Token
@@ -403,6 +392,13 @@ abbrev pub is_spaced : List (List ℕ) → Bool → Token → List Token → Boo
 is_spaced texts first before [] = false
 is_spaced texts first before (token.Fault kind line ∷ es) = is_spaced texts first before es
 is_spaced texts first before (e ∷ es) = needs_space texts first before e
+
+-- the same of an item or a run, and of one that is directly after it, if one is
+abbrev pub is_spaced_in_run : List (List ℕ) → Bool → Token → List Token → Bool
+is_spaced_in_run texts first before [] = false
+is_spaced_in_run texts first before (e ∷ es) =
+    first && not (may_follow_name texts (first_token texts e))
+    || would_merge_in_run texts before e
 
 -- what rules 1 and 2 leave of the gap between an item and the next one
 abbrev pub left_gap : List (List ℕ) → Bool → Token → List Token → List Token

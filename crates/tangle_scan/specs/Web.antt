@@ -15,8 +15,8 @@ use Rattle.tangle_lexer.specs.declared.tokens.Token.TheVariants as token
 use Rattle.tangle_lexer.specs.Lexemes.{OccurrenceOnLine}
 use Rattle.tangle_text.specs.declared.spans.Span.{Span}
 use Rattle.tangle_text.specs.declared.runs.RunPart.{RunPart}
-use Rattle.tangle_text.specs.declared.runs.RunPart.TheVariants as part
 use Rattle.tangle_text.specs.Runs.{run_parts}
+use Rattle.tangle_lexer.specs.Runs.{part_token}
 use Rattle.tangle_lexer.specs.declared.tokens.SpanKind.TheVariants as span_kind
 use Rattle.tangle_lexer.specs.Heads.{is_head}
 use Rattle.tangle_lexer.specs.LinesOfParts.{body, is_between_items}
@@ -131,17 +131,23 @@ module _ (lines : List SourceLine) where
   abbrev pub macro_of : Block → List (List Item)
   macro_of b = kind_macro b.kind b
 
+-- the last token of these parts, or this one if there are none
+abbrev pub last_of : Token → List RunPart → Token
+last_of e [] = e
+last_of e (p ∷ ps) = last_of (part_token p) ps
+
+-- the last of the tokens that a token stands for
+abbrev pub last_token : List (List ℕ) → Token → Token
+last_token texts (token.Run s) = last_of token.White (run_parts texts s)
+last_token texts e = e
+
+abbrev pub word_of : Token → Option Span
+word_of (token.Span span_kind.Word s) = Some s
+word_of _ = None
+
 -- the word with which a token ends, if it ends with one
-
-abbrev pub last_word : Option Span → List RunPart → Option Span
-last_word word [] = word
-last_word word (part.Word s ∷ ps) = last_word (Some s) ps
-last_word word (p ∷ ps) = last_word None ps
-
 abbrev pub word_at_end : List (List ℕ) → Token → Option Span
-word_at_end texts (token.Span span_kind.Word s) = Some s
-word_at_end texts (token.Run s) = last_word None (run_parts texts s)
-word_at_end texts _ = None
+word_at_end texts e = word_of (last_token texts e)
 
 -- the quoted text that begins next, or its first part; its own faults may be before it
 abbrev pub quoted_ahead : List Token → Option Span

@@ -1,7 +1,8 @@
 //! The bytes of macros.
 ghost use Rattle.std.specs.Prelude.{◌≡◌, ◌++◌, ◌∷◌, [], flat_map, OnOk};
 ghost use Rattle.std.specs.List.{All};
-ghost use Rattle.tangle_scan.specs.Passes.{spaced_items, IsWritten};
+ghost use Rattle.tangle_lexer.specs.Runs.{IsRunIn};
+ghost use Rattle.tangle_scan.specs.Passes.{spaced_items, written_items};
 ghost use Rattle.tangle_scan.specs.MacroBytes as spec;
 ghost use Rattle.tangle_scan.specs.Rules.{texts_of};
 
@@ -12,9 +13,8 @@ use tangle_lines::{NoMemory, Source};
 
 /// Adds the bytes of a token of a macro. A line end gets a backslash before it.
 fn push_token(bytes: &mut Vec<u8>, source: &Source, token: Token) -> Result<(), NoMemory>
-    requires { IsWritten (texts_of source.now.lines) token }
     ensures { OnOk result (let texts = texts_of source.now.lines in bytes.new.items ≡ bytes.old.items
-        ++ flat_map (spec.macro_item_bytes texts) (spaced_items texts (token ∷ []))) }
+        ++ flat_map (spec.macro_item_bytes texts) (written_items texts token)) }
 {
     match token {
         Token::Span(_, span) => bytes.extend_from_slice(span_bytes(source, span))?,
@@ -30,25 +30,24 @@ fn push_token(bytes: &mut Vec<u8>, source: &Source, token: Token) -> Result<(), 
     Ok(())
 }
 
-/// Whether a token is white space, a line end or a backslash. These are not written at the end of a
-/// macro: after a macro that ends in a backslash, a C compiler would read the next macro as a part
-/// of it.
+/// Whether a token is white space, a line end, a backslash or no item. These are not written at the
+/// end of a macro: after a macro that ends in a backslash, a C compiler would read the next macro as
+/// a part of it.
 fn is_dropped_at_end(source: &Source, token: Token) -> bool
     ensures { result ≡ spec.is_dropped_token (texts_of source.now.lines) token }
 {
     match token {
-        Token::White | Token::LineEnd(_) => true,
         Token::Span(SpanKind::Sign, span) => first_byte(source, span) == b'\\',
-        _ => false,
+        Token::Span(..) | Token::Run(_) | Token::QuoteBreak(_) | Token::AsciiConstant(..) => false,
+        _ => true,
     }
 }
 
 /// The tokens up to the last one that is no white space, line end or backslash.
 fn without_end<'t>(source: &Source, tokens: &'t [Token]) -> &'t [Token]
-    requires { All (IsWritten (texts_of source.now.lines)) tokens.now }
-    ensures items { let texts = texts_of source.now.lines in
+    requires { All (IsRunIn (texts_of source.now.lines)) tokens.now }
+    ensures { let texts = texts_of source.now.lines in
         spaced_items texts result.now ≡ spec.without_end texts (spaced_items texts tokens.now) }
-    ensures written { All (IsWritten (texts_of source.now.lines)) result.now }
 {
     let mut left = tokens;
     while let Some((last, front)) = left.split_last() {
@@ -68,7 +67,7 @@ pub(crate) fn push_macro(
     source: &Source,
     tokens: &[Token],
 ) -> Result<(), NoMemory>
-    requires { All (IsWritten (texts_of source.now.lines)) tokens.now }
+    requires { All (IsRunIn (texts_of source.now.lines)) tokens.now }
     ensures { OnOk result (let texts = texts_of source.now.lines in bytes.new.items
         ≡ bytes.old.items ++ spec.macro_bytes texts (spaced_items texts tokens.now)) }
 {

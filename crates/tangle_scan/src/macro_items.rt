@@ -1,10 +1,10 @@
 //! The items of a macro, in one pass over its tokens, in which a run stands for its first and its
-//! last item. The gap between two items is what joins, white space and line ends are there. What is left of it is added with the second item. White
-//! space goes between a word and an ASCII constant that touch, in either order, between two
-//! constants that touch, and after the name. Nothing is left of a gap that has a join. A C compiler
-//! takes out all line ends of a macro. So where line ends keep two items apart, a blank goes before
-//! the line ends if the two may not touch, or if the first ends the macro's name. A backslash of
-//! the author's before a line end is dropped.
+//! last item. The gap between two items is what joins, white space and line ends are there. What is
+//! left of it is added with the second item. White space goes between a word and an ASCII constant
+//! that touch, in either order, between two constants that touch, and after the name. Nothing is
+//! left of a gap that has a join. A C compiler takes out all line ends of a macro. So where line
+//! ends keep two items apart, a blank goes before the line ends if the two may not touch, or if the
+//! first ends the macro's name. A backslash of the author's before a line end is dropped.
 ghost use Rattle.std.specs.Prelude.{◌≡◌, ◌≤◌, ◌<◌, ◌+◌, ◌^◌, ◌++◌, ◌∷◌, [], true, false, ◌&&◌, ℕ};
 ghost use Rattle.std.specs.Prelude.{List, replicate, length, IfOk, IfSome, OnOk};
 ghost use Rattle.std.specs.List.{All};
@@ -12,13 +12,13 @@ ghost use Rattle.tangle_scan.specs.Rules as rules;
 ghost use Rattle.tangle_scan.specs.Rules.{texts_of};
 ghost use Rattle.tangle_scan.specs.Passes as passes;
 ghost use Rattle.tangle_scan.specs.Passes.{items_ahead, blank_if, gap_of, gap_before, from_item, left_gap};
-ghost use Rattle.tangle_scan.specs.Passes.{spaced_items, plain_state, IsWritten};
+ghost use Rattle.tangle_scan.specs.Passes.{gap_tokens, plain_state, spaced_items};
 ghost use Rattle.tangle_lexer.specs.Runs.{is_run, first_is_alone, unfolded, unfolded_token, IsRunIn};
 ghost use Rattle.tangle_scan.specs.declared.items.Item.TheVariants as item;
 ghost use Rattle.tangle_lexer.specs.declared.tokens.Token.{Token as TokenRead};
 
 use crate::runs::{are_words, first_token, last_token};
-use crate::touching::{first_byte, may_touch, would_merge};
+use crate::touching::{first_byte, may_touch, would_merge_in_run};
 use std::alloc::Global;
 use tangle_lexer::{SpanKind, Token};
 use tangle_lines::{NoMemory, Source};
@@ -66,58 +66,29 @@ fn read_gap(tokens: &[Token]) -> (Gap, &[Token])
 
 /// Whether a token may follow the name of a macro without white space.
 fn may_follow_name(source: &Source, token: Token) -> bool
-    requires { IsRunIn (texts_of source.now.lines) token }
-    ensures { result ≡ rules.may_follow_name (texts_of source.now.lines)
-        (passes.first_token (texts_of source.now.lines) token) }
+    ensures { result ≡ rules.may_follow_name (texts_of source.now.lines) token }
 {
     match token {
         Token::White | Token::LineEnd(_) | Token::InnerLineEnd(_) | Token::Join => true,
         Token::Span(SpanKind::Sign, span) => first_byte(source, span) == b'(',
-        Token::Run(span) => first_byte(source, span) == b'(',
         _ => false,
     }
 }
 
-fn is_constant(token: Token) -> bool
-    ensures { result ≡ rules.is_constant token }
-{
-    matches!(token, Token::AsciiConstant(..))
-}
-
-/// Whether two items or runs would be read as one number with nothing between them.
-fn would_merge_with(source: &Source, before: Token, token: Token) -> bool
-    requires before { IsRunIn (texts_of source.now.lines) before }
-    requires run { IsRunIn (texts_of source.now.lines) token }
-    ensures { let texts = texts_of source.now.lines in result
-        ≡ rules.would_merge texts (passes.last_token texts before) (passes.first_token texts token) }
-{
-    (is_constant(before) || is_constant(token))
-        && would_merge(
-            source,
-            last_token(source, before),
-            first_token(source, token),
-        )
-}
-
-/// Whether white space goes between an item and the first of these tokens. `is_first`: the item is
-/// the first one of the macro.
+/// Whether white space goes between an item and the first of these tokens, which is directly after
+/// it. `is_first`: the item is the first one of the macro.
 fn is_spaced(source: &Source, is_first: bool, item: Token, tokens: &[Token]) -> bool
-    requires item { IsRunIn (texts_of source.now.lines) item }
-    requires runs { All (IsRunIn (texts_of source.now.lines)) tokens.now }
-    ensures { let texts = texts_of source.now.lines in
-        result ≡ passes.is_spaced texts is_first (passes.last_token texts item)
-        (unfolded texts tokens.now) }
+    requires { All (IsRunIn (texts_of source.now.lines)) tokens.now }
+    ensures { result
+        ≡ passes.is_spaced_in_run (texts_of source.now.lines) is_first item tokens.now }
 {
-    for token in tokens {
-        match *token {
-            Token::Fault(_, _) => {}
-            token => {
-                let is_after_name = is_first && !may_follow_name(source, token);
-                return is_after_name | would_merge_with(source, item, token);
-            }
+    match tokens.first() {
+        Some(token) => {
+            is_first && !may_follow_name(source, first_token(source, *token))
+                || would_merge_in_run(source, item, *token)
         }
+        None => false,
     }
-    false
 }
 
 /// What is left of the gap between an item and the next one, and the tokens from the next one on.
@@ -138,7 +109,8 @@ fn gap_after<'t>(
     if gap.has_join {
         return (no_gap(), next);
     }
-    let has_white = gap.has_white | is_spaced(source, is_first, item, rest);
+    let is_empty = gap.line_ends == 0 && !gap.has_white;
+    let has_white = gap.has_white || is_empty && is_spaced(source, is_first, item, next);
     (Gap { has_white, ..gap }, next)
 }
 
@@ -155,25 +127,20 @@ struct MacroState {
     gap: Gap,
 }
 
-/// Whether a token may be a part of the macro's name.
-fn is_name_part(source: &Source, token: Token) -> bool
-    requires { IsRunIn (texts_of source.now.lines) token }
-    ensures { result ≡ passes.are_name_parts (texts_of source.now.lines) token }
-{
-    match token {
-        Token::AsciiConstant(..) | Token::Span(SpanKind::Word | SpanKind::Verbatim, _) => true,
-        Token::Run(span) => are_words(source, span),
-        _ => false,
-    }
-}
-
 /// Whether all items up to this one are the macro's name.
 fn is_in_name(source: &Source, at: MacroState, token: Token) -> bool
     requires { IsRunIn (texts_of source.now.lines) token }
     ensures { result
         ≡ (passes.is_at_name at && passes.are_name_parts (texts_of source.now.lines) token) }
 {
-    at.in_name && at.gap.line_ends == 0 && !at.gap.has_white && is_name_part(source, token)
+    if !at.in_name || at.gap.line_ends != 0 || at.gap.has_white {
+        return false;
+    }
+    match token {
+        Token::AsciiConstant(..) | Token::Span(SpanKind::Word | SpanKind::Verbatim, _) => true,
+        Token::Run(span) => are_words(source, span),
+        _ => false,
+    }
 }
 
 /// Whether a token is a backslash before a line end. `gap` is left of the gap after it.
@@ -207,53 +174,14 @@ fn has_blank(source: &Source, at: MacroState, token: Token) -> bool
 
 /// Adds what is left of a gap: a blank, and line ends, of which only the number counts.
 fn push_gap(spaced: &mut Vec<Token>, has_blank: bool, line_ends: usize) -> Result<(), NoMemory>
-    ensures items { OnOk result ((texts : List (List ℕ)) → spaced_items texts spaced.new.items
-        ≡ spaced_items texts spaced.old.items
-        ++ (blank_if has_blank ++ replicate line_ends item.LineEnd)) }
-    ensures written { OnOk result ((texts : List (List ℕ)) → All (IsWritten texts) spaced.old.items
-        → All (IsWritten texts) spaced.new.items) }
+    ensures { OnOk result (spaced.new.items
+        ≡ spaced.old.items ++ gap_tokens has_blank line_ends) }
 {
     if has_blank {
         spaced.push(Token::White)?;
     }
     for _ in 0..line_ends {
         spaced.push(Token::LineEnd(0))?;
-    }
-    Ok(())
-}
-
-/// Whether something is written for a token of a macro.
-fn is_written(token: Token) -> bool
-    ensures { result ≡ passes.is_written token }
-{
-    match token {
-        Token::Span(..) | Token::Run(_) | Token::QuoteBreak(_) | Token::AsciiConstant(..) => true,
-        Token::White | Token::LineEnd(_) => true,
-        _ => false,
-    }
-}
-
-/// Adds an item or a run, and what is left of the gap before it.
-fn push_item(
-    source: &Source,
-    spaced: &mut Vec<Token>,
-    at: MacroState,
-    token: Token,
-) -> Result<(), NoMemory>
-    requires solid { passes.is_solid token ≡ true }
-    requires item { IfSome at.item (IsRunIn (texts_of source.now.lines)) }
-    requires run { IsRunIn (texts_of source.now.lines) token }
-    ensures items { OnOk result (let texts = texts_of source.now.lines in
-        spaced_items texts spaced.new.items ≡ spaced_items texts spaced.old.items
-        ++ ((blank_if (passes.has_blank texts at.in_name (plain_state texts at).item at.gap
-        (passes.first_token texts token)) ++ replicate at.gap.line_ends item.LineEnd)
-        ++ spaced_items texts (token ∷ []))) }
-    ensures written { OnOk result (All (IsWritten (texts_of source.now.lines)) spaced.old.items
-        → All (IsWritten (texts_of source.now.lines)) spaced.new.items) }
-{
-    push_gap(spaced, has_blank(source, at, token), at.gap.line_ends)?;
-    if is_written(token) {
-        spaced.push(token)?;
     }
     Ok(())
 }
@@ -278,8 +206,8 @@ fn add_token(
         ++ items_ahead texts (plain_state texts next) (from_item rest)
         ≡ spaced_items texts spaced.old.items
         ++ items_ahead texts (plain_state texts at) (unfolded_token texts token ++ rest)) }
-    ensures written { OnOk result (All (IsWritten (texts_of source.now.lines)) spaced.old.items
-        → All (IsWritten (texts_of source.now.lines)) spaced.new.items) }
+    ensures runs { OnOk result (All (IsRunIn (texts_of source.now.lines)) spaced.old.items
+        → All (IsRunIn (texts_of source.now.lines)) spaced.new.items) }
     ensures next { IfOk result (λ next. (next.is_first ≡ false)
         × IfSome next.item (IsRunIn (texts_of source.now.lines))) }
     ensures count { IfOk result
@@ -297,7 +225,8 @@ fn add_token(
             ..at
         });
     }
-    push_item(source, spaced, at, token)?;
+    push_gap(spaced, has_blank(source, at, token), at.gap.line_ends)?;
+    spaced.push(token)?;
     Ok(MacroState {
         is_first: false,
         item: Some(token),
@@ -324,8 +253,8 @@ pub fn tokens_of_macro(
     requires alone { first_is_alone tokens.now ≡ true }
     ensures items { IfOk result (λ spaced. let texts = texts_of source.now.lines in
         spaced_items texts spaced.items ≡ rules.macro_items texts (unfolded texts tokens.now)) }
-    ensures written { IfOk result
-        (λ spaced. All (IsWritten (texts_of source.now.lines)) spaced.items) }
+    ensures runs { IfOk result
+        (λ spaced. All (IsRunIn (texts_of source.now.lines)) spaced.items) }
 {
     // Nothing is left of the gap before the first item.
     let (_, mut left) = read_gap(tokens);

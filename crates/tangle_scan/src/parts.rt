@@ -33,12 +33,12 @@ use crate::faults::add_faults_if;
 use crate::items::OccurrenceNumber;
 use crate::raw_strings::begins_after_r;
 use crate::texts::{ItemKind, PartText, TextSize};
-use crate::touching::{first_byte, last_byte, span_bytes, would_merge};
+use crate::touching::{first_byte, last_byte, span_bytes, would_merge_in_run};
 use crate::turns::{Turn, is_whole, turn_after, turn_after_line_end, turn_after_run};
 use std::alloc::Global;
 use tangle_lexer::{SpanKind, Token};
 use tangle_lines::{Fault, NoMemory, Origin, Source};
-use tangle_text::{Span, is_word_byte};
+use tangle_text::Span;
 
 /// The origin that a C compiler counts at a position, by the marks and line ends before it.
 #[derive(Clone, Copy)]
@@ -270,25 +270,6 @@ fn push_mark(source: &Source, text: &mut PartText, line: u32) -> Result<CountedO
     Ok(counted_at(origin))
 }
 
-/// Whether a number beside a run that begins or ends with this byte would be read as one with it.
-fn is_merging_byte(byte: u8) -> bool
-    ensures { result ≡ passes.is_merging_byte byte }
-{
-    is_word_byte(byte) || byte == b'.' || byte == b'\\'
-}
-
-/// Whether two tokens, which may be runs, would be read as one with nothing between them.
-#[inline(always)]
-fn would_merge_in_run(source: &Source, before: Token, token: Token) -> bool
-    ensures { result ≡ passes.would_merge_in_run (texts_of source.now.lines) before token }
-{
-    match (before, token) {
-        (Token::AsciiConstant(..), Token::Run(span)) => is_merging_byte(first_byte(source, span)),
-        (Token::Run(span), Token::AsciiConstant(..)) => is_merging_byte(last_byte(source, span)),
-        _ => would_merge(source, before, token),
-    }
-}
-
 /// Whether a token is a sign or a verbatim text that ends in this byte.
 #[inline(always)]
 fn ends_in(source: &Source, token: Token, byte: u8) -> bool
@@ -413,15 +394,6 @@ fn note_gap(text: &PartText, at: &mut PartState)
     }
 }
 
-/// Notes a line end inside a comment or a control text of a directive. It is white space, and no
-/// line end of the C: the count stays.
-#[inline(always)]
-fn note_inner_line_end(at: &mut PartState)
-    ensures { at.new ≡ record at.old { has_white = true } }
-{
-    at.has_white = true;
-}
-
 /// Adds the item for the end of a source line, which no join before it in its gap removes.
 #[inline(always)]
 fn add_line_end(
@@ -522,12 +494,9 @@ fn add_token(
         || raw.may_have_fault (texts_of source.now.lines) token.now)) }
 {
     match *token {
-        Token::White => {
+        // A line end inside a comment or a control text of a directive is no line end of the C.
+        Token::White | Token::InnerLineEnd(_) => {
             at.has_white = true;
-            Ok(())
-        }
-        Token::InnerLineEnd(_) => {
-            note_inner_line_end(at);
             Ok(())
         }
         Token::LineEnd(line) => {

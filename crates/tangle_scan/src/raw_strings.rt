@@ -1,20 +1,18 @@
 //! Raw strings of C++. CWEB has none: it reads each as a quoted text, which may end elsewhere.
-ghost use Rattle.std.specs.Prelude.{◌≡◌, ◌≤◌, ◌++◌, length, true, None, OnOk};
+ghost use Rattle.std.specs.Prelude.{◌≡◌, ◌≤◌, ◌++◌, length, true, OnOk};
 ghost use Rattle.std.specs.List.{list_all, prefix_len};
-ghost use Rattle.tangle_text.specs.Runs.{run_parts};
-ghost use Rattle.tangle_text.specs.Text.{IsSpan};
 ghost use Rattle.tangle_lexer.specs.Runs.{IsRunIn};
 ghost use Rattle.tangle_scan.specs.RawStrings as raw;
 ghost use Rattle.tangle_scan.specs.Rules.{texts_of};
 ghost use Rattle.tangle_scan.specs.Web as web;
 
 use crate::faults::add_fault;
-use crate::runs::parts_of_run;
+use crate::runs::last_token;
 use crate::touching::{bytes_from, first_byte, source_byte, span_bytes};
 use std::alloc::Global;
 use tangle_lexer::{SpanKind, Token};
 use tangle_lines::{Fault, FaultKind, NoMemory, Source};
-use tangle_text::{Region, RunPart, Span, Unit, is_white, unit_of};
+use tangle_text::{Region, Span, Unit, is_white, unit_of};
 
 /// Whether a word makes a raw string of the quoted text directly after it.
 fn is_raw_prefix(word: &[u8]) -> bool
@@ -130,30 +128,13 @@ fn is_cut(source: &Source, word: Span, quoted: Span) -> bool
     !is_whole(bytes_from(source, quoted.line, quoted.start as usize + 1))
 }
 
-/// The last part of a run, if it is a word.
-fn last_word(source: &Source, run: Span) -> Option<Span>
-    requires { IsSpan (texts_of source.now.lines) run }
-    ensures { result ≡ web.last_word None (run_parts (texts_of source.now.lines) run) }
-{
-    let mut parts = parts_of_run(source, run);
-    let mut word = None;
-    while let Some(part) = parts.next() {
-        word = match part {
-            RunPart::Word(span) => Some(span),
-            _ => None,
-        };
-    }
-    word
-}
-
 /// The word with which a token ends, if it ends with one.
 fn word_at_end(source: &Source, token: Token) -> Option<Span>
     requires { IsRunIn (texts_of source.now.lines) token }
     ensures { result ≡ web.word_at_end (texts_of source.now.lines) token }
 {
-    match token {
+    match last_token(source, token) {
         Token::Span(SpanKind::Word, span) => Some(span),
-        Token::Run(span) => last_word(source, span),
         _ => None,
     }
 }

@@ -1,12 +1,13 @@
 //! Which items may touch.
 ghost use Rattle.std.specs.Prelude.{◌≡◌, ◌<◌, ◌^◌, drop, get_or, length, []};
 ghost use Rattle.tangle_lexer.specs.SpanBytes as span_bytes;
+ghost use Rattle.tangle_scan.specs.Passes as passes;
 ghost use Rattle.tangle_scan.specs.Rules as rules;
 ghost use Rattle.tangle_scan.specs.Rules.{texts_of};
 
 use tangle_lexer::{SpanKind, Token};
 use tangle_lines::Source;
-use tangle_text::Span;
+use tangle_text::{Span, is_word_byte};
 
 /// How a C compiler may join an item to its neighbour if no white space is between the two.
 #[derive(Clone, Copy)]
@@ -104,13 +105,32 @@ fn is_character(source: &Source, token: Token) -> bool
 /// Whether two tokens, of which one is an ASCII constant, would be read as one number with nothing
 /// between them.
 #[inline(always)]
-pub(crate) fn would_merge(source: &Source, before: Token, token: Token) -> bool
+fn would_merge(source: &Source, before: Token, token: Token) -> bool
     ensures { result ≡ rules.would_merge (texts_of source.now.lines) before token }
 {
     match (before, token) {
         (Token::AsciiConstant(..), _) => { may_merge(source, token) || is_character(source, token) }
         (_, Token::AsciiConstant(..)) => may_merge(source, before),
         _ => false,
+    }
+}
+
+/// Whether a number beside a run that begins or ends with this byte would be read as one with it.
+fn is_merging_byte(byte: u8) -> bool
+    ensures { result ≡ passes.is_merging_byte byte }
+{
+    is_word_byte(byte) || byte == b'.' || byte == b'\\'
+}
+
+/// Whether two tokens, which may be runs, would be read as one with nothing between them.
+#[inline(always)]
+pub(crate) fn would_merge_in_run(source: &Source, before: Token, token: Token) -> bool
+    ensures { result ≡ passes.would_merge_in_run (texts_of source.now.lines) before token }
+{
+    match (before, token) {
+        (Token::AsciiConstant(..), Token::Run(span)) => is_merging_byte(first_byte(source, span)),
+        (Token::Run(span), Token::AsciiConstant(..)) => is_merging_byte(last_byte(source, span)),
+        _ => would_merge(source, before, token),
     }
 }
 

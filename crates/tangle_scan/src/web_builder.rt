@@ -7,7 +7,7 @@ ghost use Rattle.tangle_scan.specs.Rules as rules;
 ghost use Rattle.tangle_scan.specs.Web as web;
 ghost use Rattle.tangle_lexer.specs.Heads.{is_head};
 ghost use Rattle.tangle_lexer.specs.Runs.{unfolded, first_is_alone, IsRunIn};
-ghost use Rattle.tangle_scan.specs.Passes.{spaced_items, IsWritten};
+ghost use Rattle.tangle_scan.specs.Passes.{spaced_items};
 ghost use Rattle.tangle_lexer.specs.declared.tokens.Token.{Token as TokenRead};
 ghost use Rattle.tangle_lexer.specs.declared.tokens.Token.TheVariants as token;
 ghost use Rattle.tangle_scan.specs.MacroBytes.{macro_bytes};
@@ -30,17 +30,25 @@ use tangle_lines::{Fault, FaultKind, NoMemory, Source};
 
 /// Whether the spaced tokens of a macro begin with an identifier, as they have to.
 pub fn is_macro(source: &Source, tokens: &[Token]) -> bool
-    requires { All (IsWritten (texts_of source.now.lines)) tokens.now }
+    requires { All (IsRunIn (texts_of source.now.lines)) tokens.now }
     ensures { result ≡ rules.is_macro (texts_of source.now.lines)
         (spaced_items (texts_of source.now.lines) tokens.now) }
 {
-    let Some(first) = tokens.first() else {
-        return false;
-    };
-    match first_token(source, *first) {
-        Token::Span(SpanKind::Word, span) => !first_byte(source, span).is_ascii_digit(),
-        _ => false,
+    for token in tokens {
+        match first_token(source, *token) {
+            Token::Span(SpanKind::Word, span) => {
+                return !first_byte(source, span).is_ascii_digit();
+            }
+            Token::Span(..)
+            | Token::QuoteBreak(_)
+            | Token::AsciiConstant(..)
+            | Token::White
+            | Token::LineEnd(_) => return false,
+            // No other token is an item.
+            _ => {}
+        }
     }
+    false
 }
 
 /// What was gathered of a web so far, block by block.

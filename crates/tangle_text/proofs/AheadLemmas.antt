@@ -21,13 +21,8 @@ length-line_text line column (b ∷ bs) = omega (arith, length-line_text line (c
 length-text_from : (line : ℕ) (ls : List SourceLine) → All IsShort ls → length (text_from line ls) ≤ 65536 * length ls
 length-text_from line [] short = omega arith
 length-text_from line (l ∷ ls) short =
-    omega (
-      arith,
-      length-append (line_text line 0 l.bytes) (text_from (line + 1) ls),
-      length-line_text line 0 l.bytes,
-      All-head IsShort l ls short,
-      length-text_from (line + 1) ls (All-tail IsShort l ls short),
-    )
+    let more = length-text_from (line + 1) ls (All-tail IsShort l ls short) in
+    grind (arith, length-append, length-line_text, All-head IsShort l ls short, more)
 
 pub text_is_short : (ls : List SourceLine) → length ls ≤ source_line_limit → All IsShort ls
     → length (text_from 0 ls) < 2 ^ 63

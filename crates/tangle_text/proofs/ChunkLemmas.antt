@@ -2,15 +2,15 @@
 use Rattle.std.proofs.Common.{rules}
 use Rattle.std.proofs.lemmas.Bool.Decides.{nat_tests}
 use Rattle.std.proofs.Common.{◌≡◌, ◌<◌, ◌≤◌, ℕ, ◌+◌, ◌-◌, zero, suc, Bool, false, List, [], ◌∷◌, ◌++◌, Option, Some}
-use Rattle.std.proofs.Common.{take, drop, length, get_or, refl, ap, sym, ◌∙◌, arith, nat_eq, length-drop}
+use Rattle.std.proofs.Common.{take, drop, length, get_or, refl, sym, ◌∙◌, arith, nat_eq, length-drop}
 use Rattle.std.proofs.lemmas.Bool.{ne_eqb}
 use Rattle.std.proofs.lemmas.List.{get_or-drop}
 use Rattle.tangle_lines.specs.Reading.{SourceLine}
 use Rattle.tangle_text.specs.declared.regions.Region.{Region}
 use Rattle.tangle_text.specs.declared.regions.Region.TheVariants as region
 use Rattle.tangle_text.specs.declared.regions.Unit.TheVariants as unit
-use Rattle.tangle_text.specs.Text.{Cell, line_text, byte_at}
-use Rattle.tangle_text.specs.Regions.{unit_of, region_end, more_by, unless_stop}
+use Rattle.tangle_text.specs.Text.{Cell, line_text}
+use Rattle.tangle_text.specs.Regions.{unit_of, region_end}
 use Rattle.tangle_text.specs.NameBytes.{BeginsName}
 use Rattle.tangle_text.specs.Ahead.{rest_of}
 use Rattle.tangle_text.proofs.RegionLemmas.{region_end-one}
@@ -34,11 +34,8 @@ units-line : (line column : ℕ) (bs : List ℕ) (rest : List Cell) (n : ℕ)
 units-line line column bs rest zero h other = refl
 units-line line column [] rest (suc n) h other = absurd (omega arith)
 units-line line column (b ∷ bs) rest (suc n) h other =
-    let cs = line_text line (column + 1) bs ++ rest in
-    let c : Cell = record { line = line; column = column; byte = Some b } in
-    ap (λ u. unless_stop u (name_bytes_of u c (byte_at 0 cs) ++ from_units name_bytes_of region.Name (more_by u) cs))
-    (in-name b (byte_at 0 cs) (ne_eqb b 64 (other 0 (omega arith)))) ∙ ap (λ l. b ∷ l)
-    (units-line line (column + 1) bs rest n (omega arith) (λ k lt. other (suc k) (omega arith)))
+    let more = units-line line (column + 1) bs rest n (omega arith) (λ k lt. other (suc k) (omega arith)) in
+    grind (arith, nat_tests, ne_eqb b 64 (other 0 (omega arith)), more)
 
 end-line : (r : Region) → PassesAll r → (line column : ℕ) (bs : List ℕ) (rest : List Cell) (n : ℕ)
     → n ≤ length bs → ((k : ℕ) → k < n → get_or bs k 0 ≡ 64 → ⊥)
@@ -46,10 +43,8 @@ end-line : (r : Region) → PassesAll r → (line column : ℕ) (bs : List ℕ) 
 end-line r one line column bs rest zero h other = refl
 end-line r one line column [] rest (suc n) h other = absurd (omega arith)
 end-line r one line column (b ∷ bs) rest (suc n) h other =
-    let cs = line_text line (column + 1) bs ++ rest in
-    let c : Cell = record { line = line; column = column; byte = Some b } in
-    end-line r one line (column + 1) bs rest n (omega arith) (λ k lt. other (suc k) (omega arith))
-    ∙ sym (region_end-one r (c ∷ cs) (one b (byte_at 0 cs) (ne_eqb b 64 (other 0 (omega arith)))))
+    let more = end-line r one line (column + 1) bs rest n (omega arith) (λ k lt. other (suc k) (omega arith)) in
+    grind (arith, nat_tests, one b, region_end-one, ne_eqb b 64 (other 0 (omega arith)), more)
 
 -- the text ahead after a range of a line that has no `@`
 module _ (lines : List SourceLine) (bytes : List ℕ) (line column end : ℕ) (low : column ≤ end)

@@ -1,6 +1,6 @@
 -- Ordinary bytes, which have no meaning, are skipped one by one.
 use Rattle.std.proofs.lemmas.Bool.Decides.{nat_tests}
-use Rattle.std.proofs.Common.{◌≡◌, ℕ, ◌+◌, zero, suc, Bool, true, false, not, ◌||◌, List, [], ◌∷◌, ◌++◌}
+use Rattle.std.proofs.Common.{◌≡◌, ℕ, ◌+◌, zero, suc, true, List, [], ◌∷◌, ◌++◌}
 use Rattle.std.proofs.Common.{drop, refl, arith, inl, inr}
 use Rattle.std.proofs.lemmas.Bool.{cases_Bool}
 use Rattle.std.specs.List.{prefix_len}
@@ -8,9 +8,6 @@ use Rattle.tangle_text.specs.declared.regions.Region.{Region}
 use Rattle.tangle_text.specs.Text.{Cell, line_text}
 use Rattle.tangle_text.specs.Regions.{region_end, is_ordinary, AreOrdinary, skips_ordinary}
 use Rattle.tangle_text.proofs.RegionLemmas.{region_end-one}
-
-pub or-false : (a b : Bool) → not (a || b) ≡ true → (not a ≡ true) × (b ≡ false)
-or-false a b h = grind (arith, nat_tests)
 
 pub region_end-ordinary : (r : Region) → skips_ordinary r ≡ true → (n : ℕ) (text : List Cell)
     → AreOrdinary n text → region_end r (drop n text) ≡ region_end r text

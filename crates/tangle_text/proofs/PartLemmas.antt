@@ -1,22 +1,18 @@
 -- The parts of runs: each begins where the one before it ends.
 use Rattle.std.proofs.lemmas.Bool.Decides.{nat_tests}
 use Rattle.std.proofs.Common.{◌≡◌, ℕ, ◌+◌, ◌<◌, ◌≤◌, zero, suc, Bool, List, [], ◌∷◌, length, take, drop, get_or}
-use Rattle.std.proofs.Common.{refl, ap, ◌∙◌, arith, drop-drop, ◌==◌, ◌&&◌, not}
+use Rattle.std.proofs.Common.{refl, arith, drop-drop, ◌==◌, ◌&&◌, not}
 use Rattle.std.proofs.lemmas.List.{at_drop_more}
 use Rattle.tangle_text.specs.Bytes.{backslash}
 use Rattle.std.specs.List.{prefix_len}
 use Rattle.std.proofs.lemmas.List.Sums.{prefix_len-le-length}
-use Rattle.tangle_text.specs.Runs.{quote_size, one_more, part_more, part_at, parts_of}
+use Rattle.tangle_text.specs.Runs.{quote_size, part_more, part_at, parts_of}
 
 -- a part ends with the bytes
 
 quote-fits : (close : ℕ) (escaped : Bool) (bs : List ℕ) → quote_size close escaped bs ≤ length bs
 quote-fits close escaped [] = omega arith
-quote-fits close escaped (b ∷ bs) = grind (arith, nat_tests, one_more-fits, quote-fits close (b == backslash && not escaped) bs)
-  where
-    one_more-fits : (n m : ℕ) → n ≤ m → one_more n ≤ suc m
-    one_more-fits zero m h = omega arith
-    one_more-fits (suc n) m h = omega arith
+quote-fits close escaped (b ∷ bs) = grind (arith, nat_tests, quote-fits close (b == backslash && not escaped) bs)
 
 pub part-fits : (b : ℕ) (bs : List ℕ) → part_more b bs ≤ length bs
 part-fits b bs = grind (arith, nat_tests, prefix_len-le-length, quote-fits)
@@ -43,11 +39,9 @@ part-taken b n bs h = grind (arith, nat_tests, prefix-taken, quote-taken)
 
 -- the parts after a part that was begun
 pub parts-after : (line column k : ℕ) (bs : List ℕ) → parts_of line column k bs ≡ parts_of line (column + k) 0 (drop k bs)
-parts-after line column zero bs = ap (λ n. parts_of line n 0 bs) (omega arith)
+parts-after line column zero bs = grind arith
 parts-after line column (suc k) [] = refl
-parts-after line column (suc k) (b ∷ bs) =
-    let next : column + 1 + k ≡ column + suc k = omega arith in
-    parts-after line (column + 1) k bs ∙ ap (λ n. parts_of line n 0 (drop k bs)) next
+parts-after line column (suc k) (b ∷ bs) = grind (arith, parts-after line (column + 1) k bs)
 
 -- the first of the parts from a column of a line on
 pub parts-next : (line column end : ℕ) (bytes : List ℕ) → column < length bytes
@@ -56,9 +50,6 @@ pub parts-next : (line column end : ℕ) (bytes : List ℕ) → column < length 
     ≡ part_at line column (1 + part_more (get_or bytes column 0) (drop (column + 1) bytes)) (get_or bytes column 0)
     ∷ parts_of line end 0 (drop end bytes)
 parts-next line column end bytes h is =
-    let b : ℕ = get_or bytes column 0 in
-    let n : ℕ = part_more b (drop (column + 1) bytes) in
-    at_drop_more (parts_of line column 0) bytes column 0 h
-    ∙ ap (λ l. part_at line column (1 + n) b ∷ l)
-    (parts-after line (column + 1) n (drop (column + 1) bytes)
-    ∙ rw is (ap (parts_of line (column + 1 + n) 0) (drop-drop n (column + 1) bytes)))
+    let bs : List ℕ = drop (column + 1) bytes in
+    let more = parts-after line (column + 1) (part_more (get_or bytes column 0) bs) bs in
+    grind (arith, at_drop_more (parts_of line column 0) bytes column 0 h, more, drop-drop)

@@ -5,8 +5,6 @@ use Rattle.std.proofs.Common.{◌≡◌, ℕ, ◌+◌, ◌≤◌, true, zero, su
 use Rattle.std.proofs.Common.{Some, None, length, take, drop, refl, ap, arith, drop-drop, length-drop}
 use Rattle.std.specs.List.{prefix_len}
 use Rattle.std.proofs.Math.Numerals.{one-add}
-use Rattle.std.proofs.lemmas.Bool.{cases_Bool}
-use Rattle.std.proofs.Common.{inl, inr}
 use Rattle.tangle_lines.specs.Bytes.{is_white}
 use Rattle.tangle_lines.specs.Reading.{SourceLine}
 use Rattle.tangle_text.specs.declared.regions.Region.{Region}
@@ -28,10 +26,7 @@ pub prefix-more : (strict test : ℕ → Bool) → ((b : ℕ) → strict b ≡ t
     → prefix_len test bs ≡ prefix_len strict bs + prefix_len test (drop (prefix_len strict bs) bs)
 prefix-more strict test passes [] = refl
 prefix-more strict test passes (b ∷ bs) =
-    elim (cases_Bool (strict b)) [
-      | inl h ↦ rw (h, passes b h, one-add (prefix_len strict bs)) (omega (arith, prefix-more strict test passes bs))
-      | inr h ↦ rw h (omega arith)
-    ]
+    grind (arith, passes b, one-add (prefix_len strict bs), prefix-more strict test passes bs)
 
 -- the region is a run of bytes that pass a test, and ends at a line end
 pub record IsRunOf (r : Region) (test : ℕ → Bool) : Type 0 where

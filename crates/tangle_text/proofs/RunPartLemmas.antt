@@ -1,8 +1,10 @@
 -- Runs: how many bytes and cells they have.
 use Rattle.std.proofs.lemmas.Bool.Decides.{nat_tests}
 use Rattle.std.proofs.Common.{◌≡◌, ℕ, ◌+◌, ◌<◌, ◌≤◌, zero, suc, Bool, false, List, [], ◌∷◌, ◌++◌}
-use Rattle.std.proofs.Common.{Option, Some, None, ◌||◌, ◌&&◌, ◌==◌, not, true, sym, if◌then◌else◌, cond, length, drop, get_or, slice_get, refl, ap, ◌∙◌, arith}
+use Rattle.std.proofs.Common.{Option, Some, None, ◌||◌, ◌&&◌, ◌==◌, not, sym, if◌then◌else◌, cond, length, drop, get_or, slice_get, refl, ap, ◌∙◌, arith}
 use Rattle.std.proofs.lemmas.List.{at_drop_more, get_or_past}
+use Rattle.std.proofs.lemmas.Bool.{cases_Bool}
+use Rattle.std.proofs.Common.{inl, inr}
 use mir.Val.{bool_byte}
 use Rattle.tangle_files.specs.Bytes.{space}
 use Rattle.tangle_lines.specs.Reading.{SourceLine}
@@ -63,9 +65,5 @@ single_at (b ∷ bs) (suc column) =
 pub blank_at : (bytes : List ℕ) (column : ℕ)
     → bool_byte (holds space (slice_get bytes column)) ≡ (if get_or bytes column 0 == space then 1 else 0)
 blank_at [] column = ap (λ b. if b == space then 1 else 0) (sym (get_or_past {X = ℕ} [] column 0 (omega arith)))
-blank_at (b ∷ bs) zero = by (b == space)
-  where
-    by : (t : Bool) → bool_byte t ≡ (if t then 1 else 0)
-    by true = refl
-    by false = refl
+blank_at (b ∷ bs) zero = elim (cases_Bool (b == space)) [ inl is ↦ rw is refl | inr is ↦ rw is refl ]
 blank_at (b ∷ bs) (suc column) = blank_at bs column

@@ -1,9 +1,7 @@
 -- A reader goes over bytes of its line.
-use Rattle.std.proofs.lemmas.Bool.Decides.{eqb_tells}
-use Rattle.std.proofs.lemmas.Option.{same_Some}
-use Rattle.std.proofs.Common.{inl, inr}
-use Rattle.std.proofs.Common.{◌≡◌, ℕ, ◌+◌, ◌-◌, ◌<◌, ◌≤◌, List, None, Some, ◌==◌}
-use Rattle.std.proofs.Common.{IsSome, false, length, take, drop, refl, sym, arith}
+use Rattle.std.proofs.lemmas.Bool.Decides.{nat_tests}
+use Rattle.std.proofs.Common.{◌≡◌, ℕ, ◌+◌, ◌-◌, ◌<◌, ◌≤◌, List, None, Some}
+use Rattle.std.proofs.Common.{IsSome, length, take, drop, refl, arith}
 use Rattle.tangle_text.specs.declared.reader.Reader.TheInside.{Inside}
 use Rattle.tangle_text.specs.declared.spans.Span.{Span}
 use Rattle.tangle_text.specs.Text.{Cell, byte_at, bytes_of, span_at}
@@ -40,25 +38,13 @@ pub run_count-taken : (r : Inside) (text : List Cell)
 run_count-taken r text is some =
     rw (← is, (at-byte r text is some).done) (run_count-rest r.source.now.lines r.bytes.now r.line r.column)
 
-pub run_at-none : (text : List Cell) → run_count text ≡ 0 → run_at text ≡ None
-run_at-none text h = rw h refl
-
-pub run_at-some : (text : List Cell) → (run_count text == 0) ≡ false
-    → run_at text ≡ Some (span_at (run_count text) text)
-run_at-some text h = rw h refl
-
 -- the run at the front, by its span
 pub record IsRunAt (text : List Cell) (s : Span) : Type 0 where
   pub some : 0 < run_count text
   pub span : s ≡ span_at (run_count text) text
 
 pub run_at-is : (text : List Cell) (s : Span) → run_at text ≡ Some s → IsRunAt text s
-run_at-is text s h =
-    elim (eqb_tells (run_count text) 0) [
-      | inl none ↦ let never = rw none.0 at h in cc
-      | inr some ↦ record { some = omega (arith, some.1); span = sym (same_Some _ _ (rw some.0 at h)) }
-    ]
+run_at-is text s h = grind (arith, nat_tests)
 
 pub run_at-empty : (text : List Cell) → run_at text ≡ None → run_count text ≡ 0
-run_at-empty text h =
-    elim (eqb_tells (run_count text) 0) [ inl none ↦ none.1 | inr some ↦ let never = rw some.0 at h in cc ]
+run_at-empty text h = grind (arith, nat_tests)

@@ -55,9 +55,7 @@ units-give f g r one two last (c ∷ d ∷ cs) =
         → flat_map g (units r cs) ≡ from_units f r 0 cs
         → flat_map g (units_from u c d (units r (d ∷ cs)) (units r cs))
         ≡ unless_stop u (f u c d.byte ++ from_units f r (more_by u) (d ∷ cs))
-    by unit.Stop next further = refl
-    by unit.One next further = rw (one c d.byte, next) refl
-    by unit.Two next further = rw (two c d, further) refl
+    by u next further = grind (arith, one c d.byte, two c d)
 
 -- the bytes of the units of a name
 

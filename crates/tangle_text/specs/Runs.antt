@@ -4,7 +4,7 @@ use Rattle.std.specs.Prelude.{if◌then◌else◌, List, [], ◌∷◌, slice_ge
 use Rattle.std.specs.List.{prefix_len}
 use Rattle.tangle_files.specs.Bytes.{space}
 use Rattle.tangle_lines.specs.Bytes.{at_sign, double_quote, is_white}
-use Rattle.tangle_text.specs.Bytes.{apostrophe, asterisk, slash, backslash, holds, is_word_byte}
+use Rattle.tangle_text.specs.Bytes.{apostrophe, asterisk, slash, backslash, holds, is_digit, is_word_byte}
 use Rattle.tangle_text.specs.Text.{Cell, line_bytes, span_at, span_text}
 use Rattle.tangle_text.specs.Regions.{is_separator}
 use Rattle.tangle_text.specs.declared.spans.Span.{Span}
@@ -43,6 +43,10 @@ passing test (b ∷ bs) = if test b bs then 1 + passing test bs else 0
 -- a number goes over word bytes, and over an apostrophe before one
 abbrev pub is_number_byte : ℕ → List ℕ → Bool
 is_number_byte b bs = is_word_byte b || is_separator (Some b) (slice_get bs 0)
+
+-- the number of bytes of a word after its first byte
+abbrev pub word_size : ℕ → List ℕ → ℕ
+word_size b bs = if is_digit b then passing is_number_byte bs else prefix_len is_word_byte bs
 
 -- parts
 

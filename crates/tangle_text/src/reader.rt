@@ -9,8 +9,8 @@ ghost use Rattle.tangle_text.specs.NameBytes.{BeginsName};
 ghost use Rattle.tangle_text.specs.declared.regions.Region.TheVariants as region;
 ghost use Rattle.tangle_text.specs.Words.{word_more, is_include_word};
 ghost use Rattle.tangle_text.specs.Text.{text_from, byte_at, bytes_of, front_line, front_column};
-ghost use Rattle.tangle_text.specs.Text.{span_at, line_text};
-ghost use Rattle.tangle_text.specs.Runs.{run_at, run_count};
+ghost use Rattle.tangle_text.specs.Text.{span_at};
+ghost use Rattle.tangle_text.specs.Runs.{run_at, run_count, word_size};
 ghost use Rattle.tangle_text.specs.Regions as regions;
 ghost use Rattle.tangle_text.specs.Regions.{count_before, more_by, region_end};
 
@@ -87,7 +87,8 @@ fn at_sign_from(bytes: &[u8], column: usize) -> usize
 #[inline(always)]
 fn whole_word_end(bytes: &[u8], from: usize) -> usize
     requires { from < length bytes.now }
-    ensures end { result ≡ from + 1 + word_more (line_text 0 0 (drop from bytes.now)) }
+    ensures end { result ≡ from + 1
+        + word_size (get_or bytes.now from 0) (drop (from + 1) bytes.now) }
     ensures inside { result ≤ length bytes.now }
 {
     if is_digit(bytes[from]) {

@@ -182,7 +182,8 @@ fn is_quote(byte: u8) -> bool
 /// Whether a quoted text may begin at this column.
 #[inline(always)]
 fn is_at_quote(bytes: &[u8], column: usize) -> bool
-    ensures { result ≡ runs.is_quote (get_or bytes.now column 0) }
+    ensures quote { result ≡ runs.is_quote (get_or bytes.now column 0) }
+    ensures inside { result ≡ true → column < length bytes.now }
 {
     column < bytes.len() && is_quote(bytes[column])
 }

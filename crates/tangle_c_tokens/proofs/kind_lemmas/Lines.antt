@@ -1,14 +1,14 @@
 -- The bytes of spans are those of the cells of a text, of which none is a line feed.
 use Rattle.std.proofs.Common.{◌≡◌, ℕ, zero, suc, ◌+◌, ◌-◌, ◌<◌, ◌≤◌, true, false, List, [], ◌∷◌, ◌++◌}
-use Rattle.std.proofs.Common.{Some, get_or, take, drop, drop-cons, get_or-drop, take-suc, refl, ap, sym, ◌∙◌, arith}
+use Rattle.std.proofs.Common.{Option, Some, None, get_or, take, drop, drop-cons, get_or-drop, take-suc, refl, ap, sym, ◌∙◌, arith}
 use Rattle.std.proofs.Common.{subst}
 use Rattle.std.proofs.Common.{length, length-drop}
 use Rattle.std.proofs.lemmas.List.{length-take-le}
 use Rattle.std.specs.Prelude.{◌==◌}
 use Rattle.tangle_lines.specs.Reading.{SourceLine}
 use Rattle.tangle_text.specs.Bytes.{holds}
-use Rattle.tangle_text.specs.Text.{Cell, byte_at, line_bytes, texts_of}
-use Rattle.tangle_lexer.proofs.laws.Points.{Point, point_at, IsByte, HoldsBytes, IsByteOf, IsTextAt, source_byte, text-next, text-within}
+use Rattle.tangle_text.specs.Text.{Cell, byte_at, bytes_by, line_bytes, texts_of}
+use Rattle.tangle_lexer.proofs.laws.Points.{Point, point_at, IsByte, HoldsBytes, IsTextAt, source_byte, source-is, text-next, text-within}
 use Rattle.c_tokens.specs.Bytes.{line_feed}
 use Rattle.c_tokens.specs.Borders.{has_bytes}
 use Rattle.tangle_c_tokens.specs.LineFeeds.{TextHasNoLineFeed, SourceLinesHaveNoLineFeed}
@@ -45,7 +45,11 @@ module _ (texts : List (List ℕ)) where
 module _ (texts : List (List ℕ)) (clear : AreClear texts) where
   no-feed : (at : Point) (text : List Cell) → IsTextAt texts at text → holds line_feed (byte_at 0 text) ≡ false
   no-feed at [] is = refl
-  no-feed at (c ∷ cs) is = grind (arith, nat_tests, clear c.line c.column, is.0.byte)
+  no-feed at (c ∷ cs) is = by c.byte refl
+    where
+      by : (b : Option ℕ) → c.byte ≡ b → holds line_feed b ≡ false
+      by None e = refl
+      by (Some b) e = subst (λ b. (b == line_feed) ≡ false) (source-is texts at c b e is.0) (clear c.line c.column)
 
   -- a byte of a text, and the text after it
   pub record IsByteAt (c : Cell) (cs : List Cell) (b : ℕ) : Type 0 where
@@ -61,7 +65,7 @@ module _ (texts : List (List ℕ)) (clear : AreClear texts) where
   byte-is at c cs b e is =
       let next = text-next texts at c cs is (subst IsByte (sym e) tt) in
       let within = text-within texts (point_at c.line (c.column + 1)) cs next in
-      let first : source_byte texts c.line c.column ≡ b = subst (IsByteOf texts c) e is.0.byte in
+      let first : source_byte texts c.line c.column ≡ b = source-is texts at c b e is.0 in
       record {
         next = next;
         within = within;
@@ -76,15 +80,16 @@ module _ (texts : List (List ℕ)) (clear : AreClear texts) where
   span-bytes zero at text is h = refl
   span-bytes (suc n) at [] is h = absurd h
   span-bytes (suc n) at (c ∷ cs) is h =
-      grind (
-        arith,
-        nat_tests,
-        byte-is at c cs,
-        span-bytes n
-            (point_at c.line (c.column + 1)) cs,
-        is.0.line,
-        is.0.column,
-      )
+      by c.byte refl (λ next. span-bytes n (point_at c.line (c.column + 1)) cs next h.1)
+    where
+      by : (b : Option ℕ) → c.byte ≡ b
+          → (IsTextAt texts (point_at c.line (c.column + 1)) cs
+          → take n (drop (c.column + 1) (get_or texts c.line [])) ≡ take n (line_bytes cs))
+          → take (suc n) (drop at.column (get_or texts at.line [])) ≡ take (suc n) (bytes_by b (line_bytes cs))
+      by None e more = absurd (subst IsByte e h.0)
+      by (Some b) e more =
+          let here = byte-is at c cs b e is in
+          rw (← is.0.line, ← is.0.column, here.bytes) (ap (λ t. b ∷ t) (more here.next))
 
   -- the bytes from a column on, up to a byte and with it
   pub range-byte : (c : Cell) (cs : List Cell) (b start : ℕ) → IsByteAt c cs b → start ≤ c.column

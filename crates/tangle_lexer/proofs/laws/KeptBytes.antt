@@ -5,9 +5,7 @@ use Rattle.std.proofs.Common.{◌≡◌, ℕ, zero, suc, ◌+◌, Bool, true, fa
 use Rattle.std.proofs.Common.{flat_map, map, refl, ap, sym, ◌∙◌, arith, append_assoc, append-nil}
 use Rattle.std.proofs.Common.{if◌then◌else◌}
 use Rattle.std.proofs.lemmas.Grind.{flat_map-append}
-use Rattle.std.specs.List.{list_any}
 use Rattle.tangle_faults.specs.declared.faults.FaultKind.{FaultKind}
-use Rattle.tangle_faults.specs.declared.faults.FaultKind.TheVariants as fault
 use Rattle.tangle_lexer.specs.declared.tokens.Token.{Token}
 use Rattle.tangle_lexer.specs.declared.tokens.Token.TheVariants as token
 use Rattle.tangle_lexer.specs.declared.modes.Mode.{Mode}
@@ -29,10 +27,11 @@ use Rattle.tangle_lexer.specs.Steps.{c_lexeme, lexeme, lexemes}
 use Rattle.tangle_lexer.specs.Segments.{Segment, segment, span_points, byte_points, kept_points}
 use Rattle.tangle_lexer.specs.Segments.{c_segments, segments_in, segments, text_segments, verbatim_segments}
 use Rattle.tangle_lexer.specs.Segments.SegmentKind.{ControlBytes}
-use Rattle.tangle_lexer.proofs.lemmas.PlainTokens.{is_not_plain}
-use Rattle.tangle_lexer.proofs.lemmas.PlainLexemes.{IsPlainLexeme, use-plain, mention-plain, fault-plain}
-use Rattle.tangle_lexer.proofs.lemmas.PlainLexemes.{kind-plain}
-use Rattle.tangle_lexer.proofs.lemmas.LexemeCases.{OpensLexeme, kind-opens, lexeme-by}
+use Rattle.tangle_lexer.specs.Heads.{is_head}
+use Rattle.tangle_lexer.proofs.lemmas.PlainTokens.{HasNone}
+use Rattle.tangle_lexer.proofs.lemmas.HeadLemmas.{mode_after, lexeme-alone}
+use Rattle.tangle_lexer.proofs.lemmas.BlockLemmas.{no-head}
+use Rattle.tangle_lexer.proofs.lemmas.LexemeCases.{OpensLexeme, kind-opens}
 use Rattle.tangle_lexer.proofs.lemmas.StepLemmas.{lexeme-here}
 use Rattle.tangle_lexer.proofs.laws.Points.{Point, after_cell, HoldsBytes, IsTextAt, text-after}
 use Rattle.tangle_lexer.proofs.laws.RegionOrder.{some-byte, code-bytes}
@@ -51,11 +50,22 @@ part_points within (token.NamedPart line occurrence ∷ us) = part_points true u
 part_points within (token.Span kind s ∷ us) = (if within then span_points s else []) ++ part_points within us
 part_points within (_ ∷ us) = part_points within us
 
--- plain tokens are in one part, or outside of all
-part_points-plain : (within : Bool) (ts us : List Token) → list_any is_not_plain ts ≡ false
+-- tokens without heads are in one part, or outside of all
+part_points-plain : (within : Bool) (ts us : List Token) → HasNone is_head ts
     → part_points within (ts ++ us) ≡ (if within then token_points ts else []) ++ part_points within us
 part_points-plain x [] us h = search rules
 part_points-plain within (t ∷ ts) us h = grind (arith, part_points-plain within ts us, append_assoc)
+
+part_points-head : (within : Bool) (t : Token) (m : Mode) (us : List Token) → is_head t ≡ true → m ≡ mode_after t
+    → part_points within (t ∷ us) ≡ (if within then token_points (t ∷ []) else []) ++ part_points (is_c_part m) us
+part_points-head within x m us h is = grind arith
+
+-- The points of a lexeme, and of the tokens after it: each counts only if it is in a C part.
+lexeme-points : (s : LexerState) (text : List Cell) (us : List Token) → part_points (is_c_part s.mode) ((lexeme s text).tokens ++ us)
+    ≡ (if is_c_part s.mode then token_points (lexeme s text).tokens else [])
+    ++ part_points (is_c_part (lexeme s text).after.mode) us
+lexeme-points s text us =
+    grind (arith, nat_tests, lexeme-alone s text, part_points-plain, part_points-head, no-head)
 
 -- tokens without a span have no points
 
@@ -81,11 +91,6 @@ module _ (texts : List (List ℕ)) where
 
   -- the bytes in the spans of a lexeme's tokens are those that its segments keep
 
-  abbrev KindKeeps : LexemeKind → LexerState → List Cell → Type 0
-  KindKeeps kind s text =
-      token_points (c_lexeme kind s text).tokens
-      ≡ flat_map kept_points (c_segments kind (1 + (c_lexeme kind s text).more) text)
-
   verbatim-kept : (text : List Cell) → flat_map kept_points (verbatim_segments text)
       ≡ text_points false (take (count_before region.Verbatim (drop 2 text)) (drop 2 text))
   verbatim-kept text =
@@ -101,7 +106,8 @@ module _ (texts : List (List ℕ)) where
       by x cells = search rules
 
   kind-keeps : (kind : LexemeKind) (s : LexerState) (at : Point) (c : Cell) (cs : List Cell)
-      → IsTextAt texts at (c ∷ cs) → OpensLexeme kind (c ∷ cs) → KindKeeps kind s (c ∷ cs)
+      → IsTextAt texts at (c ∷ cs) → OpensLexeme kind (c ∷ cs) → token_points (c_lexeme kind s (c ∷ cs)).tokens
+      ≡ flat_map kept_points (c_segments kind (1 + (c_lexeme kind s (c ∷ cs)).more) (c ∷ cs))
   kind-keeps (lexeme_kind.Control code.Verbatim) s at c cs is o =
       verbatim-keeps texts _ (drop 1 cs)
       (text-after texts 2 at (c ∷ cs) is (code-bytes code.Verbatim (c ∷ cs) (λ e. cc) o))
@@ -115,53 +121,17 @@ module _ (texts : List (List ℕ)) where
     search (rules, quoted-keeps, double_quote-cut, apostrophe-cut, header_name-cut),
   )
 
-  -- The same with the tokens after the lexeme: each counts only if it is in a C part.
-
-  abbrev Keeps : Mode → Lexeme → List Segment → Type 0
-  Keeps m here ss =
-      (us : List Token)
-      → part_points (is_c_part m) (here.tokens ++ us)
-      ≡ flat_map kept_points ss ++ part_points (is_c_part here.after.mode) us
-
-  kind-within : (kind : LexemeKind) (s : LexerState) (text : List Cell) → s.mode ≡ mode.CPart → KindKeeps kind s text
-      → Keeps mode.CPart (c_lexeme kind s text) (c_segments kind (1 + (c_lexeme kind s text).more) text)
-  kind-within kind s text m e us = grind (arith, nat_tests, part_points-plain, use-plain, kind-plain)
-
-  -- a lexeme outside of C parts adds no points; the mode after it says whether a C part begins
-
-  abbrev Leads : Lexeme → Type 0
-  Leads here = (us : List Token) → part_points false (here.tokens ++ us) ≡ part_points (is_c_part here.after.mode) us
-
-  plain-leads : (s : LexerState) (here : Lexeme) → is_c_part s.mode ≡ false → IsPlainLexeme s here → Leads here
-  plain-leads s here m p us = search (rules, part_points-plain)
-
-  lexeme-leads : (s : LexerState) (text : List Cell) → is_c_part s.mode ≡ false → Leads (lexeme s text)
-  lexeme-leads s text out =
-      lexeme-by Leads s text (record {
-        section = λ us. refl;
-        macro = λ o us. refl;
-        part = λ o us. refl;
-        used = λ m o. absurd (let never : false ≡ true = sym out ∙ ap is_c_part m in cc);
-        name = λ outside. (search (rules, part_points-plain, mention-plain));
-        limbo = search rules;
-        skip = λ outside n us. rw out refl;
-        format = λ m us. refl;
-        misplaced = λ m o. plain-leads s _ out (fault-plain fault.MisplacedH s text);
-        inside = λ within kind p o. plain-leads s _ out (kind-plain kind s text p);
-      })
-
   lexeme-keeps : (s : LexerState) (at : Point) (c : Cell) (cs : List Cell) → IsTextAt texts at (c ∷ cs)
-      → Keeps s.mode (lexeme s (c ∷ cs)) (segments_in s.mode s (1 + (lexeme s (c ∷ cs)).more) (c ∷ cs))
+      → (if is_c_part s.mode then token_points (lexeme s (c ∷ cs)).tokens else [])
+      ≡ flat_map kept_points (segments_in s.mode s (1 + (lexeme s (c ∷ cs)).more) (c ∷ cs))
   lexeme-keeps s at c cs is = by s.mode refl
     where
-      by : (m : Mode)
-          → s.mode ≡ m → Keeps m (lexeme s (c ∷ cs)) (segments_in m s (1 + (lexeme s (c ∷ cs)).more) (c ∷ cs))
+      by : (m : Mode) → s.mode ≡ m → (if is_c_part m then token_points (lexeme s (c ∷ cs)).tokens else [])
+          ≡ flat_map kept_points (segments_in m s (1 + (lexeme s (c ∷ cs)).more) (c ∷ cs))
       by mode.CPart m =
-          let kind : LexemeKind = kind_at s.line.include (c ∷ cs) in
-          rw (lexeme-here s (c ∷ cs) kind m refl)
-          (kind-within kind s (c ∷ cs) m
-          (kind-keeps kind s at c cs is (kind-opens s.line.include c.byte (byte_at 0 cs))))
-      by _ m = grind (arith, nat_tests, lexeme-leads s (c ∷ cs) (ap is_c_part m))
+          rw (lexeme-here s (c ∷ cs) (kind_at s.line.include (c ∷ cs)) m refl)
+          (kind-keeps _ s at c cs is (kind-opens s.line.include c.byte (byte_at 0 cs)))
+      by _ m = refl
 
   -- all lexemes: the points of the spans in C parts are those of the segments that are kept
   pub segments-keep : (k : ℕ) (s : LexerState) (text : List Cell) (at : Point) → IsTextAt texts at text
@@ -173,6 +143,6 @@ module _ (texts : List (List ℕ)) where
       let here : Lexeme = lexeme s (c ∷ cs) in
       let first : List Segment = segments_in s.mode s (1 + here.more) (c ∷ cs) in
       let others : List Segment = segments here.more here.after cs in
-      lexeme-keeps s at c cs is (flat_map (λ l. l.tokens) (lexemes here.more here.after cs))
-      ∙ ap (λ ps. flat_map kept_points first ++ ps) (segments-keep here.more here.after cs (after_cell c) is.1)
-      ∙ sym (flat_map-append kept_points first others)
+      lexeme-points s (c ∷ cs) (flat_map (λ l. l.tokens) (lexemes here.more here.after cs))
+      ∙ (rw (lexeme-keeps s at c cs is, segments-keep here.more here.after cs (after_cell c) is.1) refl
+      ∙ sym (flat_map-append kept_points first others))

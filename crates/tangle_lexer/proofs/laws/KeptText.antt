@@ -2,10 +2,9 @@
 use Rattle.std.proofs.Common.{rules}
 use Rattle.std.proofs.lemmas.Bool.Decides.{nat_tests}
 use Rattle.std.proofs.Common.{◌≡◌, ℕ, suc, ◌+◌, ◌≤◌, Bool, true, false, not, List, [], ◌∷◌, ◌++◌, take, drop}
-use Rattle.std.proofs.Common.{Option, inl, inr, refl, ap, ◌∙◌, arith, cond, ◌==◌, ◌&&◌}
-use Rattle.std.proofs.Common.{append_assoc, flat_map}
+use Rattle.std.proofs.Common.{Option, refl, ap, ◌∙◌, arith, cond, ◌==◌, ◌&&◌}
+use Rattle.std.proofs.Common.{append_assoc, append-nil, flat_map}
 use Rattle.std.proofs.Math.Seq.{take-add}
-use Rattle.std.proofs.lemmas.Bool.Decides.{eqb_tells}
 use Rattle.tangle_faults.specs.declared.faults.FaultKind.TheVariants as fault
 use Rattle.tangle_lexer.specs.declared.tokens.Token.{Token}
 use Rattle.tangle_lexer.specs.declared.tokens.Token.TheVariants as token
@@ -14,17 +13,17 @@ use Rattle.tangle_text.specs.declared.regions.Region.{Region}
 use Rattle.tangle_text.specs.declared.regions.Region.TheVariants as region
 use Rattle.tangle_lines.specs.Bytes.{at_sign}
 use Rattle.tangle_text.specs.Bytes.{holds, is_line_end}
-use Rattle.tangle_text.specs.Text.{Cell, byte_at}
+use Rattle.tangle_text.specs.Text.{Cell, byte_at, front_column}
 use Rattle.tangle_text.specs.Regions.{count_before}
 use Rattle.tangle_lexer.specs.Lexemes.{fault_if}
 use Rattle.tangle_lexer.specs.Quoted.{cut_tokens, quote_end, one_if, quoted_text}
-use Rattle.tangle_lexer.specs.Quoted.{verbatim_end, verbatim_tokens}
+use Rattle.tangle_lexer.specs.Quoted.{verbatim_end, empty_text, verbatim_tokens}
 use Rattle.tangle_lexer.specs.Segments.{points_by, kept_points, byte_points, cell_kind, text_segments}
 use Rattle.tangle_lexer.specs.Segments.SegmentKind.{Kept, SecondAtSign, LineEnd}
-use Rattle.tangle_lexer.proofs.laws.Points.{Point, point_at, IsByte, IsTextAt, text-next}
+use Rattle.tangle_lexer.proofs.laws.Points.{Point, point_at, IsByte, IsTextAt, text-next, text-column}
 use Rattle.tangle_lexer.proofs.laws.CutTexts.{IsCut, verbatim-cut, cut-by}
 use Rattle.tangle_lexer.proofs.laws.SegmentPoints.{columns_to, columns-next, columns-nothing, token_points}
-use Rattle.tangle_lexer.proofs.laws.SegmentPoints.{cut-points}
+use Rattle.tangle_lexer.proofs.laws.SegmentPoints.{cut-points, points-append}
 
 -- the points of the bytes that are kept of such a text
 abbrev pub text_points : Bool → List Cell → List (ℕ × ℕ)
@@ -133,10 +132,7 @@ module _ (texts : List (List ℕ)) where
       let last : ℕ = one_if (holds close (byte_at 0 (drop n cs))) in
       let kept = cut-keeps r cut (quote_end r close s.last_line)
       (close-points close) (search (rules, columns-next)) front c.column cs (omega arith) text in
-      let e : 1 + (n + last) ≡ suc (n + last) = omega arith in
-      let one : columns_to c.line c.column (c.column + 1) ≡ (c.line, c.column) ∷ [] =
-      search (rules, columns-next, columns-nothing) in
-      search (rules, take-add, points-before, close-kept)
+      search (rules, columns_to, columns-next, columns-nothing, take-add, points-before, close-kept)
 
   -- verbatim texts
 
@@ -144,15 +140,15 @@ module _ (texts : List (List ℕ)) where
       → token_points (verbatim_end start text) ≡ columns_to at.line start at.column ++ []
   verbatim-stop at start x h is = grind arith
 
+  empty-points : (text : List Cell) → token_points (empty_text text) ≡ []
+  empty-points x = grind arith
+
   pub verbatim-keeps : (at : Point) (text : List Cell) → IsTextAt texts at text
       → token_points (verbatim_tokens text) ≡ text_points false (take (count_before region.Verbatim text) text)
-  verbatim-keeps at [] is = refl
-  verbatim-keeps at (c ∷ cs) is =
-      elim (eqb_tells (count_before region.Verbatim (c ∷ cs)) 0) [
-        | inl none ↦ rw (none.0, none.1) (grind arith)
-        | inr some ↦
-            let text : List Cell = c ∷ cs in
-            let kept = cut-keeps region.Verbatim verbatim-cut verbatim_end (λ t. [])
-            verbatim-stop at at.column text (omega arith) is in
-            search rules
-      ]
+  verbatim-keeps at text is =
+      let cut : List Token = cut_tokens verbatim_end region.Verbatim 0 (front_column text) text in
+      let kept : List (ℕ × ℕ) = text_points false (take (count_before region.Verbatim text) text) in
+      points-append (empty_text text) cut ∙ (ap (λ ps. ps ++ token_points cut) (empty-points text)
+      ∙ (ap (λ column. token_points (cut_tokens verbatim_end region.Verbatim 0 column text)) (text-column texts at text is)
+      ∙ (cut-keeps region.Verbatim verbatim-cut verbatim_end (λ t. []) verbatim-stop at at.column text (omega arith) is
+      ∙ (ap (λ ps. ps ++ (kept ++ [])) (columns-nothing at.line at.column) ∙ append-nil kept))))

@@ -1,19 +1,21 @@
 -- The ranges of quoted and verbatim texts are in order. `texts` are the bytes of the source lines.
 use Rattle.std.proofs.Common.{rules}
 use Rattle.std.proofs.lemmas.Bool.Decides.{nat_tests}
-use Rattle.std.proofs.Common.{ℕ, ◌+◌, ◌<◌, ◌≤◌, List, [], ◌∷◌, drop}
-use Rattle.std.proofs.Common.{inl, inr, refl, sym, arith, subst}
-use Rattle.std.proofs.lemmas.Bool.Decides.{eqb_tells}
+use Rattle.std.proofs.Common.{ℕ, ◌+◌, ◌<◌, ◌≤◌, List, [], ◌∷◌, ◌++◌, drop}
+use Rattle.std.proofs.Common.{sym, arith, subst}
 use Rattle.std.proofs.lemmas.List.{drop-drop}
 use Rattle.tangle_lexer.specs.declared.tokens.Token.{Token}
+use Rattle.tangle_lexer.specs.declared.tokens.Token.TheVariants as token
+use Rattle.tangle_lexer.specs.declared.tokens.SpanKind.TheVariants as span_kind
+use Rattle.tangle_text.specs.declared.regions.Unit.{Unit as Unit-of}
 use Rattle.tangle_lexer.specs.declared.modes.LexerState.{LexerState}
 use Rattle.tangle_text.specs.declared.regions.Region.{Region}
 use Rattle.tangle_text.specs.declared.regions.Region.TheVariants as region
 use Rattle.tangle_text.specs.Bytes.{holds}
-use Rattle.tangle_text.specs.Text.{Cell, byte_at}
-use Rattle.tangle_text.specs.Regions.{count_before}
+use Rattle.tangle_text.specs.Text.{Cell, byte_at, span_at}
+use Rattle.tangle_text.specs.Regions.{unit_at, count_before}
 use Rattle.tangle_lexer.specs.Comments.{has_end_code, two_if}
-use Rattle.tangle_lexer.specs.Quoted.{cut_tokens}
+use Rattle.tangle_lexer.specs.Quoted.{at_stop, cut_tokens}
 use Rattle.tangle_lexer.specs.Quoted.{quote_end, one_if, quoted_text, verbatim_end}
 use Rattle.tangle_lexer.specs.Quoted.{verbatim_tokens, verbatim_text}
 use Rattle.tangle_lexer.proofs.laws.Points.{Point, point_at, IsByte, HoldsBytes, IsTextAt}
@@ -65,13 +67,12 @@ module _ (texts : List (List ℕ)) where
       → AreInOrder texts (verbatim-final (drop (count_before region.Verbatim text) text)) at.line (verbatim_tokens text)
   verbatim_tokens-in_order at [] after_code is = absurd (omega arith)
   verbatim_tokens-in_order at (c ∷ cs) after_code is =
-      elim (eqb_tells (count_before region.Verbatim (c ∷ cs)) 0) [
-        -- an empty verbatim text
-        | inl none ↦ rw (none.1, ← is.0.line) ((refl, (span-is texts at 0 c cs is tt).1), (grind arith))
-        | inr some ↦ rw some.0
-            (cut-in_order region.Verbatim verbatim-cut verbatim_end verbatim-final verbatim_end-in_order
-            at c.column (c ∷ cs) (omega arith) is)
-      ]
+      by (unit_at region.Verbatim (c ∷ cs)) _ _ (cut-in_order region.Verbatim verbatim-cut verbatim_end verbatim-final
+      verbatim_end-in_order at c.column (c ∷ cs) (omega arith) is)
+    where
+      by : (u : Unit-of) (P : ℕ → Type 0) (ts : List Token) → AreInOrder texts P at.line ts
+          → AreInOrder texts P at.line (at_stop u (token.Span span_kind.Verbatim (span_at 0 (c ∷ cs)) ∷ []) [] ++ ts)
+      by x P ts h = grind (arith, span-is texts at 0 c cs is tt)
 
   pub verbatim_text-in_order : (s : LexerState) (at : Point) (c : Cell) (cs : List Cell)
       → IsTextAt texts at (c ∷ cs) → HoldsBytes 2 (c ∷ cs)

@@ -2,21 +2,23 @@
 use Rattle.std.proofs.Common.{rules}
 use Rattle.std.proofs.lemmas.Bool.Decides.{nat_tests}
 use Rattle.std.proofs.Common.{◌≡◌, ℕ, zero, suc, ◌+◌, Bool, true, false, List, [], ◌∷◌, drop, Option, None}
-use Rattle.std.proofs.Common.{sym, arith, subst, zero-add, ◌==◌}
+use Rattle.std.proofs.Common.{ap, ◌∙◌, ◌++◌, sym, arith, subst, zero-add, ◌==◌}
 use Rattle.tangle_text.specs.declared.regions.Region.{Region}
 use Rattle.tangle_text.specs.declared.regions.Unit.{Unit as Unit-of}
 use Rattle.tangle_text.specs.declared.regions.Unit.TheVariants as unit
 use Rattle.tangle_text.specs.Bytes.{holds, are_bytes, is_line_end}
 use Rattle.tangle_text.specs.Text.{Cell, byte_at}
 use Rattle.tangle_text.specs.Regions.{unit_of, count_before}
-use Rattle.tangle_lexer.proofs.lemmas.LexemeLemmas.{line_ends-stop}
+use Rattle.tangle_lexer.proofs.lemmas.RegionSteps.{line_ends-stop, line_ends-go}
 use Rattle.tangle_lexer.specs.declared.lexeme_kinds.ControlCode.{ControlCode}
 use Rattle.tangle_lexer.specs.declared.lexeme_kinds.ControlCode.TheVariants as code
 use Rattle.tangle_lexer.specs.Segments.{OpensWith}
+use Rattle.tangle_lexer.specs.Lexemes.{line_end_by}
+use Rattle.tangle_lexer.specs.declared.tokens.Token.{Token}
 use Rattle.tangle_lexer.specs.Comments.{line_ends, two_if}
-use Rattle.tangle_lexer.proofs.laws.Points.{Point, IsByte, HoldsBytes}
-use Rattle.tangle_lexer.proofs.laws.Points.{IsTextAt, text-after}
-use Rattle.tangle_lexer.proofs.laws.TokenOrder.{IsAtLine, AreBefore}
+use Rattle.tangle_lexer.proofs.laws.Points.{Point, IsByte, HoldsBytes, after_by, after-byte}
+use Rattle.tangle_lexer.proofs.laws.Points.{after_cell, IsTextAt, text-after}
+use Rattle.tangle_lexer.proofs.laws.TokenOrder.{IsAtLine, AreInOrder, AreBefore}
 use Rattle.tangle_lexer.proofs.laws.RegionUnits.{units-by}
 
 -- cells that are bytes
@@ -71,13 +73,21 @@ module _ (texts : List (List ℕ)) where
       → (b ≡ true → HoldsBytes 2 text) → IsAtLine line text → IsAtLine line (drop (two_if b) text)
   end-line x at text line is h here = grind arith
 
+  -- a cell that is a line end leads to the next line
+  cell-in_order : (P : ℕ → Type 0) (at : Point) (c : Cell) (b : Option ℕ) (ts : List Token) → c.line ≡ at.line
+      → AreInOrder texts P (after_by b c).line ts → AreInOrder texts P at.line (line_end_by b c.line ++ ts)
+  cell-in_order P at c x ts line h = grind arith
+
   -- The line ends of a region are in order, if none is the second cell of a unit.
   pub line_ends-in_order : (r : Region) → ((b n : Option ℕ) → unit_of r b n ≡ unit.Two → IsByte n)
       → (text : List Cell) (at : Point) → IsTextAt texts at text
       → AreBefore texts (drop (count_before r text) text) at.line (line_ends r text)
   line_ends-in_order r stays =
       units-by r Ordered (λ text e at is. rw (line_ends-stop r text e) (grind arith)) (λ at is. tt) (search rules)
-      (search rules) (λ c e. absurd (stays c.byte None e))
+      (λ n c d cs e next at is. rw (line_ends-go r 0 (c ∷ d ∷ cs) unit.Two (omega arith) e (λ k. cc))
+      (cell-in_order _ at c c.byte _ is.0.line (subst (λ l. AreBefore texts (drop n cs) l (line_ends r cs))
+      (ap (λ (p : Point). p.line) (after-byte d (stays c.byte d.byte e)) ∙ is.1.0.line) (next (after_cell d) is.1.1))))
+      (λ c e. absurd (stays c.byte None e))
     where
       Ordered : ℕ → List Cell → Type 0
       Ordered n text =

@@ -9,6 +9,7 @@ use Rattle.std.proofs.lemmas.Bool.{or_parts}
 use Rattle.std.proofs.lemmas.Grind.{flat_map-append}
 use Rattle.tangle_lines.specs.Reading.{SourceLine}
 use Rattle.tangle_text.specs.Text.{Cell, IsRestOf}
+use Rattle.tangle_lexer.specs.declared.modes.Mode.TheVariants as mode
 use Rattle.tangle_lexer.specs.declared.modes.LexerState.{LexerState}
 use Rattle.tangle_lexer.specs.declared.tokens.Token.{Token}
 use Rattle.tangle_lexer.specs.Lexemes.{Lexeme}
@@ -16,7 +17,7 @@ use Rattle.tangle_lexer.specs.Heads.{is_head}
 use Rattle.tangle_lexer.specs.Reads.{IsRead, ReadsOn}
 use Rattle.tangle_lexer.specs.Runs.{is_run, has_item, first_is_alone, unfolded, unfolded_token, IsRunIn}
 use Rattle.tangle_lexer.specs.Steps.{lexeme, tokens_from, occurrences_from}
-use Rattle.tangle_lexer.proofs.lemmas.HeadLemmas.{is_special, BeginsIn, IsPlain, lexeme-alone}
+use Rattle.tangle_lexer.proofs.lemmas.HeadLemmas.{is_special, mode_after, c_part-is, lexeme-alone}
 use Rattle.tangle_lexer.proofs.lemmas.PlainTokens.{HasNone, none-append, none-by}
 use Rattle.tangle_lexer.proofs.lemmas.StepLemmas.{tokens_from-step}
 
@@ -73,7 +74,7 @@ no_head-snoc (t ∷ ts) head h j = grind (arith, nat_tests, no_head-snoc ts head
 pub record IsTaken (old kept : List Token) (here : Lexeme) (head : Token) : Type 0 where
   pub same : kept ≡ old
   pub tokens : here.tokens ≡ head ∷ []
-  pub begins : BeginsIn head here.after.mode
+  pub begins : here.after.mode ≡ mode_after head
 
 -- a step was read
 module _ {old new : List Token} (s : LexerState) {after : LexerState} {text rest : List Cell}
@@ -108,8 +109,8 @@ module _ {old new : List Token} (s : LexerState) {after : LexerState} {text rest
 
   -- no head was removed: the lexeme is none
   pub not-taken : ((ts : List Token) (head : Token) → new ≡ ts ++ head ∷ [] → is_head head ≡ false)
-      → IsPlain s (lexeme s text)
-  not-taken none = grind (arith, nat_tests, lexeme-alone s text)
+      → HasNone is_special (lexeme s text).tokens × (after.mode ≡ mode.CPart → s.mode ≡ mode.CPart)
+  not-taken none = grind (arith, nat_tests, lexeme-alone s text, c_part-is)
 
   -- a head was removed
   pub taken : (kept : List Token) (head : Token) → HasNone is_head old

@@ -1,15 +1,14 @@
 -- Texts that are cut, unit by unit.
 use Rattle.std.proofs.lemmas.Bool.Decides.{nat_tests}
-use Rattle.std.proofs.Common.{◌≡◌, ◌<◌, ◌+◌, ℕ, Bool, true, List, [], ◌∷◌, ◌++◌, length, drop}
+use Rattle.std.proofs.Common.{◌≡◌, ◌<◌, ◌+◌, ℕ, Bool, List, [], ◌∷◌, ◌++◌, length, drop}
 use Rattle.std.proofs.Common.{drop-drop, refl, arith}
-use Rattle.std.proofs.lemmas.Bool.{eqb-true}
 use Rattle.tangle_text.specs.declared.regions.Region.{Region}
 use Rattle.tangle_text.specs.declared.regions.Unit.{Unit as Unit-of}
 use Rattle.tangle_text.specs.declared.regions.Unit.TheVariants as unit
 use Rattle.tangle_lexer.specs.declared.tokens.Token.{Token}
 use Rattle.tangle_text.specs.Text.{Cell, byte_at, front_cell}
 use Rattle.tangle_text.specs.Regions.{unit_at, more_by, region_end, count_before}
-use Rattle.tangle_lexer.specs.Quoted.{cut_tokens, unit_tokens, next_start, ends_at_once, one_if}
+use Rattle.tangle_lexer.specs.Quoted.{cut_tokens, unit_tokens, next_start, one_if}
 use Rattle.tangle_text.proofs.RegionLemmas.{region_end-is}
 
 -- a unit that does not end the region adds its tokens
@@ -23,12 +22,6 @@ pub cut-stop : (ends : ℕ → List Cell → List Token) (r : Region) (start : �
     → unit_at r text ≡ unit.Stop → cut_tokens ends r 0 start text ≡ ends start text
 cut-stop ends r start [] h = refl
 cut-stop ends r start (c ∷ cs) h = rw h refl
-
--- whether a verbatim text ends in a backslash, unit by unit
-
-pub at_once-end : (r : Region) (text : List Cell) → ends_at_once r text ≡ true → text ≡ region_end r text
-unfolding region_end
-at_once-end r text h = let none : count_before r text ≡ 0 = eqb-true (count_before r text) 0 h in rw none refl
 
 -- the text after a region and the byte that may end it
 pub drop-end : (r : Region) (text : List Cell) (b : List Cell → Bool)

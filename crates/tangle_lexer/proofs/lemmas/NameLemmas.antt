@@ -1,4 +1,8 @@
 -- The ends of names, and the equals signs after them.
+use Rattle.std.proofs.Common.{rules}
+use Rattle.std.specs.Prelude.{Result, OnOk}
+use Rattle.tangle_lexer.proofs.lemmas.RegionSteps.{unit_steps}
+use Rattle.tangle_lexer.proofs.lemmas.NameWords.{form-white, form-other, form-none, form-end}
 use Rattle.std.proofs.lemmas.Bool.Decides.{nat_tests}
 use Rattle.std.proofs.Common.{◌≡◌, ℕ, ◌+◌, Bool, true, false, List, [], ◌∷◌, drop, Option, Some, None, refl, ap, sym, ◌∙◌, arith}
 use Rattle.std.proofs.Common.{drop-drop, if◌then◌else◌}
@@ -11,7 +15,7 @@ use Rattle.tangle_lexer.specs.White.{is_white_alone, next_but_name, white_count,
 use Rattle.tangle_lexer.specs.Comments.{two_if, has_end_code}
 use Rattle.tangle_lexer.specs.Names.{name_end, is_ended, after_name, name_count, count_before_equals, equals_by}
 use Rattle.tangle_lexer.specs.Names.{equals_in, equals_last, count_to_last, count_through, definition_count, name_more}
-use Rattle.tangle_lexer.proofs.lemmas.OpenedRegions.{after-two}
+use Rattle.tangle_lexer.proofs.lemmas.RegionSteps.{after-two}
 use Rattle.tangle_text.proofs.AheadLemmas.{byte_at-drop}
 
 pub byte_at-next : (n : ℕ) (text : List Cell) → byte_at (n + 1) text ≡ byte_at 1 (drop n text)
@@ -101,3 +105,10 @@ pub equals-absent : (text : List Cell) → is_white_alone (next_but_name text).t
     → holds plus_sign (byte_at 0 text) ≡ false → holds equals_sign (byte_at 0 text) ≡ false
     → equals_in text ≡ equals.Absent
 equals-absent text dark plus sign = grind (arith, nat_tests, no_white)
+
+-- a fact is true of a call that succeeds if it is true
+pub on_ok : {T E P : Type 0} (r : Result T E) → P → OnOk r P
+on_ok r p = search rules
+
+-- what the functions that read names take from here
+pub ruleset name_steps = (unit_steps, on_ok, form-white, form-other, form-none, form-end, after-is, plus-further, no_plus-further, definition-found)

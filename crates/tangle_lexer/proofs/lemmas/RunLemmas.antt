@@ -4,12 +4,11 @@ use Rattle.std.proofs.Common.{if◌then◌else◌, nat_le, ◌==◌}
 use Rattle.std.proofs.lemmas.List.{get_or-drop}
 use Rattle.std.proofs.lemmas.Bool.Decides.{nat_tests}
 use Rattle.tangle_text.specs.Bytes.{number_sign, backslash, holds}
-use Rattle.std.proofs.Common.{◌≡◌, ◌<◌, ◌≤◌, ℕ, zero, suc, ◌+◌, ◌-◌, Bool, true, false, ◌&&◌, List, [], ◌∷◌, ◌++◌}
+use Rattle.std.proofs.Common.{◌≡◌, ◌<◌, ℕ, zero, suc, ◌+◌, ◌-◌, Bool, true, false, ◌&&◌, List, [], ◌∷◌, ◌++◌}
 use Rattle.std.proofs.Common.{length}
-use Rattle.std.proofs.Common.{take, drop, map, get_or, slice_get, Option, IsSome, ◌⊎◌, inl, inr, refl, ap}
+use Rattle.std.proofs.Common.{take, drop, map, get_or, slice_get, Option, refl, ap}
 use Rattle.std.proofs.Common.{sym, ◌∙◌, subst, arith, append_assoc, append-nil, length-drop}
-use Rattle.std.proofs.Common.{Some}
-use Rattle.std.proofs.lemmas.Option.{slice_get-get_or}
+use Rattle.std.proofs.lemmas.Option.{slice_get-get_or, slice_get_cases}
 use Rattle.std.specs.List.{All}
 use Rattle.std.proofs.lemmas.Bool.{and_parts}
 use Rattle.std.proofs.lemmas.List.Elements.{All-push}
@@ -20,6 +19,7 @@ use Rattle.tangle_text.specs.Text.{IsRestOf}
 use Rattle.tangle_text.specs.Runs.{holds_plain, run_count, run_size}
 use Rattle.tangle_text.specs.Runs.{parts_of, run_parts, are_apart}
 use Rattle.tangle_text.proofs.RunPartLemmas.{run_count-line, run_size-fits, get_drop}
+use Rattle.tangle_lexer.proofs.laws.Points.{Point, point_at, IsTextAt, text-is, text-somewhere, line-at}
 use Rattle.tangle_lexer.specs.declared.modes.Mode.{Mode}
 use Rattle.tangle_lexer.specs.declared.modes.LineOfC.{LineOfC}
 use Rattle.tangle_lexer.specs.declared.modes.LexerState.{LexerState}
@@ -34,69 +34,10 @@ use Rattle.tangle_lexer.specs.Simple.{IsSimple, simple_kind, is_c_text, is_word_
 use Rattle.tangle_lexer.specs.Steps.{c_lexeme, lexeme, tokens_from}
 use Rattle.tangle_lexer.specs.Steps.{occurrences_from}
 use Rattle.tangle_lexer.proofs.lemmas.BlockLemmas.{unfolded-append, rest-drop}
-use Rattle.tangle_lexer.proofs.lemmas.RunTokens.{in_text, front-byte, run-goes}
+use Rattle.tangle_lexer.proofs.lemmas.RunTokens.{in_text, run-goes}
 use Rattle.tangle_lexer.specs.declared.modes.IncludeState.{IncludeState}
 use Rattle.tangle_lexer.proofs.lemmas.SimpleLemmas.{lexeme-simple}
 use Rattle.tangle_lexer.proofs.lemmas.StepLemmas.{tokens_from-step, occurrences_from-step}
-
--- where a byte of the text is
-
-abbrev InLine : ℕ → ℕ → List ℕ → List Cell → ℕ → Type 0
-InLine line column bytes rest k =
-    (k ≤ length bytes)
-    × (drop k (line_text line column bytes ++ rest) ≡ line_text line (column + k) (drop k bytes) ++ rest)
-
-line-place : (line column : ℕ) (bytes : List ℕ) (rest : List Cell) (k : ℕ) →
-    InLine line column bytes rest k ⊎ ((j : ℕ) × (drop k (line_text line column bytes ++ rest) ≡ drop j rest))
-line-place line column bytes rest zero = grind (arith, nat_tests)
-line-place line column [] rest (suc k) = inr (k, refl)
-line-place line column (b ∷ bs) rest (suc k) = grind (arith, nat_tests, line-place line (column + 1) bs rest k)
-
-byte-some : (line column : ℕ) (bs : List ℕ) (rest : List Cell)
-    → IsSome (byte_at 0 (line_text line column bs ++ rest)) → 0 < length bs
-byte-some line column [] rest h = cc
-byte-some line column (b ∷ bs) rest h = omega arith
-
--- a byte of these lines is at the front of the text
-pub record IsInLine (texts : List (List ℕ)) (from : ℕ) (text : List Cell) : Type 0 where
-  pub line : ℕ
-  pub column : ℕ
-  pub rest : List Cell
-  pub real : line < length texts
-  pub inside : column < length (get_or texts line [])
-  pub is : text ≡ line_text (from + line) column (drop column (get_or texts line [])) ++ rest
-
-text-place : (from : ℕ) (lines : List SourceLine) (k : ℕ) → IsSome (byte_at 0 (drop k (text_from from lines)))
-    → IsInLine (texts_of lines) from (drop k (text_from from lines))
-text-place from [] zero h = cc
-text-place from [] (suc k) h = cc
-text-place from (l ∷ ls) k h =
-    elim (line-place from 0 l.bytes (text_from (from + 1) ls) k) [
-      | inl near ↦
-          let more : 0 < length (drop k l.bytes) = search (rules, byte-some) in
-          let column : 0 + k ≡ k = omega arith in
-          let line : from ≡ from + 0 = omega arith in
-          record {
-            line = 0;
-            column = k;
-            rest = text_from (from + 1) ls;
-            real = omega arith;
-            inside = omega (arith, length-drop k l.bytes);
-            is = grind (arith, nat_tests);
-          }
-      | inr far ↦
-          let place : IsInLine (texts_of ls) (from + 1) (drop far.0 (text_from (from + 1) ls))
-          = text-place (from + 1) ls far.0 (subst (λ t. IsSome (byte_at 0 t)) far.1 h) in
-          let line : from + 1 + place.line ≡ from + suc place.line = omega arith in
-          record {
-            line = suc place.line;
-            column = place.column;
-            rest = place.rest;
-            real = omega arith;
-            inside = place.inside;
-            is = grind (arith, nat_tests);
-          }
-    ]
 
 -- the run at the front
 
@@ -133,40 +74,36 @@ run-end bytes column zero some h = absurd (omega arith)
 run-end bytes column (suc n) some h = grind (arith, get_or-drop)
 
 line-run : (lines : List SourceLine) (m : Mode) → is_c_text m ≡ true → (l : LineOfC) (stays : (b : Bool) → with_item b l ≡ l) (occurrences last : ℕ)
-    (text : List Cell) → IsInLine (texts_of lines) 0 text → holds_plain (byte_at 0 text) ≡ true
+    (at : Point) (text : List Cell) → IsTextAt (texts_of lines) at text → holds_plain (byte_at 0 text) ≡ true
     → holds number_sign (byte_at 0 text) ≡ false → 0 < run_count text
     → IsRunRead lines (in_text m l occurrences last) (in_text m l occurrences last) text
-line-run lines m c_text l stays occurrences last text place plain sign some =
+line-run lines m c_text l stays occurrences last at [] is_text plain sign some = cc
+line-run lines m c_text l stays occurrences last at (c ∷ cs) is_text plain sign some =
     let texts = texts_of lines in
-    let line : ℕ = place.line in
-    let column : ℕ = place.column in
+    let line : ℕ = at.line in
+    let column : ℕ = at.column in
     let of_line : List ℕ = get_or texts line [] in
     let bytes = drop column of_line in
-    let is : text ≡ line_text line column bytes ++ place.rest
-    = place.is ∙ ap (λ n. line_text n column bytes ++ place.rest) (omega arith) in
-    let byte : byte_at 0 text ≡ slice_get bytes 0 = ap (byte_at 0) is ∙ front-byte line column bytes place.rest in
-    let found : byte_at 0 text ≡ Some (get_or of_line column 0)
-    = byte ∙ (get_drop of_line column ∙ slice_get-get_or of_line column 0 place.inside) in
+    let (rest, is) = line-at texts at (c ∷ cs) is_text is_text.0.real in
+    let found : c.byte ≡ slice_get of_line column = is_text.0.byte in
+    let inside : column < length of_line = grind (arith, nat_tests, slice_get_cases) in
+    let byte : c.byte ≡ slice_get bytes 0 = found ∙ sym (get_drop of_line column) in
     let n : ℕ = run_size 0 bytes in
-    let count : run_count text ≡ n = ap run_count is ∙ run_count-line line column bytes place.rest in
-    let span_is = ap (span_at n) is ∙ span-line line column n bytes place.rest in
+    let count : run_count (c ∷ cs) ≡ n = ap run_count is ∙ run_count-line line column bytes rest in
+    let span_is = ap (span_at n) is ∙ span-line line column n bytes rest in
     let parts = parts-are texts line column n in
-    let goes = run-goes m c_text l stays occurrences last line place.rest column 0 n bytes (omega arith) refl in
+    let goes = run-goes m c_text l stays occurrences last line rest column 0 n bytes (omega arith) refl in
     let run : IsRunOf texts (record { line = line; start = column; end = column + n }) = record {
       span = record {
-        line = place.real;
+        line = is_text.0.real;
         start = omega arith;
-        end = omega (arith, run_size-fits 0 bytes, length-drop column of_line, place.inside);
+        end = omega (arith, run_size-fits 0 bytes, length-drop column of_line, inside);
       };
       apart = rw parts (plain-apart _ _ line column n bytes (rw byte at plain) (omega arith) goes.apart);
-      begins = rw found at sign;
+      begins = rw (found ∙ slice_get-get_or of_line column 0 inside) at sign;
       ends = run-end of_line column n (omega arith) (goes.ends 0 (omega arith));
     } in
-    record {
-      tokens = rw (count, span_is, parts, is) goes.tokens;
-      occurrences = rw (count, is) goes.occurrences;
-      run = rw (count, span_is) run;
-    }
+    search rules
 
 -- the first lexeme of a run is read as if an item were before it on its line
 
@@ -198,13 +135,11 @@ run-read lines tokens s text p here c_text begins some_bytes ours =
     let all = and_parts (is_word_or_sign p && is_apart s.line.include (byte_at 0 text)) _ begins in
     let both = and_parts (is_word_or_sign p) (is_apart s.line.include (byte_at 0 text)) all.0 in
     let plain : holds_plain (byte_at 0 text) ≡ true = here.plain both.0 in
-    let some = here.byte (λ e. let never = rw e at both.0 in cc) in
-    let place : IsInLine (texts_of lines) 0 text
-    = rw ours.1 (text-place 0 lines ours.0 (subst (λ t. IsSome (byte_at 0 t)) ours.1 some)) in
+    let place = text-somewhere (texts_of lines) ours.0 (point_at 0 0) (text_from 0 lines) (text-is lines) in
     let part : LexerState = in_text s.mode (with_item false s.line.line) s.occurrences s.last_line in
     let run : IsRunRead lines part part text
     = line-run lines s.mode c_text (with_item false s.line.line) (λ b. item-stays false b s.line.line) s.occurrences s.last_line
-    text place plain (apart-sign s.line.include (byte_at 0 text) both.1) some_bytes in
+    place.0 text (rw ours.1 place.1) plain (apart-sign s.line.include (byte_at 0 text) both.1) some_bytes in
     grind (arith, nat_tests, lexeme-apart s text p here, tokens_from-step, occurrences_from-step)
 
 -- the token of a run is added

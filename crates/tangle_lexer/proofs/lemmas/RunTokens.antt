@@ -15,7 +15,7 @@ use Rattle.tangle_text.specs.declared.regions.Region.{Region}
 use Rattle.tangle_text.specs.declared.regions.Region.TheVariants as region
 use Rattle.tangle_text.specs.declared.runs.RunPart.{RunPart}
 use Rattle.tangle_text.specs.declared.spans.Span.{Span}
-use Rattle.tangle_text.specs.Bytes.{apostrophe, is_word_byte, number_sign, backslash}
+use Rattle.tangle_text.specs.Bytes.{apostrophe, is_word_byte, backslash}
 use Rattle.tangle_text.specs.Text.{Cell, line_text, byte_at}
 use Rattle.tangle_text.specs.Regions.{unit_of, quoted_unit, count_before}
 use Rattle.tangle_text.specs.Runs.{is_quote, is_single, is_before_quote, quote_size, part_more, part_at, parts_of}
@@ -30,7 +30,6 @@ use Rattle.tangle_lexer.specs.declared.modes.IncludeState.TheVariants as include
 use Rattle.tangle_lexer.specs.declared.modes.LineOfC.{LineOfC}
 use Rattle.tangle_lexer.specs.declared.modes.AtLineEnd.TheVariants.{Ends}
 use Rattle.tangle_lexer.specs.declared.modes.LexerState.{LexerState}
-use Rattle.tangle_lexer.specs.declared.lexeme_kinds.LexemeKind.TheVariants as lexeme_kind
 use Rattle.tangle_lexer.specs.declared.tokens.SpanKind.TheVariants as span_kind
 use Rattle.tangle_lexer.specs.declared.tokens.Token.TheVariants as token
 use Rattle.tangle_lexer.specs.LinesOfC.{with_item}
@@ -133,10 +132,7 @@ item-dark line column (b ∷ bs) rest h = grind (arith, nat_tests, count-is)
 no-item : (bs : List ℕ) → run_size 0 bs ≡ 0 → begins_item bs ≡ false
 no-item [] none = refl
 no-item (b ∷ bs) none =
-    false_from_ne_true (is_run_item b bs) (λ h.
-    let blank = ne_eqb b space (λ e. let never = subst (λ x. is_run_item x bs ≡ true) e h in cc) in
-    let over : goes_over b bs ≡ true = cond-false (b == space) (begins_item bs) (is_run_item b bs) blank ∙ h in
-    absurd (omega (arith, rw over at none)))
+    false_from_ne_true (is_run_item b bs) (search (rules, ne_eqb, cond-false))
 
 some-size : (m : ℕ) → not (m == 0) ≡ true → (n : ℕ) × (m ≡ suc n)
 some-size zero h = cc
@@ -169,24 +165,10 @@ module _ (m : Mode) (c_text : is_c_text m ≡ true) (l : LineOfC) (stays : (b : 
   word-part : (column b : ℕ) (bs : List ℕ) → is_word_byte b ≡ true → not (is_before_quote bs) ≡ true
       → (b == space) ≡ false → IsPart column b bs
   word-part column b bs word apart blank =
-      let text = at column (b ∷ bs) in
-      let last = prefix_len_passes is_word_byte (b ∷ bs) (prefix_len is_word_byte bs) 0 (rw word (omega arith)) in
-      let size = word_more-plain line column b bs rest (not-true (is_before_quote bs) apart) in
-      record {
-        lexeme = lexeme-here here text lexeme_kind.Word c_text refl (grind (arith, nat_tests))
-            ∙ rw (blank, word, size, stays false) refl;
-        apart = λ parts more. rw (blank, word)
-            (loosened _ _ false true parts more (λ e. cc) (λ e. rw word (ap not (before-word bs) ∙ apart)));
-        ends = rw word (grind (arith, nat_tests));
-      }
+      search (rules, prefix_len_passes, word_more-plain, not-true, lexeme-here, nat_tests, loosened, before-word)
 
   space-part : (column : ℕ) (bs : List ℕ) → begins_item bs ≡ true → IsPart column space bs
-  space-part column bs begins = record {
-    lexeme = lexeme-here here (at column (space ∷ bs)) lexeme_kind.White c_text refl refl
-        ∙ rw (item-dark line (column + 1) bs rest begins) refl;
-    apart = λ parts more. loosened _ _ true false parts more (λ e. begins) (λ e. cc);
-    ends = refl;
-  }
+  space-part column bs begins = search (rules, lexeme-here, item-dark, loosened)
 
   quoted-part : (column b n : ℕ) (bs : List ℕ) → (b == space) ≡ false → is_word_byte b ≡ false → is_quote b ≡ true
       → quote_size b false bs ≡ suc n → IsPart column b bs
@@ -210,14 +192,7 @@ module _ (m : Mode) (c_text : is_c_text m ≡ true) (l : LineOfC) (stays : (b : 
   sign-part : (column b : ℕ) (bs : List ℕ) → (b == space) ≡ false → is_word_byte b ≡ false → is_quote b ≡ false
       → is_single b bs ≡ true → IsPart column b bs
   sign-part column b bs blank word quote single =
-      let next = front-byte line (column + 1) bs rest in
-      let other : (b == backslash) ≡ false = grind (arith, nat_tests) in
-      record {
-        lexeme = lexeme-here here (at column (b ∷ bs)) lexeme_kind.Other c_text refl (grind (arith, nat_tests))
-            ∙ rw (blank, word, quote, other, stays (b == number_sign)) refl;
-        apart = λ parts more. rw (blank, word, quote) (loosened _ _ false false parts more (λ e. cc) (λ e. cc));
-        ends = rw (word, quote) other;
-      }
+      search (rules, front-byte, nat_tests, lexeme-here, loosened)
 
   is-part : (column b : ℕ) (bs : List ℕ) → goes_over b bs ≡ true → IsPart column b bs
   is-part column b bs h =

@@ -1,4 +1,5 @@
 -- White space that ends on its line: which lexemes are white space alone, and the text after it.
+use Rattle.tangle_lexer.proofs.lemmas.RegionSteps.{unit_steps}
 use Rattle.std.proofs.Common.{rules}
 use Rattle.std.proofs.lemmas.Bool.Decides.{nat_tests}
 use Rattle.std.proofs.Common.{arith}
@@ -31,8 +32,8 @@ use Rattle.tangle_lexer.specs.Comments.{is_on_line, ends_on_line, two_if}
 use Rattle.tangle_lexer.specs.Constants.{constant_lexeme}
 use Rattle.tangle_lexer.specs.White.{is_white_alone, lexeme_but_name, next_but_name}
 use Rattle.tangle_lexer.specs.White.{white_count, white_end}
-use Rattle.tangle_lexer.proofs.lemmas.LexemeLemmas.{line_ends-go}
-use Rattle.tangle_lexer.proofs.lemmas.OpenedRegions.{ended-ahead}
+use Rattle.tangle_lexer.proofs.lemmas.RegionSteps.{line_ends-go}
+use Rattle.tangle_lexer.proofs.lemmas.RegionSteps.{ended-ahead}
 use Rattle.tangle_lexer.proofs.lemmas.PlainTokens.{AreText, verbatim_tokens-text}
 use Rattle.tangle_lexer.proofs.lemmas.PlainLexemes.{quoted-text}
 
@@ -117,3 +118,6 @@ white-goes [] h = grind (arith, nat_tests)
 white-goes (c ∷ cs) h =
     let more = (next_but_name (c ∷ cs)).more in
     rw h (sym (drop-drop (white_count more cs) 1 (c ∷ cs)) ∙ skipped more cs)
+
+-- what the functions that read white space take from here
+pub ruleset white_steps = (unit_steps, ends-here, never-ends, no-line_end, line-goes, white-goes)

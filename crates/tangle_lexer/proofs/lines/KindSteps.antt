@@ -8,7 +8,7 @@ use Rattle.tangle_faults.specs.declared.faults.FaultKind.TheVariants as fault
 use Rattle.tangle_text.specs.declared.regions.Region.{Region}
 use Rattle.tangle_lines.specs.Bytes.{at_sign}
 use Rattle.tangle_text.specs.Bytes.{number_sign, backslash, holds}
-use Rattle.tangle_text.specs.Text.{Cell, span_at, front_line}
+use Rattle.tangle_text.specs.Text.{Cell, byte_at, span_at, front_line}
 use Rattle.tangle_text.specs.Regions.{units}
 use Rattle.tangle_lexer.specs.declared.tokens.Token.{Token}
 use Rattle.tangle_lexer.specs.declared.tokens.SpanKind.TheVariants as span_kind
@@ -30,9 +30,12 @@ use Rattle.tangle_lexer.specs.Lexemes.{is_c_part, is_in_directive, fault_if, whi
 use Rattle.tangle_lexer.specs.Comments.{unit_line_end, line_ends}
 use Rattle.tangle_lexer.specs.Constants.{constant_lexeme}
 use Rattle.tangle_lexer.specs.Names.{use_of_name, name_faults, name_end, has_single_equals, after_name}
-use Rattle.tangle_lexer.specs.Steps.{c_lexeme}
+use Rattle.tangle_lexer.specs.Steps.{c_lexeme, lexeme}
+use Rattle.tangle_lexer.specs.CText.{kind_at}
+use Rattle.tangle_lexer.specs.Heads.{is_head}
+use Rattle.tangle_lexer.proofs.lemmas.StepLemmas.{lexeme-here}
 use Rattle.tangle_lexer.specs.LinesOfParts.{is_use_fault}
-use Rattle.tangle_lexer.proofs.lemmas.LexemeCases.{OpensLexeme, IsPlainKind}
+use Rattle.tangle_lexer.proofs.lemmas.LexemeCases.{OpensLexeme, kind-opens}
 use Rattle.tangle_lexer.proofs.lemmas.PlainTokens.{HasNone, none-flat}
 use Rattle.tangle_lexer.proofs.laws.Points.{Point, IsByte, IsCellAt, IsTextAt, byte-test}
 use Rattle.tangle_lexer.proofs.laws.RegionOrder.{some-byte, other-byte}
@@ -114,7 +117,7 @@ module _ (texts : List (List ℕ)) (R : Judgement texts) where
       item-step texts R (token.AsciiConstant k.value (front_line s.last_line text)) refl
 
   -- uses
-  pub use-follows : (s : LexerState) (text : List Cell) → s.mode ≡ mode.CPart
+  use-follows : (s : LexerState) (text : List Cell) → s.mode ≡ mode.CPart
       → Follows s.line (use_of_name s text).tokens (use_of_name s text).after.line
   use-follows s text m =
       let n : ℕ = front_line s.last_line text in
@@ -129,19 +132,28 @@ module _ (texts : List (List ℕ)) (R : Judgement texts) where
       (faults-step texts R _ fault.NameEnd _ refl))
       (faults-step texts R _ fault.NameEquals _ refl))
 
-  pub kind-follows : (kind : LexemeKind) (s : LexerState) (at : Point) (c : Cell) (cs : List Cell)
-      → s.mode ≡ mode.CPart → IsPlainKind kind → OpensLexeme kind (c ∷ cs) → IsTextAt texts at (c ∷ cs)
+  kind-follows : (kind : LexemeKind) (s : LexerState) (at : Point) (c : Cell) (cs : List Cell)
+      → s.mode ≡ mode.CPart → HasNone is_head (c_lexeme kind s (c ∷ cs)).tokens → OpensLexeme kind (c ∷ cs)
+      → IsTextAt texts at (c ∷ cs)
       → Follows s.line (c_lexeme kind s (c ∷ cs)).tokens (c_lexeme kind s (c ∷ cs)).after.line
-  kind-follows (lexeme_kind.Control code.SectionStart) s at c cs m plain o is = absurd plain
-  kind-follows (lexeme_kind.Control code.Name) s at c cs m plain o is = absurd plain
-  kind-follows (lexeme_kind.Control code.DoubleAt) s at c cs m plain o is =
+  kind-follows (lexeme_kind.Control code.SectionStart) s at c cs m none o is = cc
+  kind-follows (lexeme_kind.Control code.Name) s at c cs m none o is = use-follows s (c ∷ cs) m
+  kind-follows (lexeme_kind.Control code.DoubleAt) s at c cs m none o is =
       sign-follows s.line.line s.line.at_line_end at c cs false false (grind arith) is.0
       (other-byte at_sign number_sign c.byte refl o.0) (other-byte at_sign backslash c.byte refl o.0)
-  kind-follows lexeme_kind.Word s at c cs m plain o is = item-step texts R _ refl
-  kind-follows lexeme_kind.Other s at c cs m plain o is =
+  kind-follows lexeme_kind.Word s at c cs m none o is = item-step texts R _ refl
+  kind-follows lexeme_kind.Other s at c cs m none o is =
       sign-follows s.line.line s.line.at_line_end at c cs (holds number_sign c.byte) (holds backslash c.byte)
       (some-byte c.byte o.0) is.0 refl refl
-  kind-follows (lexeme_kind.Control kind) s at c cs m plain o is =
+  kind-follows (lexeme_kind.Control kind) s at c cs m none o is =
       search (rules, white-alone, white-step, join-step, white-follows, line_ends-are, faults-step, verbatim-steps, use-step, constant-follows)
-  kind-follows _ s at c cs m plain o is =
+  kind-follows _ s at c cs m none o is =
       search (rules, line_end-step, white-step, white-follows, line_ends-are, faults-step, quoted-steps, some-byte)
+
+  -- a lexeme of a C part that is no head
+  pub lexeme-follows : (s : LexerState) (at : Point) (c : Cell) (cs : List Cell) → s.mode ≡ mode.CPart
+      → HasNone is_head (lexeme s (c ∷ cs)).tokens → IsTextAt texts at (c ∷ cs)
+      → Follows s.line (lexeme s (c ∷ cs)).tokens (lexeme s (c ∷ cs)).after.line
+  lexeme-follows s at c cs m none is =
+      let here = lexeme-here s (c ∷ cs) (kind_at s.line.include (c ∷ cs)) m refl in
+      rw here (kind-follows _ s at c cs m (rw here at none) (kind-opens s.line.include c.byte (byte_at 0 cs)) is)

@@ -3,33 +3,27 @@ use Rattle.std.proofs.Common.{rules}
 use Rattle.std.proofs.lemmas.Bool.Decides.{nat_tests}
 use Rattle.std.proofs.Common.{arith}
 use Rattle.std.proofs.Common.{◌≡◌, ℕ, zero, suc, Bool, true, false, ◌||◌, List, [], ◌∷◌, ◌++◌, length}
-use Rattle.std.proofs.Common.{Option, refl, ap, sym, ◌∙◌, subst, cond, drop, append_assoc, append-nil}
+use Rattle.std.proofs.Common.{refl, ap, sym, ◌∙◌, subst, cond, append_assoc, append-nil}
 use Rattle.std.proofs.lemmas.List.Folds.{list_any-append}
 use Rattle.tangle_lines.specs.Reading.{SourceLine}
 use Rattle.tangle_text.specs.Text.{Cell, text_from, texts_of}
 use Rattle.tangle_lexer.specs.declared.tokens.Token.{Token}
-use Rattle.tangle_lexer.specs.declared.tokens.Token.TheVariants as token
-use Rattle.tangle_faults.specs.declared.faults.FaultKind.TheVariants as fault
-use Rattle.tangle_lexer.specs.declared.lexeme_kinds.ControlCode.TheVariants as code
 use Rattle.tangle_lexer.specs.declared.modes.Mode.TheVariants as mode
 use Rattle.tangle_lexer.specs.declared.modes.LineOfC.TheVariants as line
 use Rattle.tangle_lexer.specs.declared.modes.AtLineEnd.TheVariants.{Ends}
 use Rattle.tangle_lexer.specs.declared.modes.LexerState.{LexerState}
 use Rattle.tangle_lexer.specs.LinesOfC as lines_of_c
-use Rattle.tangle_lexer.specs.Lexemes.{Lexeme, lexeme_of, in_mode, is_c_part, is_in_directive}
-use Rattle.tangle_lexer.specs.CText.{section_start, code_fault}
+use Rattle.tangle_lexer.specs.Lexemes.{Lexeme, is_in_directive}
 use Rattle.tangle_lexer.specs.Heads.{is_head}
-use Rattle.tangle_lexer.specs.Names.{definition_or_mention, definition_count, use_of_name}
-use Rattle.tangle_lexer.specs.Steps.{documentation_code, limbo_code, c_lexeme, lexeme, LexemeStart, lexeme_starts, first_state}
+use Rattle.tangle_lexer.specs.Steps.{lexeme, LexemeStart, lexeme_starts, first_state}
 use Rattle.tangle_lexer.specs.LinesOfParts.{is_directive, last_line, open_line, last_body, tokens_of}
-use Rattle.tangle_lexer.proofs.lemmas.LexemeCases.{lexeme-by}
-use Rattle.tangle_lexer.proofs.lemmas.PlainLexemes.{kind-plain, use-plain}
 use Rattle.tangle_lexer.proofs.lemmas.PlainTokens.{HasNone}
 use Rattle.tangle_lexer.proofs.laws.Points.{Point, point_at, after_cell, IsTextAt, text-is}
 use Rattle.tangle_lexer.proofs.lines.OpenLines.{directive-is}
 use Rattle.tangle_lexer.proofs.lines.LineSteps.{Judgement, Steps, no-steps, steps-append, front-open}
-use Rattle.tangle_lexer.proofs.lines.KindSteps.{Follows, kind-follows, use-follows}
-use Rattle.tangle_lexer.proofs.lines.PartLines.{no-heads, no-part, c_text-modes}
+use Rattle.tangle_lexer.proofs.lines.KindSteps.{lexeme-follows}
+use Rattle.tangle_lexer.proofs.lemmas.BlockLemmas.{no-head}
+use Rattle.tangle_lexer.proofs.lemmas.HeadLemmas.{c_part-is, lexeme-alone}
 use Rattle.std.proofs.Common.{inl, inr}
 
 -- the tokens after the last head
@@ -62,52 +56,17 @@ module _ (texts : List (List ℕ)) where
       s.mode ≡ mode.CPart → (b : Bool)
       → Steps texts (last-is b) line.Empty Ends (last_body ts) s.line.line s.line.at_line_end
 
-  Law : LexerState → Lexeme → Type 0
-  Law s here = (ts : List Token) → HasRead ts s → HasRead (ts ++ here.tokens) here.after
-
-  part-begins : (ts : List Token) (t : Token) → is_head t ≡ true → (b : Bool)
-      → Steps texts (last-is b) line.Empty Ends (last_body (ts ++ t ∷ [])) line.Empty Ends
-  part-begins ts t head b = rw (body-head ts t head) (no-steps texts (last-is b))
-
-  inside-law : (s : LexerState) (here : Lexeme) → s.mode ≡ mode.CPart → HasNone is_head here.tokens
-      → ((b : Bool) → Follows texts (last-is b) s.line here.tokens here.after.line) → Law s here
-  unfolding HasRead Law
-  inside-law s here m none follows ts read n b = search (rules, body-append, steps-append)
-
-  outside-law : (s : LexerState) (here : Lexeme) → is_c_part here.after.mode ≡ false → Law s here
-  unfolding HasRead Law
-  outside-law s here out ts read m = absurd (let never : true ≡ false = sym (ap is_c_part m) ∙ out in cc)
-
-  name-law : (o : Option ℕ) (s : LexerState) (text : List Cell) → Law s (definition_or_mention o s text)
-  unfolding HasRead Law
-  name-law o s text = search (rules, part-begins)
-
-  lexeme-law : (s : LexerState) (at : Point) (c : Cell) (cs : List Cell)
-      → IsTextAt texts at (c ∷ cs) → Law s (lexeme s (c ∷ cs))
-  unfolding HasRead Law
-  lexeme-law s at c cs is =
-      let text : List Cell = c ∷ cs in
-      lexeme-by (Law s) s text (record {
-        section = outside-law s (section_start s) refl;
-        macro = λ o. outside-law s (documentation_code code.Macro s text) refl;
-        part = λ o ts read m. part-begins ts (token.UnnamedPart c.line) refl;
-        used = λ m o.
-            inside-law s (use_of_name s text) m
-            (no-heads (drop 1 (use_of_name s text).tokens) (use-plain s text).none)
-            (λ b. use-follows texts (last-is b) s text m);
-        name = λ out. name-law (definition_count text) s text;
-        limbo = λ m is_fault. outside-law s (limbo_code is_fault s text) (ap is_c_part m);
-        skip = λ out n. outside-law s (lexeme_of [] n s) (no-part s.mode out);
-        format = λ m. outside-law s (lexeme_of [] 1 (in_mode mode.Documentation s)) refl;
-        misplaced = λ m o. outside-law s (code_fault fault.MisplacedH s text) (ap is_c_part m);
-        inside = λ within kind p o. elim (c_text-modes s.mode within) [
-          | inl m ↦
-              inside-law s (c_lexeme kind s text) m
-              (no-heads (c_lexeme kind s text).tokens (kind-plain kind s text p).tokens.none)
-              (λ b. kind-follows texts (last-is b) kind s at c cs m p o is)
-          | inr m ↦ outside-law s (c_lexeme kind s text) (ap is_c_part ((kind-plain kind s text p).mode ∙ m))
-        ];
-      })
+  -- one lexeme more: a head, after which a part begins, or one that goes on
+  lexeme-law : (s : LexerState) (at : Point) (c : Cell) (cs : List Cell) → IsTextAt texts at (c ∷ cs)
+      → (ts : List Token) → HasRead ts s → HasRead (ts ++ (lexeme s (c ∷ cs)).tokens) (lexeme s (c ∷ cs)).after
+  unfolding HasRead
+  lexeme-law s at c cs is ts read m b =
+      let here = lexeme s (c ∷ cs) in
+      elim (lexeme-alone s (c ∷ cs)) [
+        | inl plain ↦
+            search (rules, c_part-is, no-head, body-append, steps-append, lexeme-follows)
+        | inr head ↦ rw (head.1, body-head ts head.0 head.2, head.4) (no-steps texts (last-is b))
+      ]
 
   Knows : List Token → LexemeStart → Type 0
   Knows ts here =
@@ -130,7 +89,7 @@ module _ (texts : List (List ℕ)) where
 
   all-known : (k : ℕ) (s : LexerState) (text : List Cell) (at : Point) (ts : List Token)
       → IsTextAt texts at text → HasRead ts s → KnowsAll ts (lexeme_starts k s text)
-  unfolding KnowsAll Law
+  unfolding KnowsAll
   all-known k s [] at ts is read = tt
   all-known (suc k) s (c ∷ cs) at ts is read = all-known k s cs (after_cell c) ts is.1 read
   all-known zero s (c ∷ cs) at ts is read =

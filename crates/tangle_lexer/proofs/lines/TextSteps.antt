@@ -4,6 +4,8 @@ use Rattle.std.proofs.Common.{inl, inr, refl, ap, sym, ◌∙◌, arith, subst, 
 use Rattle.std.proofs.lemmas.Bool.Decides.{nat_tests, eqb_tells}
 use Rattle.tangle_faults.specs.declared.faults.FaultKind.TheVariants as fault
 use Rattle.tangle_text.specs.declared.regions.Region.{Region}
+use Rattle.tangle_text.specs.declared.regions.Region.TheVariants as region
+use Rattle.std.proofs.Common.{rules}
 use Rattle.tangle_text.specs.declared.spans.Span.{Span}
 use Rattle.tangle_text.specs.Bytes.{backslash, holds}
 use Rattle.tangle_text.specs.Regions.{count_before}
@@ -19,7 +21,7 @@ use Rattle.tangle_lexer.specs.LinesOfC.{with_item}
 use Rattle.tangle_lexer.specs.Quoted.{range_token, cut_range, cut_tokens, quote_end}
 use Rattle.tangle_lexer.specs.SpanBytes.{last_byte}
 use Rattle.tangle_lexer.proofs.laws.CutTexts.{IsCut, cut-by}
-use Rattle.tangle_lexer.proofs.laws.Points.{Point, point_at, source_byte, IsByte, IsCellAt, IsTextAt, text-next}
+use Rattle.tangle_lexer.proofs.laws.Points.{Point, point_at, source_byte, IsByte, IsCellAt, IsTextAt, byte-test, text-next}
 use Rattle.tangle_lexer.proofs.laws.RegionOrder.{other-byte}
 use Rattle.tangle_lexer.proofs.lines.LineSteps.{Judgement, Steps, steps-append, fault-step, faults-step, item-step}
 
@@ -31,11 +33,19 @@ range-is r l start end h = grind (arith, nat_tests)
 range-none : (r : Region) (l start end : ℕ) → end ≤ start → cut_range r l start end ≡ []
 range-none r l start end h = grind (arith, nat_tests)
 
-same-item : (l : LineOfC) → with_item false (with_item false l) ≡ with_item false l
+pub same-item : (l : LineOfC) → with_item false (with_item false l) ≡ with_item false l
 same-item l = grind arith
 
 abbrev pub end_by : Bool → AtLineEnd
 end_by b = if b then GoesOn else Ends
+
+-- what a line end after a range of a text does, by whether the last byte of the range is a backslash
+abbrev pub ending : Region → Bool → AtLineEnd
+ending region.Verbatim b = end_by b
+ending _ b = Ends
+
+ending-none : (r : Region) → Ends ≡ ending r false
+ending-none x = search rules
 
 -- the last of the first `n` cells is a backslash; `last`: the cell before them is one
 abbrev pub last_cell : Bool → ℕ → List Cell → Bool
@@ -52,27 +62,28 @@ module _ (texts : List (List ℕ)) (R : Judgement texts) where
   -- the byte before the column after a cell
   after-byte-of : (at : Point) (c : Cell) → IsByte c.byte → IsCellAt texts at c
       → (source_byte texts c.line (c.column + 1 - 1) == backslash) ≡ holds backslash c.byte
-  after-byte-of at c byte is = grind arith
+  after-byte-of at c byte is = let e : c.column + 1 - 1 ≡ c.column = omega arith in rw e (byte-test texts backslash at c byte is)
 
-  -- A text whose ranges are items. `ending` is what a line end after a range does, by whether the last byte of the
-  -- range is a backslash.
-  module _ (r : Region) (cut : IsCut r) (ending : Bool → AtLineEnd) (plain : Ends ≡ ending false)
-      (item : (s : Span) (x : LineOfC) (f : AtLineEnd)
-      → Steps texts R x f (range_token r s ∷ []) (with_item false x) (ending (last_byte texts s == backslash)))
-      (l : LineOfC) where
+  -- the ranges of a text are items
+  range-item : (r : Region) (s : Span) (x : LineOfC) (f : AtLineEnd)
+      → Steps texts R x f (range_token r s ∷ []) (with_item false x) (ending r (last_byte texts s == backslash))
+  range-item region.Verbatim s x f = item-step texts R (token.Span span_kind.Verbatim s) refl
+  range-item _ s x f = item-step texts R (token.Span span_kind.Quoted s) refl
+
+  module _ (r : Region) (cut : IsCut r) (l : LineOfC) where
     abbrev m : LineOfC
     m = with_item false l
 
     -- a range that is not empty, which ends in a backslash or not
     pub range-step : (x : LineOfC) (f : AtLineEnd) (line start end : ℕ) (b : Bool) → with_item false x ≡ m → start < end
         → (source_byte texts line (end - 1) == backslash) ≡ b
-        → Steps texts R x f (cut_range r line start end) m (ending b)
+        → Steps texts R x f (cut_range r line start end) m (ending r b)
     range-step x f line start end b same h ends =
         let s : Span = record { line = line; start = start; end = end } in
         let is : (last_byte texts s == backslash) ≡ b = ap (λ n. n == backslash) (last-is line start end h) ∙ ends in
         rw (range-is r line start end h)
-        (subst (λ y. Steps texts R x f (range_token r s ∷ []) y (ending b)) same
-        (subst (λ y. Steps texts R x f (range_token r s ∷ []) (with_item false x) (ending y)) is (item s x f)))
+        (subst (λ y. Steps texts R x f (range_token r s ∷ []) y (ending r b)) same
+        (subst (λ y. Steps texts R x f (range_token r s ∷ []) (with_item false x) (ending r y)) is (range-item r s x f)))
 
     -- The tokens from the start of a range on, before which the line is `x` and `f`, and `last` is whether a backslash
     -- is before the text. If the range is empty so far, then there is more, or there is an item before it.
@@ -80,8 +91,8 @@ module _ (texts : List (List ℕ)) (R : Judgement texts) where
     IsCutFrom at start ts n text =
         (x : LineOfC) (f : AtLineEnd) (last : Bool) → with_item false x ≡ m
         → (start < at.column → (source_byte texts at.line (at.column - 1) == backslash) ≡ last)
-        → (start ≡ at.column → (0 < n) ⊎ ((x ≡ m) × (f ≡ ending last)))
-        → Steps texts R x f ts m (ending (last_cell last n text))
+        → (start ≡ at.column → (0 < n) ⊎ ((x ≡ m) × (f ≡ ending r last)))
+        → Steps texts R x f ts m (ending r (last_cell last n text))
 
     -- the range before a cell that ends the text, and a fault
     pub stop-step : (at : Point) (start : ℕ) (c : Cell) (cs : List Cell) (faults : List Token)
@@ -97,7 +108,7 @@ module _ (texts : List (List ℕ)) (R : Judgement texts) where
               let more : start < at.column = omega arith in
               range-step x f c.line start c.column last same (omega arith) (rw (is.line, is.column) (back more))
         ])
-        (fault (ending last))
+        (fault (ending r last))
 
     module _ (ends : ℕ → List Cell → List Token)
         (stop : (at : Point) (start : ℕ) (text : List Cell) → start ≤ at.column → IsTextAt texts at text
@@ -109,54 +120,48 @@ module _ (texts : List (List ℕ)) (R : Judgement texts) where
           cut-by texts r cut ends IsCutFrom stop
           (λ at start c cs ts n h is byte alone next x f last same back done.
           steps-append texts R _ ts (faults-step texts R (holds at_sign c.byte) fault.StringAt c.line refl)
-          (next x f (holds backslash c.byte) same (λ k. after-byte-of at c byte is)
-          (λ k. absurd (omega arith))))
+          (search (rules, after-byte-of)))
           (λ at start c d cs ts n h is cell byte second sign other next x f last same back done.
           let no_end : holds backslash c.byte ≡ false = other-byte at_sign backslash c.byte refl sign in
           let range : List Token = cut_range r c.line start (c.column + 1) in
-          subst (λ b. Steps texts R x f (range ++ ts) m (ending (last_cell b n cs)))
+          subst (λ b. Steps texts R x f (range ++ ts) m (ending r (last_cell b n cs)))
           (sym (other-byte at_sign backslash d.byte refl other))
           (steps-append texts R range ts
           (range-step x f c.line start (c.column + 1) false same (omega arith)
           (after-byte-of at c byte is ∙ no_end))
-          (next m (ending false) false (same-item l) (λ k. absurd (omega arith))
-          (λ k. inr (refl, refl)))))
+          (search (rules, same-item))))
           (λ at start c d cs ts n h is cell byte second sign other next x f last same back done.
           next x f (holds backslash d.byte) same (λ k. after-byte-of (point_at c.line (c.column + 1)) d second cell)
           (λ k. absurd (omega arith)))
           (λ at start c d cs ts n h is cell byte none other next x f last same back done.
           let range : List Token = cut_range r c.line start (c.column + 1) in
           let b : Bool = holds backslash c.byte in
-          subst (λ y. Steps texts R x f (range ++ token.QuoteBreak c.line ∷ ts) m (ending (last_cell y n cs)))
+          subst (λ y. Steps texts R x f (range ++ token.QuoteBreak c.line ∷ ts) m (ending r (last_cell y n cs)))
           (sym (ap (holds backslash) none))
           (steps-append texts R range (token.QuoteBreak c.line ∷ ts)
           (range-step x f c.line start (c.column + 1) b same (omega arith) (after-byte-of at c byte is))
           (steps-append texts R (token.QuoteBreak c.line ∷ []) ts
-          (subst (λ y. Steps texts R m (ending b) (token.QuoteBreak c.line ∷ []) y Ends) (same-item l)
+          (subst (λ y. Steps texts R m (ending r b) (token.QuoteBreak c.line ∷ []) y Ends) (same-item l)
           (item-step texts R (token.QuoteBreak c.line) refl))
-          (next m Ends false (same-item l) (λ k. absurd (omega arith)) (λ k. inr (refl, plain))))))
+          (next m Ends false (same-item l) (λ k. absurd (omega arith)) (λ k. inr (refl, ending-none r))))))
 
   -- quoted texts: no line end after one of their ranges goes on
-  module _ (r : Region) (cut : IsCut r) (quoted : (s : Span) → range_token r s ≡ token.Span span_kind.Quoted s)
-      (l : LineOfC) (e : AtLineEnd) where
-    quoted-item : (s : Span) (x : LineOfC) (f : AtLineEnd)
-        → Steps texts R x f (range_token r s ∷ []) (with_item false x) Ends
-    quoted-item s x f = rw (quoted s) (item-step texts R (token.Span span_kind.Quoted s) refl)
-
+  module _ (r : Region) (cut : IsCut r) (quoted : (b : Bool) → ending r b ≡ Ends) (l : LineOfC) (e : AtLineEnd) where
     quoted-stop : (close last : ℕ) (at : Point) (start : ℕ) (text : List Cell)
         → start ≤ at.column → IsTextAt texts at text
-        → IsCutFrom r cut (λ b. Ends) refl quoted-item l at start (quote_end r close last start text) 0 text
+        → IsCutFrom r cut l at start (quote_end r close last start text) 0 text
     unfolding IsCutFrom
     quoted-stop close last at start [] h is x f before same back done = grind (arith, nat_tests, fault-step)
     quoted-stop close last at start (c ∷ cs) h is x f before same back done = by (holds close c.byte)
       where
         by : (b : Bool) → Steps texts R x f (cond b (cut_range r c.line start (c.column + 1))
-            (cut_range r c.line start c.column ++ token.Fault fault.StringEnd c.line ∷ [])) (with_item false l) Ends
+            (cut_range r c.line start c.column ++ token.Fault fault.StringEnd c.line ∷ []))
+            (with_item false l) (ending r before)
         by true =
-            range-step r cut (λ b. Ends) refl quoted-item l x f c.line start (c.column + 1) _ same (omega arith) refl
+            subst (λ y. Steps texts R x f (cut_range r c.line start (c.column + 1)) (with_item false l) y)
+            (quoted _ ∙ sym (quoted before)) (range-step r cut l x f c.line start (c.column + 1) _ same (omega arith) refl)
         by false =
-            stop-step r cut (λ b. Ends) refl quoted-item l at start c cs
-            (token.Fault fault.StringEnd c.line ∷ []) h is.0
+            stop-step r cut l at start c cs (token.Fault fault.StringEnd c.line ∷ []) h is.0
             (λ g. fault-step texts R fault.StringEnd c.line refl) x f before same back done
 
     pub quoted-steps : (close last : ℕ) (at : Point) (c : Cell) (cs : List Cell)
@@ -164,6 +169,7 @@ module _ (texts : List (List ℕ)) (R : Judgement texts) where
         → Steps texts R l e (cut_tokens (quote_end r close last) r 0 c.column cs) (with_item false l) Ends
     unfolding IsCutFrom
     quoted-steps close last at c cs is byte =
-        cut-from r cut (λ b. Ends) refl quoted-item l (quote_end r close last) (quoted-stop close last)
+        rw (← quoted (last_cell (holds backslash c.byte) (count_before r cs) cs))
+        (cut-from r cut l (quote_end r close last) (quoted-stop close last)
         (point_at c.line (c.column + 1)) c.column cs (omega arith) (text-next texts at c cs is byte) l e
-        (holds backslash c.byte) refl (λ k. after-byte-of at c byte is.0) (λ k. absurd (omega arith))
+        (holds backslash c.byte) refl (λ k. after-byte-of at c byte is.0) (λ k. absurd (omega arith)))

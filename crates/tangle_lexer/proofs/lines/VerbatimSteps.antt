@@ -1,28 +1,30 @@
 -- A verbatim text is an item of the open line of C, which may end in a backslash.
 use Rattle.std.proofs.Common.{rules}
-use Rattle.std.proofs.Common.{◌≡◌, ℕ, ◌≤◌, Bool, true, false, List, [], ◌∷◌, ◌==◌}
-use Rattle.std.proofs.Common.{inl, inr, refl, sym, arith, subst}
-use Rattle.std.proofs.lemmas.Bool.Decides.{nat_tests, eqb_tells}
-use Rattle.tangle_faults.specs.declared.faults.FaultKind.TheVariants as fault
+use Rattle.std.proofs.Common.{◌≡◌, ◌≤◌, Bool, true, false, List, [], ◌∷◌, ◌==◌}
+use Rattle.std.proofs.Common.{inl, inr, refl, arith, subst, ◌<◌, ◌⊎◌, ◌++◌, ℕ}
+use Rattle.std.proofs.lemmas.Bool.Decides.{nat_tests}
 use Rattle.tangle_text.specs.declared.regions.Region.TheVariants as region
-use Rattle.tangle_text.specs.declared.spans.Span.{Span}
-use Rattle.tangle_text.specs.Bytes.{backslash, is_line_end}
-use Rattle.tangle_text.specs.Regions.{units, count_before}
+use Rattle.tangle_text.specs.declared.regions.Unit.{Unit as Unit-of}
+use Rattle.tangle_text.specs.declared.regions.Unit.TheVariants as unit
+use Rattle.tangle_text.proofs.UnitLemmas.{count-is}
+use Rattle.tangle_text.specs.Bytes.{backslash}
+use Rattle.tangle_text.specs.Regions.{units, unit_at, count_before}
 use Rattle.tangle_text.specs.Text.{Cell, span_at}
 use Rattle.tangle_lexer.specs.declared.modes.AtLineEnd.{AtLineEnd}
 use Rattle.tangle_lexer.specs.declared.modes.AtLineEnd.TheVariants.{Ends}
 use Rattle.tangle_lexer.specs.declared.modes.LineOfC.{LineOfC}
 use Rattle.tangle_lexer.specs.declared.tokens.SpanKind.TheVariants as span_kind
+use Rattle.tangle_lexer.specs.declared.tokens.Token.{Token}
 use Rattle.tangle_lexer.specs.declared.tokens.Token.TheVariants as token
 use Rattle.tangle_lexer.specs.LinesOfC.{with_item}
-use Rattle.tangle_lexer.specs.Quoted.{range_token, verbatim_end, empty_end, verbatim_tokens, last_is_backslash}
+use Rattle.tangle_lexer.specs.Quoted.{cut_tokens, at_stop, verbatim_end, verbatim_tokens, last_is_backslash}
 use Rattle.tangle_lexer.specs.Quoted.{verbatim_ends_in_backslash}
 use Rattle.tangle_lexer.specs.SpanBytes.{last_byte}
 use Rattle.tangle_lexer.proofs.laws.CutTexts.{verbatim-cut}
-use Rattle.tangle_lexer.proofs.laws.Points.{Point, IsTextAt}
+use Rattle.tangle_lexer.proofs.laws.Points.{Point, IsTextAt, text-column}
 use Rattle.tangle_lexer.proofs.laws.RegionUnits.{units-by}
 use Rattle.tangle_lexer.proofs.lines.LineSteps.{Judgement, Steps, steps-append, faults-step, item-step}
-use Rattle.tangle_lexer.proofs.lines.TextSteps.{end_by, last_cell, IsCutFrom, stop-step, cut-from}
+use Rattle.tangle_lexer.proofs.lines.TextSteps.{end_by, last_cell, same-item, IsCutFrom, stop-step, cut-from}
 
 -- the last unit is a backslash if the last cell is
 units-last : (text : List Cell) (last : Bool)
@@ -33,51 +35,49 @@ units-last =
     (search rules) (λ last. refl) (search rules) (search rules)
     (λ c e. absurd (let never : false ≡ true = (grind arith) in cc))
 
+goes-some : (text : List Cell) → (unit_at region.Verbatim text ≡ unit.Stop → ⊥) → 0 < count_before region.Verbatim text
+goes-some [] go = absurd (go refl)
+goes-some (c ∷ cs) go = grind (arith, nat_tests, count-is)
+
 module _ (texts : List (List ℕ)) (R : Judgement texts) (l : LineOfC) where
-  abbrev m : LineOfC
-  m = with_item false l
-
-  item : (s : Span) (x : LineOfC) (f : AtLineEnd)
-      → Steps texts R x f (range_token region.Verbatim s ∷ []) (with_item false x)
-      (end_by (last_byte texts s == backslash))
-  item s x f = item-step texts R (token.Span span_kind.Verbatim s) refl
-
   verbatim-stop : (at : Point) (start : ℕ) (text : List Cell) → start ≤ at.column → IsTextAt texts at text
-      → IsCutFrom texts R region.Verbatim verbatim-cut end_by refl item l at start (verbatim_end start text) 0 text
+      → IsCutFrom texts R region.Verbatim verbatim-cut l at start (verbatim_end start text) 0 text
   unfolding IsCutFrom
   verbatim-stop at start [] h is = grind (arith, nat_tests)
   verbatim-stop at start (c ∷ cs) h is = search (rules, stop-step, faults-step)
 
   empty-step : (e : AtLineEnd) (text : List Cell)
-      → Steps texts R l e (token.Span span_kind.Verbatim (span_at 0 text) ∷ []) m Ends
+      → Steps texts R l e (token.Span span_kind.Verbatim (span_at 0 text) ∷ []) (with_item false l) Ends
   empty-step e text =
-      subst (λ b. Steps texts R l e (token.Span span_kind.Verbatim (span_at 0 text) ∷ []) m (end_by b)) (none text)
-      (item (span_at 0 text) l e)
+      subst (λ b. Steps texts R l e (token.Span span_kind.Verbatim (span_at 0 text) ∷ []) (with_item false l) (end_by b))
+      (none text) (item-step texts R (token.Span span_kind.Verbatim (span_at 0 text)) refl)
     where
       none : (text : List Cell) → (last_byte texts (span_at 0 text) == backslash) ≡ false
       none x = grind (arith, nat_tests)
 
-  empty-end : (e : AtLineEnd) (text : List Cell)
-      → Steps texts R l e (token.Span span_kind.Verbatim (span_at 0 text) ∷ empty_end text) m Ends
-  empty-end e [] = empty-step e []
-  empty-end e (c ∷ cs) =
-      steps-append texts R (token.Span span_kind.Verbatim (span_at 0 (c ∷ cs)) ∷ []) _
-      (empty-step e (c ∷ cs)) (faults-step texts R (is_line_end c.byte) fault.VerbatimEnd c.line refl)
+  module _ (at : Point) (text : List Cell) (is : IsTextAt texts at text) where
+    -- after tokens of the text the line has an item, and goes on if the text ends in a backslash
+    abbrev End : LineOfC → AtLineEnd → List Token → Type 0
+    End x f ts =
+        Steps texts R x f ts (with_item false l) (end_by (last_cell false (count_before region.Verbatim text) text))
 
-  pub verbatim-steps : (e : AtLineEnd) (at : Point) (text : List Cell) → IsTextAt texts at text
-      → Steps texts R l e (verbatim_tokens text) m (end_by (verbatim_ends_in_backslash text))
-  unfolding IsCutFrom
-  verbatim-steps e at [] is = empty-end e []
-  verbatim-steps e at (c ∷ cs) is =
-      let text : List Cell = c ∷ cs in
-      let n : ℕ = count_before region.Verbatim text in
-      subst (λ b. Steps texts R l e (verbatim_tokens text) m (end_by b)) (sym (units-last text false))
-      (elim (eqb_tells n 0) [
-        | inl none ↦
-            rw (none.0, none.1) (empty-end e text)
-        | inr some ↦
-            rw some.0
-            (cut-from texts R region.Verbatim verbatim-cut end_by refl item l verbatim_end verbatim-stop
-            at c.column text (omega arith) is l e false refl
-            (λ k. absurd (omega arith)) (λ k. inl (omega arith)))
-      ])
+    ranges-end : (x : LineOfC) (f : AtLineEnd) → with_item false x ≡ with_item false l
+        → (0 < count_before region.Verbatim text) ⊎ ((x ≡ with_item false l) × (f ≡ Ends))
+        → End x f (cut_tokens verbatim_end region.Verbatim 0 at.column text)
+    unfolding IsCutFrom
+    ranges-end x f same done =
+        cut-from texts R region.Verbatim verbatim-cut l verbatim_end verbatim-stop at at.column text (omega arith) is
+        x f false same (λ k. absurd (omega arith)) (λ k. done)
+
+    pub verbatim-steps : (e : AtLineEnd)
+        → Steps texts R l e (verbatim_tokens text) (with_item false l) (end_by (verbatim_ends_in_backslash text))
+    verbatim-steps e =
+        rw (units-last text false, text-column texts at text is) (by (unit_at region.Verbatim text) refl)
+      where
+        by : (u : Unit-of) → unit_at region.Verbatim text ≡ u
+            → End l e (at_stop u (token.Span span_kind.Verbatim (span_at 0 text) ∷ []) []
+            ++ cut_tokens verbatim_end region.Verbatim 0 at.column text)
+        by unit.Stop stops =
+            steps-append texts R (token.Span span_kind.Verbatim (span_at 0 text) ∷ []) _ (empty-step e text)
+            (ranges-end (with_item false l) Ends (same-item l) (inr (refl, refl)))
+        by u goes = ranges-end l e refl (inl (goes-some text (λ stops. cc)))

@@ -3,7 +3,7 @@ use Rattle.std.proofs.Common.{rules}
 use Rattle.std.proofs.lemmas.Bool.Decides.{nat_tests}
 use Rattle.std.proofs.Common.{◌≡◌, ℕ, ◌+◌, ◌<◌, Bool, true, false, if◌then◌else◌, Option, Some}
 use Rattle.std.proofs.Common.{List, [], ◌∷◌, ◌++◌, length, refl, arith, append_assoc, append-nil}
-use Rattle.std.proofs.Common.{map}
+use Rattle.std.proofs.Common.{map, subst}
 use Rattle.std.proofs.lemmas.List.{map-append, length-map}
 use Rattle.std.specs.List.{list_all}
 use Rattle.std.proofs.lemmas.List.Folds.{list_all-append}
@@ -19,10 +19,10 @@ use Rattle.tangle_scan.specs.Rules.{is_continued, at_line_front, blanks, next_li
 use Rattle.tangle_scan.specs.LineTruth.{counted_after_line_end}
 use Rattle.tangle_scan.specs.LineTruth.{has_line_end, left_or_join, locations, is_expected, with_line_end}
 use Rattle.tangle_scan.specs.LineTruth.{origin_after_mark, part_locations, Location, IsOwn, AreAtTheirLines, IsAtItsLine}
-use Rattle.tangle_scan.specs.Passes.{items_by_origin, items_after, line_item, turn_after_line_end, is_whole}
+use Rattle.tangle_scan.specs.Passes.{items_by_origin, items_after, line_item, turn_after_line_end, is_unmarked, is_whole}
 use Rattle.tangle_lexer.proofs.laws.TokenOrder.{line_past, IsInPart, AreByLine}
 use Rattle.tangle_scan.proofs.lemmas.ItemsByOrigin.{part_items-by_origin, same-is, turn_of, turn-snoc, turn-is}
-use Rattle.std.proofs.Common.{◌≤◌, nat_le, None, is_some, ◌&&◌, ◌||◌, not, ap, sym, ◌∙◌}
+use Rattle.std.proofs.Common.{◌≤◌, nat_le, None, ◌&&◌, ◌||◌, not, ap, sym, ◌∙◌}
 use Rattle.tangle_text.specs.Bytes.{backslash}
 use Rattle.tangle_lexer.specs.declared.tokens.SpanKind.TheVariants as span_kind
 use Rattle.tangle_scan.specs.declared.items.Item.TheVariants as item
@@ -80,31 +80,13 @@ inner-join (_ ∷ run) = inner-join run
 abbrev AreGaps : List Token → Type 0
 AreGaps run = list_all is_gap run ≡ true
 
-gaps-push : (run : List Token) (e : Token) → AreGaps run → is_gap e ≡ true → AreGaps (run ++ e ∷ [])
-gaps-push run e gaps gap = rw (list_all-append is_gap run (e ∷ []), gaps, gap) refl
-
--- the line after the line ends of a run
-abbrev line_after_tokens : ℕ → List Token → ℕ
-line_after_tokens line [] = line
-line_after_tokens line (e ∷ es) = line_after_tokens (line_past line e) es
-
-line_after_tokens-same : (line : ℕ) (run : List Token)
-    → AreGaps run → has_line_end run ≡ false → line_after_tokens line run ≡ line
-line_after_tokens-same line [] g h = refl
-line_after_tokens-same line (token.Join ∷ run) g h = line_after_tokens-same line run g h
-line_after_tokens-same line (token.White ∷ run) g h = line_after_tokens-same line run g h
-line_after_tokens-same line (_ ∷ run) g h = cc
-
-by_line-after : (texts : List (List ℕ)) (line : ℕ) (run es : List Token)
-    → AreClean texts line (run ++ es) → AreClean texts (line_after_tokens line run) es
-by_line-after texts line [] es h = h
-by_line-after texts line (e ∷ run) es h = by_line-after texts (line_past line e) run es h.1
-
--- the line after a run is not before it
-after-least : (line : ℕ) (run : List Token) → AreGaps run → line ≤ line_after_tokens line run
-after-least line [] g = omega arith
-after-least line (token.Join ∷ run) g = after-least line run g
-after-least line (e ∷ run) g = grind (arith, after-least (line_past line e) run)
+-- The tokens after a run follow from a line on that is not before this one, and is this one if the run has no line end.
+after-run : (texts : List (List ℕ)) (line : ℕ) (run es : List Token) → AreGaps run → AreClean texts line (run ++ es)
+    → (after : ℕ) × (line ≤ after) × (has_line_end run ≡ false → after ≡ line) × AreClean texts after es
+after-run texts line [] es gaps h = (line, omega arith, λ none. refl, h)
+after-run texts line (token.Join ∷ run) es gaps h = after-run texts line run es gaps h.1
+after-run texts line (token.White ∷ run) es gaps h = after-run texts line run es gaps h.1
+after-run texts line (e ∷ run) es gaps h = grind (arith, after-run texts (line_past line e) run es)
 
 goes-snoc : (texts : List (List ℕ)) (xs : List Item) (x : Item) → goes_on texts (xs ++ x ∷ [])
     ≡ (if is_blank x then goes_on texts xs else item_ends_in backslash texts x)
@@ -164,46 +146,28 @@ module _ (lines : List SourceLine) where
       (origin : Option Origin) (line : List Item) (h : Inv before at counted stretch number read origin line) where
     -- a blank
     blank-known : Inv before at counted stretch number read origin (line ++ item.Blank ∷ [])
-    blank-known = record {
-      counts = h.counts;
-      obeys = h.obeys;
-      turns = λ real. turn-snoc texts line item.Blank ∙ h.turns real;
-      goes = goes-snoc texts line item.Blank ∙ h.goes;
-    }
+    blank-known = search (rules, turn-snoc, goes-snoc)
 
     -- a source item
-    own : (n : ℕ) (x : Item) → n ≡ number → number < length texts
+    own : (n : ℕ) (x : Item) → n ≡ number → n < length texts
         → IsOwn lines read origin x (record { item = x; line = n; in_stretch = stretch })
-    own n x same inside = record {
-      item = refl;
-      line = rw same real;
-      origin = λ is out. h.obeys is real ∙ ap Some (h.counts out real ∙ ap (origin_at lines) (sym same));
-    }
-      where
-        real : number < length lines
-        real = omega (arith, inside, length-map lines (λ l. l.bytes))
+    own n x same inside = grind (arith, length-map lines (λ l. l.bytes))
 
     -- one token other than a join, white space and a line end, before others
     item-true : (e : Token) (es fs gs : List Token) → is_gap e ≡ false → AreTrue es fs gs → AreClean texts number (e ∷ es)
         → AreAtTheirLines lines read origin line
         (items_by_origin lines before at counted (e ∷ blanks texts (Some e) false fs))
         (locations lines before counted stretch (e ∷ gs))
-    item-true (token.QuoteBreak n) es fs gs gap next ordered = search (rules, expected-is, not-out, turn-snoc, goes-snoc)
-    item-true (token.UseOf n occurrence) es fs gs gap next ordered = search rules
-    item-true (token.AllMacros n) es fs gs gap next ordered = search rules
-    item-true (token.Span span_kind.Word s) es fs gs gap next ordered = (
-      own s.line (item.Word s) ordered.0.0 (rw (← ordered.0.0) ordered.0.1.line),
-      search (rules, turn-snoc, goes-snoc),
+    item-true (token.Span span_kind.Word s) es fs gs gap next ordered =
+        (search (rules, own), search (rules, turn-snoc, goes-snoc))
+    item-true (token.Span kind s) es fs gs gap next ordered =
+        (search (rules, own), search (rules, turn-snoc, goes-snoc))
+    item-true (token.AsciiConstant b n) es fs gs gap next ordered =
+        (own n (item.AsciiConstant b) ordered.0.0 (rw ordered.0.0 ordered.0.1), search (rules, turn-snoc, goes-snoc))
+    item-true e es fs gs gap next ordered = first_of (
+      search (rules, expected-is, not-out, turn-snoc, goes-snoc),
+      grind (arith, ordered.0),
     )
-    item-true (token.Span kind s) es fs gs gap next ordered = (
-      own s.line _ ordered.0.0 (rw (← ordered.0.0) ordered.0.1.line),
-      search (rules, turn-snoc, goes-snoc),
-    )
-    item-true (token.AsciiConstant b n) es fs gs gap next ordered = (
-      own n (item.AsciiConstant b) ordered.0.0 ordered.0.1,
-      search (rules, turn-snoc, goes-snoc),
-    )
-    item-true e es fs gs gap next ordered = grind (arith, ordered.0)
 
     -- the end of a line, with what is true of the rest
     end-true : (n : ℕ) (rest : List Item) (ss : List Location) →
@@ -215,7 +179,7 @@ module _ (lines : List SourceLine) where
         (continued && not (is_expected lines counted n)) (number + 1) now from more
         → AreAtTheirLines lines now from more rest ss)
         → AreAtTheirLines lines read origin line (line_item lines continued (is_whole at) counted n ∷ rest) ss
-    end-true n rest ss same next = by (is_continued texts before) refl next
+    end-true n rest ss same next = by (is_continued texts before) (is_unmarked lines (is_whole at) counted n) refl refl next
       where
         last : Bool
         last = nat_le (length lines) (n + 1)
@@ -234,61 +198,38 @@ module _ (lines : List SourceLine) where
             (if c || expected then next_line counted else mark) (c && not expected) (number + 1) now from more
             → AreAtTheirLines lines now from more rest ss
 
-        no-turn : number + 1 < length lines → (if is_whole at then last else expected) ≡ true
+        no-turn : (t : Bool) → is_whole at ≡ t → number + 1 < length lines → (if t then last else expected) ≡ true
             → (is_turn texts line ≡ false) × (expected ≡ true)
-        no-turn real is = by_kind (is_whole at) refl
-          where
-            by_kind : (t : Bool) → is_whole at ≡ t → (is_turn texts line ≡ false) × (expected ≡ true)
-            by_kind true e = grind (arith, nat_tests, not-last n number same real)
-            by_kind false e = (turn-is texts line ∙ ap is_whole (h.turns (omega arith)) ∙ e, rw e at is)
+        no-turn true e real is = grind (arith, nat_tests, not-last n number same real)
+        no-turn false e real is = (turn-is texts line ∙ ap is_whole (h.turns (omega arith)) ∙ e, is)
 
         -- what is known after a line that is not continued
         known : (now : Bool) (from : Option Origin)
             → (now ≡ true → number + 1 < length lines → from ≡ Some (if expected then next_line counted else mark))
             → Inv None (if last then at else turn.NoItem) (if expected then next_line counted else mark) false (number + 1)
             now from []
-        known now from obeys = record {
-          counts = λ out real. after-is counted n number same real;
-          obeys = obeys;
-          turns = λ real. rw (not-last n number same real) refl;
-          goes = refl;
-        }
+        known now from obeys = search (rules, after-is, not-last)
 
-        ended : goes_on texts line ≡ false → Rest false → (u : Bool) → (if is_whole at then last else expected) ≡ u
-            → AreAtTheirLines lines read origin line ((if u then item.LineEnd else item.LineMark mark) ∷ rest) ss
-        ended stops next true is =
-            rw stops (each texts line read _ (λ now allowed. next now _ [] (known now (with_line_end origin) (λ now_read real.
-            let plain = no-turn real is in rw (h.obeys (allowed plain.0 now_read) (omega arith), plain.1) refl))))
-        ended stops next false is =
+        by : (c u : Bool) → is_continued texts before ≡ c → is_unmarked lines (is_whole at) counted n ≡ u → Rest c
+            → AreAtTheirLines lines read origin line ((if c || u then item.LineEnd else item.LineMark mark) ∷ rest) ss
+        by true u e is next =
+            rw (h.goes ∙ e) (next read (with_line_end origin) (line ++ item.LineEnd ∷ [])
+            (search (rules, expected-is, not-out, turn-snoc, goes-snoc)))
+        by false true e is next =
+            rw (h.goes ∙ e) (each texts line read _ (λ now allowed. next now _ [] (known now (with_line_end origin) (λ now_read real.
+            let plain = no-turn (is_whole at) refl real is in rw (h.obeys (allowed plain.0 now_read) (omega arith), plain.1) refl))))
+        by false false e is next =
             each texts line read _ (λ now allowed. next now _ [] (known now (origin_after_mark now mark origin) (λ now_read real.
             rw now_read (ap Some (ap (λ k. origin_at lines (k + 1)) same ∙ sym (after-is counted n number same real))))))
-
-        by : (c : Bool) → is_continued texts before ≡ c → Rest c
-            → AreAtTheirLines lines read origin line
-            ((if c || (if is_whole at then last else expected) then item.LineEnd else item.LineMark mark) ∷ rest) ss
-        by true e next =
-            rw (h.goes ∙ e) (next read (with_line_end origin) (line ++ item.LineEnd ∷ []) (record {
-              counts = λ out real. expected-is counted n number same real (not-out expected out);
-              obeys = λ is real. rw (h.obeys is (omega arith)) refl;
-              turns = λ real. turn-snoc texts line item.LineEnd ∙ h.turns (omega arith);
-              goes = goes-snoc texts line item.LineEnd;
-            }))
-        by false e next = ended (h.goes ∙ e) next (if is_whole at then last else expected) refl
 
   -- such a token, and the blank that may be before it
   first-true : (e : Token) (es fs gs : List Token) → is_gap e ≡ false → AreTrue es fs gs
       → AreTrue (e ∷ es) (e ∷ fs) (e ∷ gs)
   first-true e es fs gs gap next before at white counted stretch number read origin line h ordered =
-      rw (blanks-item texts before white e fs (solid-item e gap)) (by (is_some before && white))
-    where
-      by : (b : Bool) → AreAtTheirLines lines read origin line
-          (items_by_origin lines before at counted
-          ((if b then token.White ∷ [] else []) ++ e ∷ blanks texts (Some e) false fs))
-          (locations lines before counted stretch (e ∷ gs))
-      by true =
-          item-true before at counted stretch number read origin (line ++ item.Blank ∷ [])
-          (blank-known before at counted stretch number read origin line h) e es fs gs gap next ordered
-      by false = item-true before at counted stretch number read origin line h e es fs gs gap next ordered
+      let here = λ (more : List Item) (known : Inv before at counted stretch number read origin more).
+      item-true before at counted stretch number read origin more known e es fs gs gap next ordered in
+      let after = here (line ++ item.Blank ∷ []) (blank-known before at counted stretch number read origin line h) in
+      grind (arith, nat_tests, blanks-item texts before white e fs (solid-item e gap), here line h, after)
 
   -- a run that rule 2 does not remove, before other tokens
   kept-true : (run es fs gs : List Token)
@@ -296,7 +237,6 @@ module _ (lines : List SourceLine) where
       → AreTrue (run ++ es) (map white_inner_end run ++ fs) (run ++ gs)
   kept-true [] es fs gs gaps none next before at white counted stretch number read origin line h ordered =
       next before at white counted stretch number read origin line h ordered
-  kept-true (token.Join ∷ run) es fs gs gaps none next before at white counted stretch number read origin line h ordered = cc
   kept-true (token.White ∷ run) es fs gs gaps none next before at white counted stretch number read origin line h ordered =
       kept-true run es fs gs gaps none next before at true counted stretch number read origin line h ordered.1
   kept-true (token.InnerLineEnd n ∷ run) es fs gs gaps none next before at white counted stretch number read origin line h ordered =
@@ -314,23 +254,17 @@ module _ (lines : List SourceLine) where
   run-true run es fs gs gaps next before at white counted stretch number read origin line h ordered =
       rw (inner-join run) (by (has_join run) refl (has_line_end run) refl)
     where
-      least : number ≤ line_after_tokens number run
-      least = after-least number run gaps
-
       by : (j : Bool) → has_join run ≡ j → (b : Bool) → has_line_end run ≡ b
           → AreAtTheirLines lines read origin line
           (items_after lines before at counted white ((if j then [] else map white_inner_end run) ++ fs))
           (locations lines before counted stretch ((if j then (if b then token.Join ∷ [] else []) else run) ++ gs))
       by true joined true ends =
-          next before at white counted true (line_after_tokens number run) read origin line (record {
-            counts = λ out real. cc;
-            obeys = λ is real. h.obeys is (omega (arith, least));
-            turns = λ real. h.turns (omega (arith, least));
-            goes = h.goes;
-          }) (by_line-after texts number run es ordered)
+          let after = after-run texts number run es gaps ordered in
+          let least = after.1 in
+          next before at white counted true after.0 read origin line (grind (arith, h.obeys, h.turns, h.goes)) after.3
       by true joined false ends =
-          next before at white counted stretch number read origin line h
-          (rw (sym (line_after_tokens-same number run gaps ends)) (by_line-after texts number run es ordered))
+          let after = after-run texts number run es gaps ordered in
+          next before at white counted stretch number read origin line h (subst (λ n. AreClean texts n es) (after.2 ends) after.3)
       by false none b ends =
           kept-true run es fs gs gaps none next before at white counted stretch number read origin line h ordered
 
@@ -340,11 +274,13 @@ module _ (lines : List SourceLine) where
       AreTrue (run ++ es) (map_runs left_of_run (map white_inner_end run) (map white_inner_end es))
       (map_runs left_or_join run es)
 
-  run-pushed : (run : List Token) (e : Token) (es : List Token) → RunsAreTrue (run ++ e ∷ []) es
+  run-pushed : (run : List Token) (e : Token) (es : List Token) → AreGaps run → is_gap e ≡ true
+      → (AreGaps (run ++ e ∷ []) → RunsAreTrue (run ++ e ∷ []) es)
       → AreTrue (run ++ e ∷ es)
       (map_runs left_of_run (map white_inner_end run ++ white_inner_end e ∷ []) (map white_inner_end es))
       (map_runs left_or_join (run ++ e ∷ []) es)
-  run-pushed run e es h =
+  run-pushed run e es gaps gap next =
+      let h = next (rw (list_all-append is_gap run (e ∷ []), gaps, gap) refl) in
       grind (arith, nat_tests, append_assoc run (e ∷ []) es, map-append white_inner_end run (e ∷ []))
 
   at-end : AreTrue [] [] []
@@ -355,15 +291,13 @@ module _ (lines : List SourceLine) where
       rw (← append-nil (left_of_run (map white_inner_end run)), ← append-nil (left_or_join run))
       (run-true run [] [] [] gaps at-end before at white counted stretch number read origin line h ordered)
   map_runs-true run (token.Join ∷ es) gaps =
-      run-pushed run token.Join es (map_runs-true (run ++ token.Join ∷ []) es (gaps-push run token.Join gaps refl))
+      run-pushed run token.Join es gaps refl (map_runs-true (run ++ token.Join ∷ []) es)
   map_runs-true run (token.White ∷ es) gaps =
-      run-pushed run token.White es (map_runs-true (run ++ token.White ∷ []) es (gaps-push run token.White gaps refl))
-  map_runs-true run (token.LineEnd at ∷ es) gaps =
-      run-pushed run (token.LineEnd at) es
-      (map_runs-true (run ++ token.LineEnd at ∷ []) es (gaps-push run (token.LineEnd at) gaps refl))
-  map_runs-true run (token.InnerLineEnd at ∷ es) gaps =
-      run-pushed run (token.InnerLineEnd at) es
-      (map_runs-true (run ++ token.InnerLineEnd at ∷ []) es (gaps-push run (token.InnerLineEnd at) gaps refl))
+      run-pushed run token.White es gaps refl (map_runs-true (run ++ token.White ∷ []) es)
+  map_runs-true run (token.LineEnd n ∷ es) gaps =
+      run-pushed run (token.LineEnd n) es gaps refl (map_runs-true (run ++ token.LineEnd n ∷ []) es)
+  map_runs-true run (token.InnerLineEnd n ∷ es) gaps =
+      run-pushed run (token.InnerLineEnd n) es gaps refl (map_runs-true (run ++ token.InnerLineEnd n ∷ []) es)
   map_runs-true run (e ∷ es) gaps =
       let left = map_runs left_of_run [] (map white_inner_end es) in
       let right : List Token = map_runs left_or_join [] es in

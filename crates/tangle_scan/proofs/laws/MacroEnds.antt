@@ -10,65 +10,47 @@ use Rattle.tangle_lexer.specs.declared.tokens.Token.{Token}
 use Rattle.tangle_scan.specs.declared.items.Item.{Item}
 use Rattle.tangle_scan.specs.Rules.{next_item, macro_blanks, unmarked_items}
 use Rattle.tangle_scan.specs.MacroBytes.{without_end}
-use Rattle.tangle_scan.specs.ReadAsMeant.{is_empty, is_dropped_token, written_tokens}
+use Rattle.tangle_scan.specs.ReadAsMeant.{is_empty, is_dropped_token, with_written, written_tokens}
 
 module _ (texts : List (List ℕ)) where
   -- The items that rule 3 makes of the tokens of a macro. The arguments before the tokens are those of the rule.
   abbrev pub items_from : Bool → Option Token → Bool → List Token → List Item
   items_from in_name before white es = unmarked_items (macro_blanks texts in_name before white es)
 
-  -- none of the items is written
-  abbrev AreDropped : List Token → Type 0
-  AreDropped es =
-      (in_name : Bool) (before : Option Token) (white : Bool)
-      → without_end texts (items_from in_name before white es) ≡ []
-
-  -- `written` are the items that are written of `items`, and there is at least one
-  record IsWritten (items written : List Item) : Type 0 where
-    is : without_end texts items ≡ written
-    some : is_empty written ≡ false
+  -- items before items of which some are written
+  more-items : (ps xs : List Item) → is_empty (without_end texts xs) ≡ false
+      → (without_end texts (ps ++ xs) ≡ ps ++ without_end texts xs) × (is_empty (ps ++ without_end texts xs) ≡ false)
+  more-items [] xs some = (refl, some)
+  more-items (p ∷ ps) xs some = grind (arith, nat_tests, more-items ps xs some)
 
   -- of the items of the tokens `es` those of the tokens `fs` are written
-  abbrev AreWritten : List Token → List Token → Type 0
-  AreWritten es fs =
-      (in_name : Bool) (before : Option Token) (white : Bool)
-      → IsWritten (items_from in_name before white es) (items_from in_name before white fs)
+  record AreWritten (es fs : List Token) : Type 0 where
+    is : (in_name : Bool) (before : Option Token) (white : Bool)
+        → without_end texts (items_from in_name before white es) ≡ items_from in_name before white fs
+    some : (in_name : Bool) (before : Option Token) (white : Bool)
+        → is_empty (items_from in_name before white fs) ≡ is_empty fs
+    next : is_empty fs ≡ false → next_item es ≡ next_item fs
 
-  -- no token is written, or the tokens up to some item are
-  data Written (es : List Token) : Type 0 where
-    NoToken : written_tokens texts es ≡ [] → AreDropped es → Written es
-    SomeTokens : (f : Token) (fs : List Token)
-        → written_tokens texts es ≡ f ∷ fs → next_item es ≡ next_item (f ∷ fs) → AreWritten es (f ∷ fs)
-        → Written es
+  written-before : (e : Token) (es fs : List Token) → AreWritten es fs → AreWritten (e ∷ es) (with_written texts e fs)
+  written-before e es [] h = record {
+    is = λ in_name before white. search rules;
+    some = λ in_name before white. search rules;
+    next = λ some. search rules;
+  }
+  written-before e es (f ∷ fs) h = record {
+    is = λ in_name before white. grind (arith, h.is, h.some, h.next refl, more-items);
+    some = λ in_name before white. grind (arith, h.some);
+    next = λ some. grind (arith, h.next refl);
+  }
 
-  -- items before items of which some are written
-  more-items : (ps xs ys : List Item) → IsWritten xs ys → IsWritten (ps ++ xs) (ps ++ ys)
-  more-items [] xs ys h = h
-  more-items (p ∷ ps) xs ys h = grind (arith, nat_tests, more-items ps xs ys h)
-
-  -- a token before tokens of which some are written
-  written-before : (e : Token) (es fs : List Token)
-      → next_item es ≡ next_item fs → AreWritten es fs → AreWritten (e ∷ es) (e ∷ fs)
-  written-before e es fs next h in_name before white = grind arith
-
-  written : (es : List Token) → Written es
-  written [] = NoToken refl (λ in_name before white. refl)
-  written (e ∷ es) = by (written es)
-    where
-      last : AreDropped es → (b : Bool) → is_dropped_token texts e ≡ b → written_tokens texts es ≡ [] → Written (e ∷ es)
-      last dropped true is none = search rules
-      last dropped false is none = SomeTokens e [] (rw (none, is) refl) (grind arith) (grind arith)
-
-      by : Written es → Written (e ∷ es)
-      by (NoToken none dropped) = grind (arith, nat_tests, last dropped (is_dropped_token texts e) refl none)
-      by (SomeTokens f fs are next some) =
-          SomeTokens e (f ∷ fs) (rw are refl) (grind arith)
-          (written-before e es (f ∷ fs) next some)
+  written : (es : List Token) → AreWritten es (written_tokens texts es)
+  written [] = record { is = λ in_name before white. refl; some = λ in_name before white. refl; next = λ some. refl }
+  written (e ∷ es) = written-before e es (written_tokens texts es) (written es)
 
   -- the written items of a macro are the items of its written tokens
   pub end-items : (es : List Token) (in_name : Bool) (before : Option Token) (white : Bool) →
       without_end texts (items_from in_name before white es) ≡ items_from in_name before white (written_tokens texts es)
-  end-items es in_name before white = search (rules, written)
+  end-items es = (written es).is
 
   -- The last of the tokens is an item that is written. If there are no tokens, the token before them is such an item,
   -- or there is none.

@@ -1,8 +1,9 @@
 -- A C compiler reads the items of a macro as the author means them.
+use Rattle.std.proofs.lemmas.Bool.{cases_Bool}
 use Rattle.std.proofs.Common.{rules}
 use Rattle.std.proofs.lemmas.Bool.Decides.{nat_tests}
 use Rattle.std.proofs.Common.{arith}
-use Rattle.std.proofs.Common.{◌≡◌, ℕ, Bool, true, false, ◌&&◌, not, if◌then◌else◌, List, [], ◌∷◌, ◌++◌, flat_map}
+use Rattle.std.proofs.Common.{◌≡◌, ℕ, Bool, true, false, ◌&&◌, not, List, [], ◌∷◌, ◌++◌, flat_map}
 use Rattle.std.proofs.Common.{append_assoc, Option, Some, None, is_some, inl, inr, ◌⊎◌, refl, subst}
 use Rattle.tangle_files.specs.Bytes.{space, line_feed}
 use Rattle.tangle_lexer.specs.declared.tokens.Token.{Token}
@@ -75,22 +76,14 @@ module _ (texts : List (List ℕ)) where
 
   reads-line_end : (line : ℕ) (es : List Token) → ReadsAfterLineEnds es → ReadsOnLine (token.LineEnd line ∷ es)
   reads-line_end line es next in_name white meant before are ends =
-      grind (arith, nat_tests, by (has_blank_at_line_end texts in_name before (next_item es)) refl)
+      elim (cases_Bool (has_blank_at_line_end texts in_name before (next_item es))) [
+        | inl is ↦ grind (arith, nat_tests, after (Space ∷ TakenOut ∷ []) (refl, inl refl))
+        | inr is ↦ grind (arith, nat_tests, after (TakenOut ∷ []) (refl, inr is))
+      ]
     where
-      line_text : Bool → List ℕ
-      line_text blank =
-          flat_map (macro_item_bytes texts)
-          (unmarked_items
-          ((if blank then token.White ∷ [] else []) ++ token.LineEnd line ∷ macro_blanks texts false None false es))
-
       after : (gap : List Gap) → IsGap in_name before gap es → AreRead in_name (meant ++ space ∷ []) before es
           (bytes_in_gap gap ++ (text_from false None false es ++ line_feed ∷ []))
       after gap is = search (rules, more-spaces, ends-before)
-
-      by : (blank : Bool) → has_blank_at_line_end texts in_name before (next_item es) ≡ blank →
-          AreRead in_name (meant ++ space ∷ []) before es (line_text blank ++ line_feed ∷ [])
-      by true is = grind (arith, nat_tests, after (Space ∷ TakenOut ∷ []) (refl, inl refl))
-      by false is = grind (arith, nat_tests, after (TakenOut ∷ []) (refl, inr is))
 
   reads-on_line : (e : Token) (es : List Token) → is_front_gap e ≡ false → ReadsOnLine es → ReadsOnLine (e ∷ es)
   reads-on_line e es item next in_name white meant before are ends = search (rules, text-item, append_assoc)

@@ -48,10 +48,9 @@ module _ (lines : List SourceLine) where
 
   split-blocks : (n : ℕ) (es : List Token) → Split n es
   split-blocks n [] = record { outside = refl; inside = refl }
-  split-blocks n (token.UnnamedPart line ∷ es) =
-      let all = piece-first n None line es (split-blocks n es) in record { outside = all; inside = all }
+  split-blocks n (token.UnnamedPart line ∷ es) = search (rules, piece-first n None line es (split-blocks n es))
   split-blocks n (token.NamedPart line occurrence ∷ es) =
-      let all = piece-first n (Some occurrence) line es (split-blocks n es) in record { outside = all; inside = all }
+      search (rules, piece-first n (Some occurrence) line es (split-blocks n es))
   split-blocks n (e ∷ es) =
       let rest = split-blocks (section_after n e) es in search (rules, append_assoc, rest.inside)
 

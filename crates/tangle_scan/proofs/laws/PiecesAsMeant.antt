@@ -1,4 +1,6 @@
 -- A C compiler reads the items of a piece as the author means them.
+use Rattle.std.proofs.lemmas.Bool.{cases_Bool}
+use Rattle.std.proofs.Common.{inl, inr}
 use Rattle.std.proofs.Common.{rules}
 use Rattle.std.proofs.lemmas.Bool.Decides.{nat_tests}
 use Rattle.std.proofs.Common.{arith}
@@ -29,7 +31,7 @@ use Rattle.tangle_scan.specs.ReadAsMeant.{AreReadAsMeant, EndsPiece, use_bytes, 
 use Rattle.tangle_scan.proofs.lemmas.ItemsByOrigin.{part_items-by_origin}
 use Rattle.tangle_scan.proofs.lemmas.RuleLemmas.{blanks-item}
 use Rattle.tangle_scan.proofs.laws.GapReading.{some-append, read-append, spaces-append}
-use Rattle.tangle_scan.proofs.laws.GapReading.{bytes-append, blank_before, item-as-meant}
+use Rattle.tangle_scan.proofs.laws.GapReading.{bytes-append, blank_before}
 
 module _ (lines : List SourceLine) (used : ℕ → List ℕ) (mark : Origin → List ℕ) (macros : List ℕ) where
   abbrev texts : List (List ℕ)
@@ -124,14 +126,12 @@ module _ (lines : List SourceLine) (used : ℕ → List ℕ) (mark : Origin → 
     continued : ReadsContinued es
 
   plain-end : ReadsPlain []
-  plain-end meant white last before at counted gap is continued = by (is_open texts before) refl
-    where
-      by : (blank : Bool) → is_open texts before ≡ blank → EndsPiece texts mark last meant (gap_bytes mark gap
-          ++ flat_map item_bytes (items_by_origin lines before at counted (if blank then token.White ∷ [] else [])))
-      by true is_open_end =
-          let all = read-append (is_continued texts last) gap (Space ∷ []) in
-          grind (arith, nat_tests, bytes-append mark gap, spaces-append, append-nil)
-      by false closed = search rules
+  plain-end meant white last before at counted gap is continued =
+      let all = read-append (is_continued texts last) gap (Space ∷ []) in
+      elim (cases_Bool (is_open texts before)) [
+        | inl t ↦ grind (arith, nat_tests, bytes-append mark gap, spaces-append, append-nil)
+        | inr f ↦ rw f (search rules)
+      ]
 
   plain-line_end : (line : ℕ) (es : List Token) → ReadsPlain es → ReadsPlain (token.LineEnd line ∷ es)
   plain-line_end line es next meant white last before turns counted gap is continued =
@@ -189,10 +189,11 @@ module _ (lines : List SourceLine) (used : ℕ → List ℕ) (mark : Origin → 
       kept : (fs : List Token) → AreRead [] (Some e) fs rest →
           AreRead meant last (e ∷ fs) (gap_bytes mark gap ++ (blank_bytes blank ++ (bytes_of e ++ rest)))
       kept fs more =
-          item-as-meant texts mark (use_bytes lines used mark macros) line_feed (EndsPiece texts mark) false meant last
-          e fs (gap ++ blank_before blank []) rest _ item
-          (search (rules, bytes-append, append_assoc))
-          (blanked meant white last before gap [] is (λ after. refl) e) more
+          let start = gap ++ blank_before blank [] in
+          let same : gap_bytes mark gap ++ (blank_bytes blank ++ (bytes_of e ++ rest)) ≡ gap_bytes mark start ++ (bytes_of e ++ rest) =
+          search (rules, bytes-append, append_assoc) in
+          let here = blanked meant white last before gap [] is (λ after. refl) e in
+          grind arith
 
       -- the case in which the item is a backslash at the end of a continued line
       taken_out : ends_in_backslash texts e ≡ true → ends_line es ≡ true → bytes_of e ≡ backslash ∷ [] →
@@ -206,20 +207,10 @@ module _ (lines : List SourceLine) (used : ℕ → List ℕ) (mark : Origin → 
           (search (rules, bytes-append, append_assoc))
           joined is_last line_ends))
         where
-          not_empty : (b : Bool) → is_empty (gap ++ blank_before b (TakenOut ∷ [])) ≡ false
-          not_empty x = grind arith
-
           joined : (line : ℕ) → IsGap meant false last (Some (token.LineEnd line)) (gap ++ blank_before blank (TakenOut ∷ []))
           joined line =
               let here = blanked meant white last before gap (TakenOut ∷ []) is (λ after. refl) in
-              record {
-                line_ends = (here e).lines;
-                together = λ none. ((here e).together none, refl);
-                apart = λ no_blank f. (here f).apart;
-                front = λ none. absurd cc;
-                ended = λ ends. rw (not_empty blank) (and-false (is_continued texts last));
-                closing = λ none closed. absurd cc;
-              }
+              search (rules, here, here e, some-append, and-false)
 
       by : (continues : Bool) → (ends_in_backslash texts e && ends_line es) ≡ continues → (is_sign : Bool)
           → is_backslash texts e ≡ is_sign

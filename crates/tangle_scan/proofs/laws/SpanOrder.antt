@@ -21,8 +21,7 @@ use Rattle.tangle_lexer.proofs.laws.Points.{Point, point_at, text-is}
 use Rattle.tangle_lexer.proofs.laws.TokenOrder.{line_after, AreFromLine}
 use Rattle.tangle_scan.specs.Rules.{is_line_backslash, without_backslashes, macro_tokens, macro_blanks, unmarked_items}
 use Rattle.tangle_scan.specs.Rules.{macro_items}
-use Rattle.tangle_scan.specs.Web.{Block, BlockKind, blocks, piece_of, kind_piece, macro_of, kind_macro}
-use Rattle.tangle_scan.specs.Web.BlockKind.{OfMacro, OfPiece}
+use Rattle.tangle_scan.specs.Web.{Block, BlockKind, blocks, piece_of, macro_of}
 use Rattle.tangle_scan.specs.ItemSpans.{item_spans}
 use Rattle.tangle_scan.specs.KeptBytes.{EndsBefore, AreInOrder}
 use Rattle.tangle_scan.proofs.lemmas.KeptTokens.{macro_blanks-kept, macro-kept}
@@ -122,18 +121,6 @@ module _ (lines : List SourceLine) where
       (text-reaches (texts_of lines) (point_at 0 0) (point_at 0 0) (text_from 0 lines) (text-is lines)
       (omega arith, λ e. omega arith)))
 
-  piece-some : (kind : BlockKind) (b : Block)
-      → AreSome (texts_of lines) (flat_map (λ p. item_spans p.items) (kind_piece lines kind b)) (token_spans b.tokens)
-  piece-some (OfMacro line) b = some-none (texts_of lines) (token_spans b.tokens)
-  piece-some (OfPiece occurrence line) b = λ p rest h. grind (arith, nat_tests, append-nil, part-spans)
-
-  kept_macro-some : (kind : BlockKind) (b : Block)
-      → AreSome (texts_of lines) (flat_map item_spans (kind_macro lines kind b)) (token_spans b.tokens)
-  kept_macro-some kind b = λ p rest h.
-      let none = some-none (texts_of lines) (token_spans b.tokens) p rest h in
-      let some = macro-some (texts_of lines) b.tokens p rest h in
-      grind (arith, append-nil, none, some)
-
   -- the spans of what is made of each block
   made-from : {X : Type 0} (spans : X → List Span) (make : Block → List X)
       → ((b : Block) → AreSome (texts_of lines) (flat_map spans (make b)) (token_spans b.tokens))
@@ -145,8 +132,12 @@ module _ (lines : List SourceLine) where
 
   pub pieces-from : AreFrom (texts_of lines) (point_at 0 0)
       (flat_map (λ p. item_spans p.items) (flat_map (piece_of lines) (blocks 0 (all_tokens lines))))
-  pieces-from = made-from (λ p. item_spans p.items) (piece_of lines) (λ b. piece-some b.kind b)
+  pieces-from = made-from (λ p. item_spans p.items) (piece_of lines) (λ x p rest h.
+      let none = some-none (texts_of lines) (token_spans x.tokens) p rest h in
+      grind (arith, nat_tests, append-nil, part-spans, none))
 
   pub macros-from : AreFrom (texts_of lines) (point_at 0 0)
       (flat_map item_spans (flat_map (macro_of lines) (blocks 0 (all_tokens lines))))
-  macros-from = made-from item_spans (macro_of lines) (λ b. kept_macro-some b.kind b)
+  macros-from = made-from item_spans (macro_of lines) (λ x p rest h.
+      let none = some-none (texts_of lines) (token_spans x.tokens) p rest h in
+      let some = macro-some (texts_of lines) x.tokens p rest h in grind (arith, append-nil, none, some))

@@ -2,12 +2,10 @@
 use Rattle.std.proofs.Common.{rules}
 use Rattle.std.proofs.lemmas.Bool.Decides.{nat_tests}
 use Rattle.std.proofs.Common.{◌≡◌, ℕ, zero, suc, ◌+◌, ◌≤◌, ◌<◌, Bool, true, false, List, [], ◌∷◌, ◌++◌, drop}
-use Rattle.std.proofs.Common.{flat_map, map, inl, inr, refl, sym, ◌∙◌, arith, subst}
+use Rattle.std.proofs.Common.{flat_map, map, refl, sym, ◌∙◌, arith, subst}
 use Rattle.std.proofs.Common.{Option, Some, None}
-use Rattle.std.proofs.lemmas.Bool.Decides.{eqb_tells}
 use Rattle.std.proofs.lemmas.List.{drop-drop}
 use Rattle.tangle_faults.specs.declared.faults.FaultKind.{FaultKind}
-use Rattle.tangle_faults.specs.declared.faults.FaultKind.TheVariants as fault
 use Rattle.tangle_lexer.specs.declared.tokens.Token.{Token}
 use Rattle.tangle_lexer.specs.declared.tokens.SpanKind.{SpanKind}
 use Rattle.tangle_lexer.specs.declared.tokens.Token.TheVariants as token
@@ -17,16 +15,16 @@ use Rattle.tangle_lexer.specs.declared.lexeme_kinds.LexemeKind.{LexemeKind}
 use Rattle.tangle_lexer.specs.declared.lexeme_kinds.LexemeKind.TheVariants as lexeme_kind
 use Rattle.tangle_text.specs.declared.regions.Region.{Region}
 use Rattle.tangle_text.specs.declared.regions.Region.TheVariants as region
-use Rattle.tangle_text.specs.Bytes.{holds, is_line_end}
+use Rattle.tangle_text.specs.declared.regions.Unit.{Unit as Unit-of}
+use Rattle.tangle_text.specs.Bytes.{holds}
 use Rattle.tangle_text.specs.Text.{Cell, byte_at, span_at}
-use Rattle.tangle_text.specs.Regions.{count_before}
+use Rattle.tangle_text.specs.Regions.{unit_at, count_before}
 use Rattle.tangle_text.specs.Words.{word_more}
 use Rattle.tangle_lexer.specs.Lexemes.{Lexeme, fault_if, is_c_part}
 use Rattle.tangle_lexer.specs.LinesOfC.{inner_end_in}
 use Rattle.tangle_lexer.specs.Comments.{line_ends, has_end_code, two_if}
-use Rattle.tangle_lexer.specs.Quoted.{cut_range, cut_tokens, quote_end, one_if, quoted_text}
+use Rattle.tangle_lexer.specs.Quoted.{at_stop, cut_range, cut_tokens, quote_end, one_if, quoted_text}
 use Rattle.tangle_lexer.specs.Quoted.{verbatim_end, verbatim_tokens, verbatim_text}
-use Rattle.tangle_lexer.specs.Constants.{ascii_constant}
 use Rattle.tangle_lexer.specs.Names.{definition_count, definition_or_mention, name_in_documentation}
 use Rattle.tangle_lexer.specs.Steps.{c_lexeme, lexeme, lexemes}
 use Rattle.tangle_lexer.specs.declared.tokens.SpanKind.TheVariants as span_kind
@@ -186,28 +184,20 @@ module _ (texts : List (List ℕ)) where
       → LeadFrom at.line start (verbatim-final text) (verbatim_end start text)
   verbatim_end-leads at start [] h is p k = tt
   verbatim_end-leads at start (c ∷ cs) h is p k =
-      range-leads region.Verbatim c.line start c.column (verbatim-final (c ∷ cs))
-      (fault_if (is_line_end c.byte) fault.VerbatimEnd c.line) (omega (arith, is.0.column))
-      (λ q j. lead-none (verbatim-final (c ∷ cs)) q (fault_if (is_line_end c.byte) fault.VerbatimEnd c.line) (fault-none _ _ _)
-      (text-later (two_if (has_end_code (c ∷ cs))) at q (c ∷ cs) is j))
-      p (rw is.0.line k)
+      grind (arith, nat_tests, range-leads, lead-none, fault-none, text-later (two_if (has_end_code (c ∷ cs))) at)
 
   verbatim_tokens-lead : (at : Point) (text : List Cell) → 0 < at.column → IsTextAt texts at text
       → LeadFrom at.line at.column (verbatim-final (drop (count_before region.Verbatim text) text)) (verbatim_tokens text)
   verbatim_tokens-lead at [] after_code is = absurd (omega arith)
   verbatim_tokens-lead at (c ∷ cs) after_code is =
-      elim (eqb_tells (count_before region.Verbatim (c ∷ cs)) 0) [
-        -- an empty verbatim text
-        | inl none ↦ rw none.1 (λ p k. (
-          (rw (is.0.line, is.0.column) k),
-          (lead-none (verbatim-final (c ∷ cs)) (point_at c.line (c.column + 0))
-              (fault_if (is_line_end c.byte) fault.VerbatimEnd c.line) (fault-none _ _ _)
-              (text-later (two_if (has_end_code (c ∷ cs))) at _ (c ∷ cs) is (omega arith, λ e. omega arith))),
-        ))
-        | inr some ↦ rw (some.0, ← is.0.column)
-            (cut-leads region.Verbatim verbatim-cut verbatim_end verbatim-final verbatim_end-leads
-            at c.column (c ∷ cs) (omega arith) is)
-      ]
+      rw (← is.0.column) (by (unit_at region.Verbatim (c ∷ cs)) _ _
+      (cut-leads region.Verbatim verbatim-cut verbatim_end verbatim-final verbatim_end-leads
+      at c.column (c ∷ cs) (omega arith) is))
+    where
+      -- an empty verbatim text
+      by : (u : Unit-of) (P : Point → Type 0) (ts : List Token) → LeadFrom at.line c.column P ts
+          → LeadFrom at.line c.column P (at_stop u (token.Span span_kind.Verbatim (span_at 0 (c ∷ cs)) ∷ []) [] ++ ts)
+      by x P ts next p h = grind (arith, is.0.line, next p, next (point_at c.line (c.column + 0)))
 
   verbatim-leads : (s : LexerState) (at : Point) (c : Cell) (cs : List Cell)
       → IsTextAt texts at (c ∷ cs) → HoldsBytes 2 (c ∷ cs) → Law c cs (verbatim_text s (c ∷ cs))
@@ -224,14 +214,10 @@ module _ (texts : List (List ℕ)) where
   kind-leads : (kind : LexemeKind) (s : LexerState) (at : Point) (c : Cell) (cs : List Cell)
       → IsPlainKind kind → OpensLexeme kind (c ∷ cs) → IsTextAt texts at (c ∷ cs)
       → Law c cs (c_lexeme kind s (c ∷ cs))
-  kind-leads (lexeme_kind.Control code.SectionStart) s at c cs plain o is = absurd plain
-  kind-leads (lexeme_kind.Control code.Name) s at c cs plain o is = absurd plain
   kind-leads (lexeme_kind.Control code.DoubleAt) s at c cs plain o is =
       span-leads span_kind.Sign at 1 1 c cs is (omega arith) (code-bytes code.DoubleAt (c ∷ cs) (λ e. cc) o)
   kind-leads (lexeme_kind.Control code.Verbatim) s at c cs plain o is =
       verbatim-leads s at c cs is (code-bytes code.Verbatim (c ∷ cs) (λ e. cc) o)
-  kind-leads (lexeme_kind.Control code.AsciiConstant) s at c cs plain o is =
-      spanless at c cs (ascii_constant s (c ∷ cs)) is (grind arith)
   kind-leads lexeme_kind.Word s at c cs plain o is =
       let n : ℕ = word_more (c ∷ cs) in
       let e : 1 + n ≡ suc n = omega arith in

@@ -17,9 +17,8 @@ use Rattle.tangle_lexer.specs.declared.tokens.Token.{Token}
 use Rattle.tangle_lexer.specs.declared.tokens.Token.TheVariants as token
 use Rattle.tangle_lines.specs.Reading.{SourceRead, origin_at}
 use Rattle.tangle_scan.specs.Rules.{is_macro, macro_items, part_items, texts_of}
-use Rattle.tangle_scan.specs.declared.items.Item.{Item}
-use Rattle.tangle_scan.specs.WellFormed.{IsUseBelow, IsWellFormed}
-use Rattle.std.proofs.lemmas.List.Elements.{All-nil, All-cons, All-head, All-tail}
+use Rattle.tangle_scan.specs.WellFormed.{IsWellFormed}
+use Rattle.std.proofs.lemmas.List.Elements.{All-nil, All-head, All-tail}
 use Rattle.tangle_scan.specs.MacroBytes.{macro_bytes}
 use Rattle.std.proofs.lemmas.List.Concat.{flat_map-append}
 use Rattle.tangle_scan.specs.Texts.{TextRead, TextsRead, IsTextOf, item_uses, no_text, text_at, with_text}
@@ -85,7 +84,7 @@ module _ (source : SourceRead) (stored : StoredBuilder) (before tokens : List To
       → IsGathered source all
       (record stored { faults = stored.faults ++ token_faults source.files source.lines None tokens })
   front-stored runs h =
-      let faults = faults-unfolded source.files source.lines None tokens runs in
+      let faults = faults-unfolded source.files source.lines token.White tokens runs in
       no-block source stored [] all _ _ h (no-blocks 0 all plain) (no-section 0 all plain ∙ sym h.sections)
       (rw (body-whole all plain, no-head_faults source.files source.lines all plain, faults, h.faults, append-nil) refl)
 
@@ -95,7 +94,7 @@ module _ (source : SourceRead) (stored : StoredBuilder) (before tokens : List To
         faults = stored.faults ++ token_faults source.files source.lines None tokens;
       })
   section-stored runs h =
-      let faults = faults-unfolded source.files source.lines None tokens runs in
+      let faults = faults-unfolded source.files source.lines token.White tokens runs in
       no-block source stored before (before ++ token.Section ∷ all) _ _ h
       (blocks-added token.Section all refl plain 0 before ∙ append-nil (blocks 0 before))
       (rw (sections-added token.Section all refl plain 0 before, h.sections) refl)
@@ -144,7 +143,7 @@ module _ (source : SourceRead) (stored : StoredBuilder) (before tokens : List To
         sections-added (part_head line x) all head plain 0 before,
         blocks-added (part_head line x) all head plain 0 before,
         faults-added (part_head line x) all head plain source.files source.lines before,
-        faults-unfolded source.files source.lines None tokens runs,
+        faults-unfolded source.files source.lines token.White tokens runs,
         all_macros-unfolded texts tokens,
         body-whole all plain,
         text-pushed,
@@ -175,14 +174,6 @@ items-at P [] n none h = none
 items-at P (p ∷ pieces) zero none h = All-head P p pieces h
 items-at P (p ∷ pieces) (suc n) none h = items-at P pieces n none (All-tail P p pieces h)
 
--- the numbers of occurrences in the uses of items
-
-uses-below : (count : ℕ) (items : List Item) → All (IsUseBelow count) items → All (λ n. n < count) (flat_map item_uses items)
-uses-below count [] h = All-nil (λ n. n < count)
-uses-below count (x ∷ items) h =
-    let rest = uses-below count items (All-tail (IsUseBelow count) x items h) in
-    let first = All-head (IsUseBelow count) x items h in grind (arith, All-cons, rest, first)
-
 -- the text that is read of a piece of a web
 
 pub web-text : (web : WebRead) (stored : TextsRead) (n : ℕ) (text : TextRead) → AreTextsOf web.texts web.pieces stored
@@ -195,6 +186,5 @@ pub web-uses : (web : WebRead) (stored : TextsRead) (n : ℕ) (text : TextRead) 
     → IsWellFormed web → text ≡ text_at stored n → All (λ u. u < length web.occurrences) text.uses
 web-uses web stored n text h formed is =
     rw (web-text web stored n text h is).uses
-    (uses-below (length web.occurrences) (get_or web.pieces n no_piece).items
-    (items-at (λ p. All (IsUseBelow (length web.occurrences)) p.items) web.pieces n
-    (All-nil (IsUseBelow (length web.occurrences))) formed.uses))
+    (items-at (λ p. All (λ n. n < length web.occurrences) (flat_map item_uses p.items)) web.pieces n
+    (All-nil (λ n. n < length web.occurrences)) formed.uses)

@@ -1,5 +1,5 @@
 -- The items of spaced tokens without those that are dropped at the end of a macro.
-use Rattle.std.proofs.Common.{◌≡◌, ◌∙◌, ap, map, refl, sym, inl, inr, not, Bool, true, false, List, [], ◌∷◌, ◌++◌, ℕ, arith, flat_map, append_assoc}
+use Rattle.std.proofs.Common.{◌≡◌, ◌∙◌, ap, map, refl, sym, not, Bool, true, false, List, [], ◌∷◌, ◌++◌, ℕ, arith, flat_map, append-nil, append_assoc}
 use Rattle.std.proofs.lemmas.Bool.Decides.{nat_tests}
 use Rattle.std.proofs.lemmas.Bool.{and_parts}
 use Rattle.tangle_text.specs.Bytes.{backslash}
@@ -10,19 +10,16 @@ use Rattle.tangle_text.specs.declared.runs.RunPart.TheVariants as part
 use Rattle.tangle_text.specs.Runs.{are_apart, run_parts}
 use Rattle.tangle_lexer.specs.declared.tokens.Token.{Token}
 use Rattle.tangle_lexer.specs.declared.tokens.Token.TheVariants as token
-use Rattle.tangle_lexer.specs.declared.tokens.SpanKind.TheVariants as span_kind
-use Rattle.tangle_lexer.specs.Runs.{is_run, part_token}
+use Rattle.tangle_lexer.specs.Runs.{part_token, IsRunIn}
 use Rattle.tangle_lexer.specs.SpanBytes.{ends_in}
 use Rattle.tangle_scan.specs.declared.items.Item.{Item}
-use Rattle.tangle_scan.specs.declared.items.Item.TheVariants as item
 use Rattle.tangle_scan.specs.Texts.{part_item}
 use Rattle.tangle_scan.specs.ItemBytes.{bytes_in}
-use Rattle.tangle_scan.specs.Passes.{is_written, last_of, spaced_items, IsWritten}
+use Rattle.tangle_scan.specs.Passes.{last_of, spaced_items, written_items}
 use Rattle.tangle_scan.specs.MacroBytes.{is_dropped_at_end, is_dropped_token, macro_item_bytes, without_end, without_end_after}
-use Rattle.tangle_scan.proofs.lemmas.MacroRunLemmas.{parts-unmarked, run-or-not}
 use Rattle.tangle_scan.proofs.lemmas.RunItems.{run-ends}
 use Rattle.tangle_scan.proofs.lemmas.RunTags.{run_read}
-use Rattle.tangle_scan.proofs.lemmas.SpacedTokens.{spaced-push}
+use Rattle.std.proofs.lemmas.List.{flat_map_more}
 
 apart-more : (space word : Bool) (p : RunPart) (ps : List RunPart) → are_apart space word (p ∷ ps) ≡ true
     → (s : Bool) × (w : Bool) × (are_apart s w ps ≡ true)
@@ -38,9 +35,8 @@ module _ (texts : List (List ℕ)) where
   part-bytes [] = refl
   part-bytes (p ∷ ps) = grind (arith, part-bytes ps)
 
-  pub run-bytes : (s : Span)
-      → flat_map (macro_item_bytes texts) (spaced_items texts (token.Run s ∷ [])) ≡ span_text texts s
-  run-bytes s = rw (parts-unmarked texts (run_parts texts s)) (part-bytes (run_parts texts s) ∙ (run_read texts s).0)
+  pub run-bytes : (s : Span) → flat_map (macro_item_bytes texts) (written_items texts (token.Run s)) ≡ span_text texts s
+  run-bytes s = part-bytes (run_parts texts s) ∙ (run_read texts s).0
 
   -- the last items are dropped, or the last one is written
 
@@ -71,43 +67,24 @@ module _ (texts : List (List ℕ)) where
       let (s, w, more) = apart-more space word p (q ∷ ps) apart in
       written_more (part_item p) (map part_item (q ∷ ps)) (parts_whole s w q ps more ends)
 
-  -- the item of a token other than a run
-  one-item : (t : Token) → is_written t ≡ true → is_run t ≡ false
-      → (x : Item) × (spaced_items texts (t ∷ []) ≡ x ∷ []) × (is_dropped_at_end texts x ≡ is_dropped_token texts t)
-  one-item token.White h other = (item.Blank, refl, refl)
-  one-item (token.LineEnd line) h other = (item.LineEnd, refl, refl)
-  one-item (token.QuoteBreak line) h other = (item.QuoteBreak, refl, refl)
-  one-item (token.AsciiConstant value line) h other = (item.AsciiConstant value, refl, refl)
-  one-item (token.Span span_kind.Word s) h other = (item.Word s, refl, refl)
-  one-item (token.Span span_kind.Sign s) h other = (item.Sign s, refl, refl)
-  one-item (token.Span span_kind.Quoted s) h other = (item.Quoted s, refl, refl)
-  one-item (token.Span span_kind.Verbatim s) h other = (item.Verbatim s, refl, refl)
-  one-item t h other = cc
+  token_whole : (t : Token) → IsRunIn texts t → is_dropped_token texts t ≡ false → IsWhole (written_items texts t)
+  token_whole (token.Run s) run kept xs =
+      let ends = run-ends texts s run in
+      rw ends.parts (parts_whole true true ends.first ends.others ends.apart (ends.last.joins ∙ run.ends) xs)
+  token_whole x run kept xs = grind (arith, nat_tests, written_last)
 
-  token-whole : (t : Token) → IsWritten texts t → is_dropped_token texts t ≡ false → IsWhole (spaced_items texts (t ∷ []))
-  token-whole t written kept =
-      elim (run-or-not t) [
-        | inl of ↦
-            let run = rw of.1 at written.run in
-            let ends = run-ends texts of.0 run in
-            rw (of.1, parts-unmarked texts (run_parts texts of.0), ends.parts)
-            (parts_whole true true ends.first ends.others ends.apart (ends.last.joins ∙ run.ends))
-        | inr other ↦
-            let (x, is, same) = one-item t written.written other in rw is (written_last x (same ∙ kept))
-      ]
+  token_dropped : (t : Token) (xs : List Item) → is_dropped_token texts t ≡ true
+      → without_end texts (xs ++ written_items texts t) ≡ without_end texts xs
+  token_dropped x xs dropped = grind (arith, nat_tests, append-nil, dropped_last)
 
-  pub dropped-at : (tokens front : List Token) (t : Token) → tokens ≡ front ++ t ∷ [] → IsWritten texts t
-      → is_dropped_token texts t ≡ true
-      → without_end texts (spaced_items texts front) ≡ without_end texts (spaced_items texts tokens)
-  dropped-at tokens front t is written dropped =
-      elim (run-or-not t) [
-        | inl of ↦ let never = rw of.1 at dropped in cc
-        | inr other ↦
-            let (x, last, same) = one-item t written.written other in
-            rw (is, spaced-push texts front t, last) (sym (dropped_last (spaced_items texts front) x (same ∙ dropped)))
-      ]
+  module _ (tokens front : List Token) (t : Token) (is : tokens ≡ front ++ t ∷ []) where
+    pushed : spaced_items texts tokens ≡ spaced_items texts front ++ written_items texts t
+    pushed = rw is (sym (flat_map_more (written_items texts) [] front t))
 
-  pub written-at : (tokens front : List Token) (t : Token) → tokens ≡ front ++ t ∷ [] → IsWritten texts t
-      → is_dropped_token texts t ≡ false → without_end texts (spaced_items texts tokens) ≡ spaced_items texts tokens
-  written-at tokens front t is written kept =
-      rw (is, spaced-push texts front t) (token-whole t written kept (spaced_items texts front))
+    pub dropped-at : is_dropped_token texts t ≡ true
+        → without_end texts (spaced_items texts front) ≡ without_end texts (spaced_items texts tokens)
+    dropped-at dropped = rw pushed (sym (token_dropped t (spaced_items texts front) dropped))
+
+    pub written-at : IsRunIn texts t → is_dropped_token texts t ≡ false
+        → without_end texts (spaced_items texts tokens) ≡ spaced_items texts tokens
+    written-at run kept = rw pushed (token_whole t run kept (spaced_items texts front))

@@ -1,8 +1,9 @@
 -- The runs of a macro: the rules read the tokens that they stand for.
 use Rattle.std.proofs.lemmas.Bool.Decides.{nat_tests}
-use Rattle.std.proofs.Common.{◌≡◌, ℕ, ◌∙◌, Bool, true, false, ◌&&◌, ◌||◌, not, List, [], ◌∷◌, ◌++◌, map, replicate, refl, ap, arith, sym, ◌⊎◌, inl, inr}
-use Rattle.std.proofs.Common.{Some, suc, append_assoc, option_to_list}
-use Rattle.std.specs.List.{All}
+use Rattle.std.proofs.Common.{◌≡◌, ◌==◌, ℕ, ◌∙◌, Bool, true, false, take, ◌&&◌, ◌||◌, not, List, [], ◌∷◌, ◌++◌, map, replicate, refl, arith, sym, ◌⊎◌, inl, inr}
+use Rattle.std.proofs.Common.{Some, suc, append_assoc, option_to_list, if◌then◌else◌}
+use Rattle.std.proofs.Math.Bool.{or-false, or-true}
+use Rattle.std.specs.List.{All, list_all}
 use Rattle.std.proofs.lemmas.Bool.{false_from_ne_true}
 use Rattle.std.proofs.lemmas.List.Elements.{All-tail}
 use Rattle.tangle_text.specs.Bytes.{backslash}
@@ -10,19 +11,19 @@ use Rattle.tangle_text.specs.declared.spans.Span.{Span}
 use Rattle.tangle_text.specs.declared.runs.RunPart.{RunPart}
 use Rattle.tangle_text.specs.declared.runs.RunPart.TheVariants as part
 use Rattle.tangle_text.specs.Runs.{are_apart, run_parts}
-use Rattle.tangle_faults.specs.declared.faults.FaultKind.{FaultKind}
 use Rattle.tangle_lexer.specs.declared.tokens.Token.{Token}
 use Rattle.tangle_lexer.specs.declared.tokens.Token.TheVariants as token
 use Rattle.tangle_lexer.specs.Runs.{part_token, is_run, first_is_alone, unfolded, unfolded_token, IsRunIn, IsRunOf}
-use Rattle.tangle_lexer.specs.SpanBytes.{ends_in, last_byte}
+use Rattle.tangle_lexer.specs.SpanBytes.{ends_in}
 use Rattle.tangle_scan.specs.declared.items.Item.TheVariants as item
 use Rattle.tangle_scan.specs.declared.macro_items.Gap.{Gap}
 use Rattle.tangle_scan.specs.declared.macro_items.MacroState.{MacroState}
-use Rattle.tangle_scan.specs.Rules.{is_constant, is_name_part, may_follow_name, unmarked_items, would_merge}
+use Rattle.tangle_scan.specs.Rules.{has_join, left_of_run, is_constant, is_name_part, may_follow_name, would_merge}
+use Rattle.tangle_scan.specs.ReadAsMeant.{is_empty}
 use Rattle.tangle_scan.specs.Texts.{part_item}
-use Rattle.tangle_scan.specs.Passes.{first_of, are_name_parts, are_words, item_of, spaced_items, blank_if, first_token, from_item, gap_before, gap_of, has_blank, is_at_name}
+use Rattle.tangle_scan.specs.Passes.{has_white, line_ends, is_spaced_in_run, would_merge_in_run, are_name_parts, are_words, item_of, written_items, blank_if, first_token, from_item, gap_before, gap_of, has_blank, is_at_name}
 use Rattle.tangle_scan.specs.Passes.{is_dropped, is_solid, is_spaced, items_ahead, last_of, last_token, left_gap}
-use Rattle.tangle_scan.proofs.lemmas.MacroItemLemmas.{ahead-item}
+use Rattle.tangle_scan.proofs.lemmas.MacroItemLemmas.{ahead-item, first-solid}
 use Rattle.tangle_scan.proofs.lemmas.RunItems.{run-ends}
 
 abbrev is_word : RunPart → Bool
@@ -38,56 +39,90 @@ last-plain texts x h = grind arith
 first-plain : (texts : List (List ℕ)) (e : Token) → is_run e ≡ false → first_token texts e ≡ e
 first-plain texts x h = grind arith
 
--- rule 1 beside runs, of which no part is a constant
-
-part-plain : (p : RunPart) → is_constant (part_token p) ≡ false
+part-plain : (p : RunPart) → (is_constant (part_token p) ≡ false) × (is_run (part_token p) ≡ false)
 part-plain x = grind arith
 
-last-constant : (e : Token) (ps : List RunPart) → is_constant e ≡ false → is_constant (last_of e ps) ≡ false
-last-constant e [] h = h
-last-constant e (p ∷ ps) h = last-constant (part_token p) ps (part-plain p)
-
-first-constant : (ps : List RunPart) → is_constant (first_of ps) ≡ false
-first-constant [] = refl
-first-constant (p ∷ ps) = part-plain p
-
-pub same-constants : (texts : List (List ℕ)) (e : Token)
-    → (is_constant (last_token texts e) ≡ is_constant e) × (is_constant (first_token texts e) ≡ is_constant e)
-same-constants texts (token.Run s) = (last-constant token.White (run_parts texts s) refl, first-constant (run_parts texts s))
-same-constants texts e = (refl, refl)
-
-first-spaced : (texts : List (List ℕ)) (first : Bool) (e : Token) (p : RunPart) (es : List Token)
-    → is_spaced texts first e (part_token p ∷ es)
-    ≡ (first && not (may_follow_name texts (part_token p)) || would_merge texts e (part_token p))
-first-spaced texts first e x es = grind arith
-
-pub spaced-token : (texts : List (List ℕ)) (first : Bool) (e t : Token) (es : List Token) → IsRunIn texts t
-    → ((kind : FaultKind) (line : ℕ) → t ≡ token.Fault kind line → ⊥) → is_spaced texts first e (unfolded texts (t ∷ es))
-    ≡ (first && not (may_follow_name texts (first_token texts t)) || would_merge texts e (first_token texts t))
-spaced-token texts first e (token.Fault kind line) es run h = absurd (h kind line refl)
-spaced-token texts first e (token.Run s) es run h =
-    let ends = run-ends texts s run in rw ends.parts (first-spaced texts first e ends.first _)
-spaced-token texts first e t es run h = refl
-
--- the gap before an item or a run, and the tokens from there on
-
 module _ (texts : List (List ℕ)) where
-  pub gap-unfolded : (es : List Token) → All (IsRunIn texts) es → gap_before (unfolded texts es) ≡ gap_before es
-  gap-unfolded [] runs = refl
-  gap-unfolded (token.Run s ∷ es) runs =
-      let ends = run-ends texts s (runs 0 (token.Run s) (omega arith)) in grind (arith, nat_tests)
-  gap-unfolded (e ∷ es) runs = grind (arith, nat_tests, gap-unfolded es (λ k d low. runs (suc k) d (omega arith)))
+  -- rule 1 beside runs, by the last part of the one and the first part of the other
 
-  pub from-unfolded : (es : List Token) → All (IsRunIn texts) es
-      → from_item (unfolded texts es) ≡ unfolded texts (from_item es)
-  from-unfolded [] runs = refl
-  from-unfolded (token.Run s ∷ es) runs =
-      let ends = run-ends texts s (runs 0 (token.Run s) (omega arith)) in grind (arith, nat_tests)
-  from-unfolded (e ∷ es) runs = grind (arith, nat_tests, from-unfolded es (λ k d low. runs (suc k) d (omega arith)))
+  merges-plain : (e f : Token) → IsRunIn texts e → is_run f ≡ false
+      → would_merge_in_run texts e f ≡ would_merge texts (last_token texts e) f
+  merges-plain (token.Run s) x before other =
+      let ends = run-ends texts s before in rw ends.parts (grind (arith, nat_tests, ends.last.merges, ends.last.plain))
+  merges-plain e x before other = grind arith
+
+  merges-ends : (e f : Token) → IsRunIn texts e → IsRunIn texts f
+      → would_merge_in_run texts e f ≡ would_merge texts (last_token texts e) (first_token texts f)
+  merges-ends e (token.Run s) before run =
+      let ends = run-ends texts s run in
+      rw ends.parts (sym (ends.merges e) ∙ merges-plain e (part_token ends.first) before (part-plain ends.first).1)
+  merges-ends e f before run = merges-plain e f before refl
+
+  -- rule 1 at a gap, of which no join is a part
+
+  spaced-here : (first : Bool) (e : Token) (es : List Token)
+      → is_spaced texts first e es ≡ (is_empty (gap_before es) && is_spaced texts first e (from_item es))
+  spaced-here first e [] = refl
+  spaced-here first e (token.Fault kind line ∷ es) = spaced-here first e es
+  spaced-here first e (x ∷ es) = grind (arith, nat_tests)
+
+  empty-gap : (es : List Token) → has_join (gap_before es) ≡ false
+      → is_empty (gap_before es) ≡ (line_ends (gap_before es) == 0 && not (has_white (gap_before es)))
+  empty-gap [] h = refl
+  empty-gap (token.Fault kind line ∷ es) h = empty-gap es h
+  empty-gap (x ∷ es) h = grind (arith, nat_tests)
+
+  -- the gap before an item or a run, and the tokens from there on
+
+  pub gap-unfolded : (es : List Token) → All (IsRunIn texts) es → (gap_before (unfolded texts es) ≡ gap_before es)
+      × (from_item (unfolded texts es) ≡ unfolded texts (from_item es))
+  gap-unfolded [] runs = (refl, refl)
+  gap-unfolded (token.Run s ∷ es) runs =
+      let ends = run-ends texts s (runs 0 (token.Run s) (omega arith)) in (grind (arith, nat_tests), grind (arith, nat_tests))
+  gap-unfolded (e ∷ es) runs =
+      let more = gap-unfolded es (λ k d low. runs (suc k) d (omega arith)) in
+      (grind (arith, nat_tests, more), grind (arith, nat_tests, more))
 
   pub from-runs : (es : List Token) → All (IsRunIn texts) es → All (IsRunIn texts) (from_item es)
   from-runs [] runs = runs
   from-runs (e ∷ es) runs = grind (arith, nat_tests, All-tail (IsRunIn texts) e es runs, from-runs es)
+
+  first-spaced : (first : Bool) (e : Token) (p : RunPart) (es : List Token)
+      → is_spaced texts first e (part_token p ∷ es)
+      ≡ (first && not (may_follow_name texts (part_token p)) || would_merge texts e (part_token p))
+  first-spaced first e x es = grind arith
+
+  next-spaced : (first : Bool) (e : Token) (es : List Token) → list_all is_solid (take 1 es) ≡ true
+      → IsRunIn texts e → All (IsRunIn texts) es
+      → is_spaced texts first (last_token texts e) (unfolded texts es) ≡ is_spaced_in_run texts first e es
+  next-spaced first e [] solid run runs = refl
+  next-spaced first e (token.Fault kind line ∷ es) solid run runs = cc
+  next-spaced first e (token.Run s ∷ es) solid run runs =
+      let next = runs 0 (token.Run s) (omega arith) in
+      let ends = run-ends texts s next in
+      rw (merges-ends e (token.Run s) run next, ends.parts) (first-spaced first (last_token texts e) ends.first _)
+  next-spaced first e (f ∷ es) solid run runs = rw (merges-ends e f run (runs 0 f (omega arith))) refl
+
+  gap-spaced : (white : Bool) (gap : List Token) → has_join gap ≡ false
+      → gap_of (left_of_run ((if white then token.White ∷ [] else []) ++ gap))
+      ≡ record { has_join = false; has_white = has_white gap || white; line_ends = line_ends gap }
+  gap-spaced true gap none = rw (none, none, or-true (has_white gap)) refl
+  gap-spaced false gap none = rw (none, none, or-false (has_white gap)) refl
+
+  -- what is left of the gap between an item or a run and the next one
+  pub left-unfolded : (first : Bool) (e : Token) (es : List Token) → IsRunIn texts e → All (IsRunIn texts) es →
+      let gap : List Token = gap_before es in
+      has_join gap ≡ false → gap_of (left_gap texts first (last_token texts e) (unfolded texts es)) ≡ record {
+        has_join = false;
+        has_white = has_white gap
+            || ((line_ends gap == 0 && not (has_white gap)) && is_spaced_in_run texts first e (from_item es));
+        line_ends = line_ends gap;
+      }
+  left-unfolded first e es run runs none =
+      let same = gap-unfolded es runs in
+      let next = next-spaced first e (from_item es) (first-solid es) run (from-runs es runs) in
+      rw (spaced-here first (last_token texts e) (unfolded texts es), same.0, same.1, empty-gap es none, next)
+      (gap-spaced _ (gap_before es) none)
 
   pub from-alone : (es : List Token) → first_is_alone es ≡ true → first_is_alone (from_item es) ≡ true
   from-alone [] h = refl
@@ -144,15 +179,11 @@ module _ (texts : List (List ℕ)) where
       let whole : are_apart false (is_word ends.first) ends.others ≡ true = grind arith in
       let stays : ends_in backslash texts (last_of e ends.others) ≡ false = ends.last.joins ∙ run.ends in
       let kept = part-kept ends.first _ ends.others es whole stays in
-      let more = parts-ahead e in_name _ ends.others es (part-plain ends.first) whole stays in
+      let more = parts-ahead e in_name _ ends.others es (part-plain ends.first).0 whole stays in
       rw ends.parts (grind (arith, ahead-item texts at e (map part_token ends.others ++ es)))
 
-  pub parts-unmarked : (ps : List RunPart) → unmarked_items (map part_token ps ++ []) ≡ map part_item ps
-  parts-unmarked [] = refl
-  parts-unmarked (p ∷ ps) = grind (arith, parts-unmarked ps)
-
   plain-spaced : (e : Token) → is_solid e ≡ true → is_run e ≡ false
-      → (unfolded_token texts e ≡ e ∷ []) × (unmarked_items (e ∷ []) ≡ option_to_list (item_of e))
+      → (unfolded_token texts e ≡ e ∷ []) × (written_items texts e ≡ option_to_list (item_of e))
       × (are_name_parts texts e ≡ is_name_part e)
   plain-spaced x solid other = grind arith
 
@@ -161,7 +192,7 @@ module _ (texts : List (List ℕ)) where
       → (at.is_first ≡ true → is_run e ≡ false) → gap ≡ gap_of (left_gap texts at.is_first (last_token texts e) es)
       → is_dropped texts e gap ≡ false → items_ahead texts at (unfolded_token texts e ++ es)
       ≡ (blank_if (has_blank texts at.in_name at.item at.gap (first_token texts e))
-      ++ replicate at.gap.line_ends item.LineEnd) ++ (spaced_items texts (e ∷ []) ++ items_ahead texts (record {
+      ++ replicate at.gap.line_ends item.LineEnd) ++ (written_items texts e ++ items_ahead texts (record {
         is_first = false;
         item = Some (last_token texts e);
         in_name = is_at_name at && are_name_parts texts e;
@@ -173,7 +204,7 @@ module _ (texts : List (List ℕ)) where
             let first = false_from_ne_true at.is_first (λ h. let never = rw of.1 at (alone h) in cc) in
             let ahead = ahead-run at of.0 es (rw of.1 at run) first in
             let is_left = rw first at is in
-            rw (is_left, of.1, parts-unmarked (run_parts texts of.0)) (ahead ∙ sym (append_assoc _ (replicate at.gap.line_ends item.LineEnd) _))
+            rw (is_left, of.1) (ahead ∙ sym (append_assoc _ (replicate at.gap.line_ends item.LineEnd) _))
         | inr other ↦
             let plain = plain-spaced e solid other in
             let last = last-plain texts e other in

@@ -1,54 +1,74 @@
--- The items of spaced tokens of a macro, token by token.
-use Rattle.std.proofs.lemmas.Bool.Decides.{nat_tests}
-use Rattle.std.proofs.Common.{◌≡◌, ◌∙◌, ℕ, ◌+◌, Bool, true, false, List, [], ◌∷◌, ◌++◌, replicate, refl, ap, sym, arith, append_assoc, append-nil, if◌then◌else◌, subst}
+-- The items of spaced tokens of a macro.
+use Rattle.std.proofs.Common.{◌≡◌, ◌∙◌, ◌<◌, ◌+◌, ℕ, zero, suc, Bool, true, false, not, List, [], ◌∷◌, ◌++◌, replicate, refl, ap, sym, append_assoc}
+use Rattle.std.proofs.Common.{arith, drop, get_or, length}
 use Rattle.std.specs.List.{All}
-use Rattle.std.proofs.lemmas.List.Elements.{All-push}
-use Rattle.std.proofs.lemmas.Grind.{replicate_next}
+use Rattle.std.proofs.lemmas.List.{flat_map_more}
+use Rattle.std.proofs.lemmas.List.Elements.{All-append, All-cons, All-replicate}
 use Rattle.std.proofs.lemmas.List.Concat.{flat_map-append}
 use Rattle.tangle_lexer.specs.declared.tokens.Token.{Token}
 use Rattle.tangle_lexer.specs.declared.tokens.Token.TheVariants as token
-use Rattle.tangle_lexer.specs.Runs.{unfolded, unfolded_token}
+use Rattle.tangle_lexer.specs.Runs.{IsRunIn}
+use Rattle.tangle_lexer.specs.Runs.{part_token}
+use Rattle.tangle_lexer.specs.SpanBytes.{first_byte}
+use Rattle.tangle_lexer.specs.declared.tokens.SpanKind.TheVariants as span_kind
+use Rattle.tangle_text.specs.Bytes.{is_digit}
+use Rattle.tangle_text.specs.declared.runs.RunPart.{RunPart}
+use Rattle.tangle_scan.specs.Rules.{is_macro}
+use Rattle.tangle_scan.specs.Texts.{part_item}
 use Rattle.tangle_scan.specs.declared.items.Item.{Item}
 use Rattle.tangle_scan.specs.declared.items.Item.TheVariants as item
-use Rattle.tangle_scan.specs.Rules.{unmarked_items}
-use Rattle.tangle_scan.specs.Passes.{blank_if, is_solid, is_written, spaced_items, IsWritten}
+use Rattle.tangle_scan.specs.Passes.{first_token}
+use Rattle.tangle_scan.proofs.lemmas.RestLemmas.{split-at}
+use Rattle.tangle_scan.proofs.lemmas.RunItems.{run-ends}
+use Rattle.tangle_scan.specs.Passes.{blank_if, gap_tokens, spaced_items, written_items}
 
-unmarked-append : (ts us : List Token) → unmarked_items (ts ++ us) ≡ unmarked_items ts ++ unmarked_items us
-unmarked-append [] us = refl
-unmarked-append (t ∷ ts) us = grind (arith, unmarked-append ts us)
+module _ (texts : List (List ℕ)) where
+  ends-items : (n : ℕ) → spaced_items texts (replicate n (token.LineEnd 0)) ≡ replicate n item.LineEnd
+  ends-items zero = refl
+  ends-items (suc n) = ap (λ t. item.LineEnd ∷ t) (ends-items n)
 
-pub spaced-cons : (texts : List (List ℕ)) (t : Token) (ts : List Token)
-    → spaced_items texts (t ∷ ts) ≡ spaced_items texts (t ∷ []) ++ spaced_items texts ts
-spaced-cons texts t ts =
-    unmarked-append (unfolded_token texts t) (unfolded texts ts)
-    ∙ ap (λ us. unmarked_items us ++ spaced_items texts ts) (sym (append-nil (unfolded_token texts t)))
+  gap-items : (blank : Bool) (n : ℕ) → spaced_items texts (gap_tokens blank n) ≡ blank_if blank ++ replicate n item.LineEnd
+  gap-items true n = ap (λ t. item.Blank ∷ t) (ends-items n)
+  gap-items false n = ends-items n
 
-module _ (texts : List (List ℕ)) (ts : List Token) where
-  pub spaced-push : (t : Token) → spaced_items texts (ts ++ t ∷ []) ≡ spaced_items texts ts ++ spaced_items texts (t ∷ [])
-  spaced-push t =
-      ap unmarked_items (flat_map-append (unfolded_token texts) ts (t ∷ []))
-      ∙ unmarked-append (unfolded texts ts) (unfolded texts (t ∷ []))
+  module _ (ts : List Token) where
+    pub gap-pushed : (blank : Bool) (n : ℕ) → spaced_items texts (ts ++ gap_tokens blank n)
+        ≡ spaced_items texts ts ++ (blank_if blank ++ replicate n item.LineEnd)
+    gap-pushed blank n =
+        flat_map-append (written_items texts) ts (gap_tokens blank n) ∙ ap (λ t. spaced_items texts ts ++ t) (gap-items blank n)
 
-  pub ends-pushed : (items : List Item) (blank : Bool) (n line : ℕ)
-      → spaced_items texts ts ≡ items ++ (blank_if blank ++ replicate n item.LineEnd)
-      → spaced_items texts (ts ++ token.LineEnd line ∷ []) ≡ items ++ (blank_if blank ++ replicate (n + 1) item.LineEnd)
-  ends-pushed items blank n line is = grind (arith, nat_tests, spaced-push, replicate_next, append_assoc)
+    pub gap-runs : (blank : Bool) (n : ℕ) → All (IsRunIn texts) ts → All (IsRunIn texts) (ts ++ gap_tokens blank n)
+    gap-runs true n all =
+        All-append (IsRunIn texts) ts _ all
+        (All-cons (IsRunIn texts) token.White _ tt (All-replicate (IsRunIn texts) n (token.LineEnd 0) tt))
+    gap-runs false n all = All-append (IsRunIn texts) ts _ all (All-replicate (IsRunIn texts) n (token.LineEnd 0) tt)
 
-  pub written-pushed : (t : Token) → IsWritten texts t → All (IsWritten texts) ts → All (IsWritten texts) (ts ++ t ∷ [])
-  written-pushed t one all = All-push (IsWritten texts) ts t all one
+    pub token-pushed : (blank : Bool) (n : ℕ) (t : Token) → spaced_items texts ((ts ++ gap_tokens blank n) ++ t ∷ [])
+        ≡ spaced_items texts ts ++ ((blank_if blank ++ replicate n item.LineEnd) ++ written_items texts t)
+    token-pushed blank n t =
+        sym (flat_map_more (written_items texts) [] (ts ++ gap_tokens blank n) t)
+        ∙ (ap (λ l. l ++ written_items texts t) (gap-pushed blank n) ∙ append_assoc (spaced_items texts ts) _ _)
 
-  pub blank-pushed : (blank : Bool) (new : List Token) → new ≡ ts ++ (if blank then token.White ∷ [] else [])
-      → (spaced_items texts new ≡ spaced_items texts ts ++ (blank_if blank ++ []))
-      × (All (IsWritten texts) ts → All (IsWritten texts) new)
-  blank-pushed true new is = (
-    rw (is, spaced-push token.White) refl,
-    λ all. subst (All (IsWritten texts)) (sym is) (written-pushed token.White (record { written = refl; run = tt }) all),
-  )
-  blank-pushed false new is =
-      let same = is ∙ append-nil ts in
-      (rw same (sym (append-nil (spaced_items texts ts))), λ all. subst (All (IsWritten texts)) (sym same) all)
+  -- whether a macro begins with an identifier, by its first token, and by the items of the others
+  abbrev by_first : Token → List Item → Bool
+  by_first (token.Span span_kind.Word s) items = not (is_digit (first_byte texts s))
+  by_first (token.Span kind s) items = false
+  by_first token.White items = false
+  by_first (token.LineEnd line) items = false
+  by_first (token.QuoteBreak line) items = false
+  by_first (token.AsciiConstant value line) items = false
+  by_first _ items = is_macro texts items
 
--- a token of which nothing is written has no items
-pub unwritten : (texts : List (List ℕ)) (t : Token) → is_solid t ≡ true → is_written t ≡ false
-    → spaced_items texts (t ∷ []) ≡ []
-unwritten texts x solid none = grind arith
+  first-part : (p : RunPart) (items others : List Item) → is_macro texts (part_item p ∷ items) ≡ by_first (part_token p) others
+  first-part x items others = grind arith
+
+  first-token : (t : Token) (items : List Item) → IsRunIn texts t
+      → is_macro texts (written_items texts t ++ items) ≡ by_first (first_token texts t) items
+  first-token (token.Run s) items run = let ends = run-ends texts s run in rw ends.parts (first-part ends.first _ items)
+  first-token x items run = grind arith
+
+  pub macro_by_first : (tokens : List Token) (i : ℕ) → i < length tokens → All (IsRunIn texts) tokens
+      → is_macro texts (spaced_items texts (drop i tokens))
+      ≡ by_first (first_token texts (get_or tokens i token.Section)) (spaced_items texts (drop (i + 1) tokens))
+  macro_by_first tokens i low runs =
+      rw (← split-at tokens i low) (first-token (get_or tokens i token.Section) _ (runs i token.Section low))

@@ -8,6 +8,7 @@ use Rattle.tangle_files.specs.Lines.{FileTable}
 use Rattle.tangle_lines.specs.Reading.{SourceLine}
 use Rattle.tangle_text.specs.declared.spans.Span.{Span}
 use Rattle.tangle_text.specs.declared.runs.RunPart.{RunPart}
+use Rattle.tangle_text.specs.declared.runs.RunPart.TheVariants as part
 use Rattle.tangle_text.specs.Runs.{run_parts}
 use Rattle.tangle_lexer.specs.declared.tokens.Token.{Token}
 use Rattle.tangle_lexer.specs.declared.tokens.Token.TheVariants as token
@@ -16,13 +17,13 @@ use Rattle.tangle_lexer.specs.declared.tokens.SpanKind.TheVariants as span_kind
 use Rattle.tangle_lexer.specs.Heads.{is_head}
 use Rattle.tangle_lexer.specs.Runs.{first_is_alone, part_token, unfolded_token, unfolded}
 use Rattle.tangle_scan.specs.Web.{is_all_macros}
-use Rattle.std.proofs.Common.{ℕ, suc, true, ◌++◌, ap, Option, Some, None, is_some}
+use Rattle.std.proofs.Common.{ℕ, suc, true, ◌++◌, ap, None, is_some}
 use Rattle.std.specs.List.{All}
 use Rattle.std.proofs.lemmas.List.Elements.{All-tail}
 use Rattle.tangle_text.specs.Runs.{are_apart}
 use Rattle.tangle_lexer.specs.Runs.{IsRunIn}
 use Rattle.tangle_scan.specs.Rules.{texts_of}
-use Rattle.tangle_scan.specs.Web.{macro_token_faults, own_fault, raw_fault, token_faults, quoted_ahead, last_word, word_at_end}
+use Rattle.tangle_scan.specs.Web.{macro_token_faults, token_faults, quoted_ahead, last_of, word_of}
 
 -- a test that neither a run nor a part of one passes: the parts are white space and spans
 
@@ -47,24 +48,24 @@ all_macros-unfolded texts ts = any-unfolded is_all_macros refl (λ kind s. refl)
 
 -- no part of a run is a fault, and no quoted text of a run follows a word
 
-parts-faults : (files : FileTable) (lines : List SourceLine) (after_space after_word : Bool) (word : Option Span)
+parts-faults : (files : FileTable) (lines : List SourceLine) (after_space after_word : Bool) (e : Token)
     (xs : List RunPart) (ts : List Token) → are_apart after_space after_word xs ≡ true
-    → (is_some word ≡ true → after_word ≡ true)
-    → token_faults files lines word (map part_token xs ++ ts) ≡ token_faults files lines (last_word word xs) ts
-parts-faults files lines after_space after_word word [] ts h may = refl
-parts-faults files lines after_space after_word word (x ∷ xs) ts h may =
-    grind (
-      arith,
-      parts-faults files lines true false None xs ts,
-      parts-faults files lines false false None xs ts,
-      λ (s : Span). parts-faults files lines false true (Some s) xs ts,
-    )
+    → (is_some (word_of e) ≡ true → after_word ≡ true)
+    → token_faults files lines (word_of e) (map part_token xs ++ ts) ≡ token_faults files lines (word_of (last_of e xs)) ts
+parts-faults files lines after_space after_word e [] ts h may = refl
+parts-faults files lines after_space after_word e (part.Space ∷ xs) ts h may =
+    grind (arith, parts-faults files lines true false token.White xs ts)
+parts-faults files lines after_space after_word e (part.Word s ∷ xs) ts h may =
+    grind (arith, parts-faults files lines false true (token.Span span_kind.Word s) xs ts)
+parts-faults files lines after_space after_word e (part.Quoted s ∷ xs) ts h may =
+    grind (arith, parts-faults files lines false false (token.Span span_kind.Quoted s) xs ts)
+parts-faults files lines after_space after_word e (part.Sign s ∷ xs) ts h may =
+    grind (arith, parts-faults files lines false false (token.Span span_kind.Sign s) xs ts)
 
 -- a run has parts
-first-word : (word : Option Span) (xs : List RunPart) → are_apart true true xs ≡ true
-    → last_word word xs ≡ last_word None xs
-first-word word [] h = cc
-first-word word (x ∷ xs) h = grind arith
+first-last : (e : Token) (xs : List RunPart) → are_apart true true xs ≡ true → last_of e xs ≡ last_of token.White xs
+first-last e [] h = cc
+first-last e (x ∷ xs) h = refl
 
 -- a run begins with no quoted text, nor do its parts
 ahead-parts : (xs : List RunPart) (ts : List Token) → are_apart true true xs ≡ true
@@ -81,22 +82,19 @@ ahead-unfolded lines (token.Fault kind line ∷ ts) runs = ahead-unfolded lines 
 ahead-unfolded lines (token.Span span_kind.Quoted s ∷ ts) runs = refl
 ahead-unfolded lines (t ∷ ts) runs = grind arith
 
-pub faults-unfolded : (files : FileTable) (lines : List SourceLine) (word : Option Span) (ts : List Token)
+-- `before` is the last token before these
+pub faults-unfolded : (files : FileTable) (lines : List SourceLine) (before : Token) (ts : List Token)
     → All (IsRunIn (texts_of lines)) ts
-    → token_faults files lines word (unfolded (texts_of lines) ts) ≡ token_faults files lines word ts
-faults-unfolded files lines word [] runs = refl
-faults-unfolded files lines word (token.Run s ∷ ts) runs =
+    → token_faults files lines (word_of before) (unfolded (texts_of lines) ts) ≡ token_faults files lines (word_of before) ts
+faults-unfolded files lines before [] runs = refl
+faults-unfolded files lines before (token.Run s ∷ ts) runs =
     let run = runs 0 (token.Run s) (omega arith) in
     let parts = run_parts (texts_of lines) s in
-    let more = unfolded (texts_of lines) ts in
-    parts-faults files lines true true word parts more run.apart (λ _. refl)
-    ∙ (ap (λ w. token_faults files lines w more) (first-word word parts run.apart)
-    ∙ (faults-unfolded files lines (last_word None parts) ts (λ k d low. runs (suc k) d (omega arith)) ∙ grind arith))
-faults-unfolded files lines word (t ∷ ts) runs =
-    ap (λ q. (raw_fault files lines word q ++ own_fault files lines t)
-    ++ token_faults files lines (word_at_end (texts_of lines) t) (unfolded (texts_of lines) ts)) (ahead-unfolded lines (t ∷ ts) runs)
-    ∙ ap (λ fs. (raw_fault files lines word (quoted_ahead (t ∷ ts)) ++ own_fault files lines t) ++ fs)
-    (faults-unfolded files lines (word_at_end (texts_of lines) t) ts (λ k d low. runs (suc k) d (omega arith)))
+    parts-faults files lines true true before parts (unfolded (texts_of lines) ts) run.apart (λ _. refl)
+    ∙ (ap (λ e. token_faults files lines (word_of e) (unfolded (texts_of lines) ts)) (first-last before parts run.apart)
+    ∙ (faults-unfolded files lines (last_of token.White parts) ts (λ k d low. runs (suc k) d (omega arith)) ∙ grind arith))
+faults-unfolded files lines before (t ∷ ts) runs =
+    rw (ahead-unfolded lines (t ∷ ts) runs, faults-unfolded files lines t ts (λ k d low. runs (suc k) d (omega arith))) refl
 
 -- the first item of a macro is in no run
 pub macro_faults-unfolded : (files : FileTable) (lines : List SourceLine) (ts : List Token) → All (IsRunIn (texts_of lines)) ts
@@ -106,7 +104,7 @@ macro_faults-unfolded files lines [] runs alone = refl
 macro_faults-unfolded files lines (token.Run s ∷ ts) runs alone = cc
 macro_faults-unfolded files lines (t ∷ ts) runs alone =
     let more = All-tail (IsRunIn (texts_of lines)) t ts runs in
-    grind (arith, macro_faults-unfolded files lines ts more, faults-unfolded files lines None ts more)
+    grind (arith, macro_faults-unfolded files lines ts more, faults-unfolded files lines token.White ts more)
 
 -- tokens without a head
 

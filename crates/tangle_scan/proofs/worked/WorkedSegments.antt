@@ -1,7 +1,7 @@
 -- Which cells are a control text, a section name, an ASCII constant or a comment, and which are not; and which spans
 -- are in order.
 use Rattle.std.proofs.lemmas.Bool.Decides.{nat_tests}
-use Rattle.std.proofs.Common.{◌≡◌, ℕ, ◌+◌, List, [], ◌∷◌, ◌++◌, Some, None, inl, inr, refl, codes, true, false, arith}
+use Rattle.std.proofs.Common.{◌≡◌, ℕ, ◌+◌, true, false, refl, List, [], ◌∷◌, ◌++◌, Some, None, codes, arith}
 use Rattle.tangle_text.specs.Text.{Cell}
 use Rattle.tangle_text.specs.declared.spans.Span.{Span}
 use Rattle.tangle_scan.specs.KeptBytes.{EndsBefore}
@@ -20,57 +20,34 @@ cells bytes = cells_from 0 bytes
 abbrev line_end : List Cell
 line_end = record { line = 0; column = 9; byte = None } ∷ []
 
--- control texts
-
-pub control_text : ShowsKind ControlText (cells (codes "@^x@@>@>"))
-control_text = ((refl, refl), (inr refl, (inl (refl, refl), tt)))
-
-pub control_text_that_another_code_ended : ShowsKind ControlText (cells (codes "@^x@@"))
-control_text_that_another_code_ended = ((refl, refl), (inr refl, tt))
-
-pub no_control_text_past_its_end : ShowsKind ControlText (cells (codes "@^x@>;")) → ⊥
-no_control_text_past_its_end h = grind arith
-
-pub no_control_text_past_another_code : ShowsKind ControlText (cells (codes "@^x@h@>")) → ⊥
-no_control_text_past_another_code h = grind arith
-
--- section names
-
-pub section_name : ShowsKind SectionName (cells (codes "@<a@@>@xb@>"))
-section_name = ((refl, refl), (inr refl, (inr refl, (inl (refl, refl), tt))))
-
-pub no_section_name_past_its_end : ShowsKind SectionName (cells (codes "@<a@>;")) → ⊥
-no_section_name_past_its_end h = grind arith
-
-pub no_section_name_over_a_section_start : ShowsKind SectionName (cells (codes "@<a@*b@>")) → ⊥
-no_section_name_over_a_section_start h = grind arith
-
-pub no_section_name_over_a_name_start : ShowsKind SectionName (cells (codes "@<a@<b@>")) → ⊥
-no_section_name_over_a_name_start h = grind arith
-
--- ASCII constants
-
-pub no_constant_over_a_line_end : ShowsKind AsciiConstant (cells (codes "@'a") ++ line_end ++ cells (codes "'")) → ⊥
-no_constant_over_a_line_end h = let none : true ≡ false = h.1.1.1.1.0 in cc
-
-pub no_constant_past_its_end : ShowsKind AsciiConstant (cells (codes "@'a'+b;")) → ⊥
-no_constant_past_its_end h = let same = h.2 3 (omega arith) (omega arith) refl in let none : false ≡ true = same.1 in cc
-
--- comments
-
-pub no_comment_over_a_section_start : ShowsKind Comment (cells (codes "/*a@*b*/")) → ⊥
-no_comment_over_a_section_start h = grind (arith, nat_tests)
-
--- the order of spans
-
 abbrev on_line : ℕ → ℕ → ℕ → Span
 on_line line start end = record { line = line; start = start; end = end }
 
-pub spans_that_touch : EndsBefore (on_line 0 1 2) (on_line 0 2 3)
-spans_that_touch = grind arith
+record Examples : Type 0 where
+  -- control texts
+  pub control_text : ShowsKind ControlText (cells (codes "@^x@@>@>"))
+  pub control_text_that_another_code_ended : ShowsKind ControlText (cells (codes "@^x@@"))
+  pub no_control_text_past_its_end : ShowsKind ControlText (cells (codes "@^x@>;")) → ⊥
+  pub no_control_text_past_another_code : ShowsKind ControlText (cells (codes "@^x@h@>")) → ⊥
+  -- section names
+  pub section_name : ShowsKind SectionName (cells (codes "@<a@@>@xb@>"))
+  pub no_section_name_past_its_end : ShowsKind SectionName (cells (codes "@<a@>;")) → ⊥
+  pub no_section_name_over_a_section_start : ShowsKind SectionName (cells (codes "@<a@*b@>")) → ⊥
+  pub no_section_name_over_a_name_start : ShowsKind SectionName (cells (codes "@<a@<b@>")) → ⊥
+  -- comments
+  pub no_comment_over_a_section_start : ShowsKind Comment (cells (codes "/*a@*b*/")) → ⊥
+  -- the order of spans
+  pub spans_that_touch : EndsBefore (on_line 0 1 2) (on_line 0 2 3)
+  pub no_order_on_a_line : EndsBefore (on_line 0 1 2) (on_line 0 0 1) → ⊥
+  pub no_order_of_lines : EndsBefore (on_line 1 0 1) (on_line 0 2 3) → ⊥
 
-pub no_order_on_a_line : EndsBefore (on_line 0 1 2) (on_line 0 0 1) → ⊥
-no_order_on_a_line h = grind arith
+examples : Examples
+examples = grind (arith, nat_tests)
 
-pub no_order_of_lines : EndsBefore (on_line 1 0 1) (on_line 0 2 3) → ⊥
-no_order_of_lines h = grind arith
+-- ASCII constants
+
+no_constant_over_a_line_end : ShowsKind AsciiConstant (cells (codes "@'a") ++ line_end ++ cells (codes "'")) → ⊥
+no_constant_over_a_line_end h = let none : true ≡ false = h.1.1.1.1.0 in cc
+
+no_constant_past_its_end : ShowsKind AsciiConstant (cells (codes "@'a'+b;")) → ⊥
+no_constant_past_its_end h = let same = h.2 3 (omega arith) (omega arith) refl in let none : false ≡ true = same.1 in cc

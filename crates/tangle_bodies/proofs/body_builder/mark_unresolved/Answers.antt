@@ -1,16 +1,10 @@
-use Rattle.std.proofs.Common.{arith, ◌∙◌}
-use Rattle.std.proofs.lemmas.List.{length-set}
-use Rattle.tangle_bodies.proofs.ResolvedLemmas.{step-resolved}
+use Rattle.std.proofs.Common.{rules}
+use Rattle.std.proofs.lemmas.List.{length-set, take-append-drop}
+use Rattle.tangle_bodies.proofs.ResolvedLemmas.{all-resolved, step-resolved}
 use Rattle.tangle_bodies.proofs.body_builder.mark_unresolved.Goals as goal
 
+pub returns-then-all_resolve : goal.returns-then-all_resolve
+returns-then-all_resolve c = search (rules, all-resolved, take-append-drop)
+
 pub loop-i-preserved : goal.loop-i-preserved
-loop-i-preserved c =
-    let tags = c.loop-i.tags.items in
-    let was = c.loop-i.invariant in
-    let made = c.resolved_tag.ensures in
-    record {
-      size = length-set tags c.loop-i.i c.resolved_tag.result.0 ∙ was.size;
-      left = made.left;
-      tags = step-resolved c.args.table.now tags c.loop-i.i c.index.result.now c.resolved_tag.result.0 _ _
-          (omega (arith, was.size, c.len-i-end.ensures)) c.index.ensures made.tag ∙ was.tags;
-    }
+loop-i-preserved c = search (rules, step-resolved, length-set)

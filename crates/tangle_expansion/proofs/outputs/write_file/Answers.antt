@@ -12,16 +12,10 @@ returns g c =
     let front = rw c.macros.ensures.macros at c.front_of.ensures in
     let fits = file_fits c.args.numbers.now c.macros.ensures.short output.has_macros
     (node_symbols c.args.kept.now output.node) c.requires.light in
-    rw (
-      ← c.has_piece.ensures,
-      c.if-not-has_piece.false,
-      ← append_assoc,
-      ← front,
-      ← c.node.ensures,
-      ← c.kept_expansion-expansion.ensures,
-    )
+    let kept = c.kept_expansion-expansion.ensures in
+    rw (← c.has_piece.ensures, c.if-not-has_piece.false, ← append_assoc, ← front, ← c.node.ensures, ← kept)
     (written_whole (t c.args.sink.now) (t c.write_after.new.sink) c.write_after.result _
-    (rw (← front, ← c.node.ensures, ← c.kept_expansion-expansion.ensures) at fits)
+    (rw (← front, ← c.node.ensures, ← kept) at fits)
     (writes_then (t c.args.sink.now) _ (t c.write_after.new.sink) (Ok 0) _ c.write_after.result _ _
     (writes_then (t c.args.sink.now) _ _ (Ok 0) _ _ _ _ c.write_after-begun.ensures c.write_text_after-written.ensures.writes)
     c.write_after.ensures))

@@ -15,7 +15,7 @@ pub returns-in-Use : goal.returns-in-Use
 returns-in-Use g c = λ used.
     wrote_more _ _ _ _ _ _ _ _ _ _ (c.loop-end.invariant.wrote used)
     (search (rules, passes_use))
-    (rw (c.bytes_between.ensures, c.deref.ensures.value) at c.write_after-so_far.ensures)
+    (rw (c.bytes_between-bytes.ensures, c.deref.ensures.value) at c.write_after-so_far.ensures)
 
 pub loop-end-preserved : goal.loop-end-preserved
 loop-end-preserved g c =
@@ -27,7 +27,7 @@ loop-end-preserved g c =
           (wrote_more _ _ _ _ _ _ _ _ _ _ (c.loop-end.invariant.wrote used)
           (passes_symbols text.numbers.now text.body.now c.loop-end.end c.cursor_after-next.result c.index-tag.result.now (omega arith)
           c.index-tag.ensures c.cursor_after-next.ensures c.loop-end.at.start c.loop-end.invariant.low c.in_default.not-Use used)
-          (rw (c.bytes_between.ensures, c.deref.ensures.value) at c.write_after-so_far.ensures)) refl c.write_symbols-so_far.ensures)
+          (rw (c.bytes_between-bytes.ensures, c.deref.ensures.value) at c.write_after-so_far.ensures)) refl c.write_symbols-so_far.ensures)
           (c.after_bytes-end-in-loop-end.ensures.text text.numbers.now used);
     }
 
@@ -35,4 +35,4 @@ pub returns : goal.returns
 returns g c = λ used.
     wrote_more _ _ _ _ _ _ _ _ _ _ (c.loop-end.invariant.wrote used)
     (search (rules, stops_at_end))
-    (rw (c.bytes_between-2.ensures, c.deref-2.ensures.value) at c.write_after-all.ensures)
+    (rw (c.bytes_between-rest.ensures, c.deref-2.ensures.value) at c.write_after.ensures)

@@ -1,5 +1,5 @@
 use Rattle.std.proofs.Common.{rules}
-use Rattle.tangle_bodies.proofs.ShapeLemmas.{bodies_decide}
+use Rattle.tangle_bodies.proofs.TagLemmas.{bodies_decide}
 use Rattle.tangle_graph.proofs.ShapeLemmas.{has_piece_in, without_piece}
 use Rattle.tangle_graph.proofs.shapes.same_shape.Goals as goal
 

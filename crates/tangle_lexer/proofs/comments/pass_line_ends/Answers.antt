@@ -1,19 +1,13 @@
 use Rattle.std.proofs.Common.{rules}
 use Rattle.std.proofs.Common.{arith}
 use Rattle.std.proofs.lemmas.Bool.Decides.{nat_tests}
-use Rattle.std.proofs.Common.{append-nil, append_assoc}
+use Rattle.std.proofs.Common.{append_assoc}
 use Rattle.std.proofs.lemmas.List.{map-append}
-use Rattle.tangle_text.proofs.RegionLemmas.{unit_at-front, region_end-nothing, region_end-stop, region_end-go}
-use Rattle.tangle_lexer.proofs.lemmas.LexemeLemmas.{line_ends-go, line_ends-stop, after_line_ends-append}
-use Rattle.tangle_lexer.proofs.lemmas.OrdinaryLemmas.{line_ends-ordinary}
+use Rattle.tangle_text.proofs.RegionLemmas.{unit_at-front, region_end-go}
+use Rattle.tangle_lexer.proofs.lemmas.RegionSteps.{line_ends-go, after_line_ends-append}
+use Rattle.tangle_lexer.proofs.lemmas.RegionSteps.{line_ends-ordinary}
 use Rattle.tangle_text.proofs.OrdinaryBytes.{region_end-ordinary}
 use Rattle.tangle_lexer.proofs.comments.pass_line_ends.Goals as goal
-
-pub returns-in-Stop : goal.returns-in-Stop
-returns-in-Stop c = grind (arith, nat_tests, unit_at-front, line_ends-stop, region_end-stop, append-nil)
-
-pub loop-front-init : goal.loop-front-init
-loop-front-init c = grind (arith, nat_tests, line_ends-ordinary, region_end-ordinary)
 
 pub loop-front-preserved : goal.loop-front-preserved
 loop-front-preserved c =
@@ -28,6 +22,3 @@ loop-front-preserved c =
       tokens = search (rules, line_ends-ordinary, append_assoc, map-append);
       line = grind (arith, nat_tests, line_ends-ordinary, after_line_ends-append);
     }
-
-pub returns-clause-ahead : goal.returns-clause-ahead
-returns-clause-ahead c = grind (arith, nat_tests, region_end-nothing)

@@ -6,7 +6,6 @@ use Rattle.tangle_lexer.specs.Steps.{lexeme, tokens_from}
 use Rattle.tangle_lexer.specs.Heads.{is_head}
 use Rattle.tangle_lexer.specs.Runs.{unfolded, is_run, first_is_alone, IsRunIn}
 use Rattle.tangle_lexer.specs.Occurrences.{occurrence_of}
-use Rattle.tangle_lexer.proofs.lemmas.HeadLemmas.{IsPlain}
 use Rattle.tangle_lexer.proofs.lemmas.PlainTokens.{HasNone}
 use Rattle.tangle_lexer.proofs.lemmas.StepLemmas.{step-occurrences, step-count, step-shorter}
 use Rattle.tangle_lexer.proofs.lemmas.BlockLemmas.{taken, taken-tokens, not-taken, no-head, no-run}
@@ -52,7 +51,7 @@ loop-front-preserved c =
     let adds = c.in_ok-state.ensures.occurrences in
     let kept = c.in_default-pop_head.ensures in
     let simple = c.in_ok-state-2.ensures in
-    let plain : IsPlain s (lexeme s text) = not-taken s read kept.1 in
+    let plain = not-taken s read kept.1 in
     let no_run : HasNone is_run (lexeme s text).tokens = no-run (lexeme s text).tokens plain.0 in
     let ours = read-ours s read lines before.ours in
     let more = simple.read lines ours in
@@ -63,9 +62,9 @@ loop-front-preserved c =
       ours = more.ours;
       runs = more.runs (subst (All (IsRunIn texts)) (sym kept.0) (plain-runs s read texts no_run before.runs));
       alone = λ other. simple.adds.alone
-          (λ part. other (before.mode (plain.1 (sym (ap (λ s. s.mode) read.state) ∙ part))))
+          (λ part. other (before.mode (plain.1 part)))
           (ap first_is_alone kept.0 ∙ plain-alone s read no_run (before.alone other));
-      mode = λ part. before.mode (plain.1 (sym (ap (λ s. s.mode) read.state) ∙ (sym simple.mode ∙ part)));
+      mode = λ part. before.mode (plain.1 (sym simple.mode ∙ part));
       no_head = simple.adds.no_head (ap (list_any is_head) kept.0
           ∙ plain-none s read is_head (no-head (lexeme s text).tokens plain.0) before.no_head);
       occurrences = ap (λ ns. c.step.new.buffers.occurrences.items ++ map (occurrence_of lines) ns) more.occurrences

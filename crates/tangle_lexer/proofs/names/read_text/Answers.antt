@@ -1,32 +1,11 @@
-use Rattle.std.proofs.Common.{rules}
 use Rattle.std.proofs.lemmas.Bool.Decides.{nat_tests}
-use Rattle.std.proofs.Common.{Result, OnOk, drop, ap}
+use Rattle.std.proofs.Common.{drop, ap}
 use Rattle.std.proofs.Common.{append_assoc, length, length-drop, arith}
 use Rattle.tangle_text.specs.declared.regions.Region.TheVariants as region
 use Rattle.tangle_text.specs.Regions.{more_by}
-use Rattle.tangle_text.proofs.RegionLemmas.{unit_at-front, region_end-nothing, region_end-stop, region_end-go}
-use Rattle.tangle_lexer.proofs.lemmas.LexemeLemmas.{name_bytes-go}
-use Rattle.tangle_lexer.proofs.lemmas.NameWords.{form-none, form-end}
+use Rattle.tangle_text.proofs.RegionLemmas.{unit_at-front, region_end-go}
+use Rattle.tangle_lexer.proofs.lemmas.RegionSteps.{name_bytes-go}
 use Rattle.tangle_lexer.proofs.names.read_text.Goals as goal
-
-if_ok : {T E P : Type 0} (r : Result T E) → P → OnOk r P
-if_ok r p = search rules
-
--- the name that is a slice of its line
-
-pub returns-then-has_single_spaces-clause-ahead : goal.returns-then-has_single_spaces-clause-ahead
-returns-then-has_single_spaces-clause-ahead c = grind (arith, nat_tests, region_end-stop)
-
--- the name that is read unit by unit
-
-pub returns-in-Stop-clause-ahead : goal.returns-in-Stop-clause-ahead
-returns-in-Stop-clause-ahead c = grind (arith, nat_tests, unit_at-front, if_ok, region_end-stop)
-
-pub returns-in-Stop-clause-text : goal.returns-in-Stop-clause-text
-returns-in-Stop-clause-text c = grind (arith, nat_tests, unit_at-front, form-end)
-
-pub loop-front-init : goal.loop-front-init
-loop-front-init c = grind (arith, nat_tests, form-none)
 
 pub loop-front-preserved : goal.loop-front-preserved
 loop-front-preserved c =
@@ -37,12 +16,6 @@ loop-front-preserved c =
       end = grind (arith, nat_tests, region_end-go);
       name = grind (arith, nat_tests, append_assoc);
     }
-
-pub returns-clause-text : goal.returns-clause-text
-returns-clause-text c = grind (arith, nat_tests, form-end)
-
-pub returns-clause-ahead : goal.returns-clause-ahead
-returns-clause-ahead c = grind (arith, nat_tests, if_ok, region_end-nothing)
 
 pub loop-front-smaller : goal.loop-front-smaller
 loop-front-smaller c =

@@ -26,9 +26,7 @@ returns-in-Some-clause-read c = λ lines ours.
 
 pub returns-in-Some-clause-adds : goal.returns-in-Some-clause-adds
 returns-in-Some-clause-adds c =
-    let some = c.in_ok-push.ensures.items in
-    rw some (run-adds c.args.from.mode c.args.tokens.now.items (with_line c.args.line.now c.args.from) c.args.simple
-    (byte_at 0 c.args.reader.now) c.in-Some.run' (search rules))
+    search (rules, run-adds)
 
 -- where no run was read, the reader is where it was
 same-place : (c : goal.After-set-2) → c.if-begins_run.reader ≡ c.args.reader.now
@@ -36,8 +34,7 @@ same-place c =
     let text = c.args.reader.now in
     elim c.if-begins_run.branch [
       | then-begins_run+in_default w ↦
-          let none = run_at-empty text (sym w.take_run.ensures.span ∙ w.in_default.is) in
-          w.reader-is ∙ (w.take_run.ensures.ahead ∙ ap (λ n. drop n text) none)
+          search (rules, run_at-empty)
       | else-begins_run w ↦ w.reader-is
     ]
 

@@ -3,7 +3,7 @@ use Rattle.std.proofs.lemmas.Bool.Decides.{nat_tests}
 use Rattle.tangle_faults.specs.declared.faults.FaultKind.TheVariants as fault
 use Rattle.tangle_text.specs.declared.regions.Region.TheVariants as region
 use Rattle.tangle_lexer.specs.White.{after_a_name}
-use Rattle.tangle_lexer.proofs.lemmas.OpenedRegions.{drop-two, mid-is, after-two}
+use Rattle.tangle_lexer.proofs.lemmas.RegionSteps.{drop-two, mid-is, after-two}
 use Rattle.tangle_lexer.proofs.lemmas.WhiteLemmas.{region-white, region-ahead, line-white, code-dark, kind-dark}
 use Rattle.tangle_lexer.proofs.white.passes_white.Goals as goal
 

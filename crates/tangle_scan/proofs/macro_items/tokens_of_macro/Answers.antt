@@ -1,13 +1,14 @@
 use Rattle.std.proofs.lemmas.Bool.Decides.{nat_tests}
-use Rattle.std.proofs.Common.{◌++◌, ◌∙◌, ap, arith, refl, sym}
+use Rattle.std.proofs.Common.{◌++◌, ◌∙◌, ap, arith, false, refl, sym}
 use Rattle.std.proofs.lemmas.List.{nil_from_length}
 use Rattle.std.proofs.lemmas.List.Elements.{All-nil}
 use Rattle.tangle_lexer.specs.Runs.{unfolded, IsRunIn}
 use Rattle.tangle_scan.specs.Rules.{texts_of}
-use Rattle.tangle_scan.specs.Passes.{items_ahead, plain_state, spaced_items, IsWritten}
+use Rattle.tangle_scan.specs.Passes.{items_ahead, plain_state, spaced_items}
 use Rattle.tangle_scan.proofs.lemmas.RestLemmas.{all-rest, rest, split}
 use Rattle.tangle_scan.proofs.lemmas.MacroItemLemmas.{ahead-begin, ahead-end, first-solid}
-use Rattle.tangle_scan.proofs.lemmas.MacroRunLemmas.{from-unfolded, from-alone, from-runs}
+use Rattle.tangle_scan.proofs.lemmas.MacroRunLemmas.{gap-unfolded, from-alone, from-runs}
+use Rattle.tangle_scan.proofs.lemmas.SpacedTokens.{gap-pushed, gap-runs}
 use Rattle.tangle_scan.proofs.macro_items.tokens_of_macro.Goals as goal
 
 pub loop-left-init : goal.loop-left-init
@@ -17,8 +18,8 @@ loop-left-init c =
     let next = c.read_gap.ensures.next in
     record {
       items = rw (c.in_ok-spaced.ensures.items, next, c.no_gap.ensures)
-          (ap (items_ahead texts _) (sym (from-unfolded texts tokens c.requires.runs)) ∙ ahead-begin texts _ (unfolded texts tokens) refl);
-      written = rw c.in_ok-spaced.ensures.items (All-nil (IsWritten texts));
+          (ap (items_ahead texts _) (sym (gap-unfolded texts tokens c.requires.runs).1) ∙ ahead-begin texts _ (unfolded texts tokens) refl);
+      spaced = rw c.in_ok-spaced.ensures.items (All-nil (IsRunIn texts));
       runs = rw next (from-runs texts tokens c.requires.runs);
       solid = rw next (first-solid tokens);
       alone = λ h. rw next (from-alone texts tokens c.requires.alone);
@@ -37,11 +38,11 @@ loop-left-preserved c =
     let next = c.gap_after.ensures.next in
     record {
       items = rw next (ap (λ es. spaced_items texts c.add_token.new.spaced.items ++ items_ahead texts (plain_state texts c.in_ok-at.at) es)
-          (sym (from-unfolded texts (rest left) runs))
+          (sym (gap-unfolded texts (rest left) runs).1)
           ∙ (step.items (unfolded texts (rest left)) c.gap_after.ensures.gap
           ∙ (ap (λ ts. spaced_items texts c.loop-left.spaced.items ++ items_ahead texts (plain_state texts c.loop-left.at) (unfolded texts ts))
           (split left some) ∙ before.items)));
-      written = step.written before.written;
+      spaced = step.runs before.spaced;
       runs = rw next (from-runs texts (rest left) runs);
       solid = rw next (first-solid (rest left));
       alone = λ h. let never = rw step.next.0 at h in cc;
@@ -52,10 +53,13 @@ loop-left-preserved c =
 pub returns-clause-items : goal.returns-clause-items
 returns-clause-items c =
     let texts = texts_of c.args.source.now.lines in
+    let spaced = c.loop-left.spaced.items in
     let before = c.loop-left.invariant in
     let none = ap (unfolded texts) (nil_from_length c.loop-left.left.now (omega (arith, c.in_default.len_below))) in
-    c.in_ok-push_gap.ensures.items texts
-    ∙ (ap (λ t. spaced_items texts c.loop-left.spaced.items ++ t) (sym (ahead-end texts (plain_state texts c.loop-left.at) _ _ none refl)) ∙ before.items)
+    rw c.in_ok-push_gap.ensures (gap-pushed texts spaced false c.loop-left.at.gap.line_ends
+    ∙ (ap (λ t. spaced_items texts spaced ++ t) (sym (ahead-end texts (plain_state texts c.loop-left.at) _ _ none refl)) ∙ before.items))
 
-pub returns-clause-written : goal.returns-clause-written
-returns-clause-written c = c.in_ok-push_gap.ensures.written (texts_of c.args.source.now.lines) c.loop-left.invariant.written
+pub returns-clause-runs : goal.returns-clause-runs
+returns-clause-runs c =
+    rw c.in_ok-push_gap.ensures
+    (gap-runs (texts_of c.args.source.now.lines) c.loop-left.spaced.items false c.loop-left.at.gap.line_ends c.loop-left.invariant.spaced)

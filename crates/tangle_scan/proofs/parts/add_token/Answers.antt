@@ -1,4 +1,4 @@
-use Rattle.std.proofs.Common.{rules}
+use Rattle.std.proofs.Common.{rules, inl, inr}
 use Rattle.std.proofs.Common.{ap, refl, subst}
 use Rattle.tangle_lexer.specs.Runs.{IsRunIn}
 use Rattle.tangle_scan.specs.declared.parts.PartState.{PartState}
@@ -13,14 +13,10 @@ pub returns-in-White-clause-made : goal.returns-in-White-clause-made
 returns-in-White-clause-made c = λ whole es h.
     let lines = c.args.source.now.lines in
     made-same lines whole c.args.text.now c.args.at.now _ _ es refl refl
-    (λ items kept. passed-white lines whole items kept c.args.at.now es) (rw c.in-White.is at h)
-
-pub returns-in-InnerLineEnd-clause-made : goal.returns-in-InnerLineEnd-clause-made
-returns-in-InnerLineEnd-clause-made c = λ whole es h.
-    let lines = c.args.source.now.lines in
-    rw c.note_inner_line_end.ensures
-    (made-same lines whole c.args.text.now c.args.at.now _ _ es refl refl
-    (λ items kept. passed-inner_end lines whole items kept c.args.at.now _ es) (rw c.in-InnerLineEnd.is at h))
+    (λ items kept passed. elim c.in-White.is [
+      | inl is ↦ passed-white lines whole items kept c.args.at.now es (rw is at passed)
+      | inr is ↦ passed-inner_end lines whole items kept c.args.at.now _ es (rw is.1 at passed)
+    ]) h
 
 pub returns-in-Joined-clause-made : goal.returns-in-Joined-clause-made
 returns-in-Joined-clause-made c = λ whole es h.

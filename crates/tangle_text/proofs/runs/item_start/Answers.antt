@@ -1,11 +1,7 @@
-use Rattle.std.proofs.Common.{◌+◌, ap, ◌∙◌}
-use mir.Val.{bool_byte}
-use Rattle.tangle_files.specs.Bytes.{space}
-use Rattle.tangle_text.specs.Bytes.{holds}
+use Rattle.std.proofs.Common.{arith}
+use Rattle.std.proofs.lemmas.Bool.Decides.{nat_tests}
 use Rattle.tangle_text.proofs.RunPartLemmas.{blank_at}
 use Rattle.tangle_text.proofs.runs.item_start.Goals as goal
 
 pub returns : goal.returns
-returns c =
-    ap (λ t. c.args.column + bool_byte t) (c.holds.ensures ∙ ap (holds space) c.byte_of.ensures)
-    ∙ ap (λ n. c.args.column + n) (blank_at c.args.bytes.now c.args.column)
+returns c = grind (arith, nat_tests, blank_at)

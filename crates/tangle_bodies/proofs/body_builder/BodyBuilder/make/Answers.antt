@@ -1,25 +1,18 @@
-use Rattle.std.proofs.Common.{rules}
-use Rattle.std.proofs.Common.{drop, ◌+◌}
-use Rattle.std.proofs.lemmas.List.{drop_all, drop_more}
+use Rattle.std.proofs.Common.{ap, arith}
+use Rattle.std.proofs.lemmas.List.{map-append, take_all, take_more}
 use Rattle.tangle_scan.specs.Texts.{text_of}
 use Rattle.tangle_bodies.specs.Nodes.{pieces_at}
-use Rattle.tangle_bodies.proofs.AddingPieces.{no_pieces_added, piece_added, pieces_made}
+use Rattle.tangle_bodies.proofs.AddingPieces.{piece_added}
 use Rattle.tangle_bodies.proofs.body_builder.BodyBuilder.make.Goals as goal
 
-pub loop-number-init : goal.loop-number-init
-loop-number-init c = search (rules, pieces_made)
-
 pub loop-number-preserved : goal.loop-number-preserved
-loop-number-preserved c = λ new rest.
-    let web = c.args.web.now in
-    let numbers = c.args.numbers.now in
-    let i = c.loop-number.number-index in
-    c.loop-number.invariant new (rw (drop_more numbers i 0 c.loop-number-test.true)
-    (piece_added web.texts c.args.table.now c.loop-number.self c.add_piece.new.self new
-    _ (text_of c.piece_text.result) (pieces_at web.pieces (drop (i + 1) numbers))
-    c.piece_text.ensures.text c.in_ok-add_piece.ensures rest))
+loop-number-preserved c =
+    let more = take_more c.args.numbers.now c.loop-number.number-index 0 c.loop-number-test.true in
+    piece_added c.args.web.now.texts c.args.table.now _ _ _ _ _ (text_of c.piece_text.result)
+    (simp map-append at (ap (pieces_at c.args.web.now.pieces) more))
+    c.loop-number.invariant c.piece_text.ensures.text c.in_ok-add_piece.ensures
 
 pub returns : goal.returns
 returns c =
-    c.loop-number.invariant c.loop-number.self
-    (search (rules, drop_all, no_pieces_added))
+    let all = take_all c.loop-number.number-index c.args.numbers.now (omega arith) in
+    (rw all at c.loop-number.invariant).made

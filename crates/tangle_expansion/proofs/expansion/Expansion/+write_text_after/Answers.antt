@@ -3,7 +3,7 @@ use Rattle.std.proofs.Common.{◌+◌, ◌∷◌, ◌++◌, List, [], ap, drop, 
 use Rattle.std.specs.Prelude.{Option, unwrap_or}
 use Rattle.std.proofs.lemmas.List.{drop_all}
 use Rattle.tangle_bodies.specs.Flat.{Symbol}
-use Rattle.tangle_bodies.proofs.DropLemmas.{drop_at}
+use Rattle.tangle_bodies.proofs.EachLemmas.{drop_at}
 use Rattle.tangle_bodies.specs.Meaning.{shared_symbols}
 use Rattle.tangle_expansion.specs.Numbers.{expansion_bytes}
 use Rattle.tangle_expansion.specs.Writing.{bytes_from}
@@ -12,8 +12,7 @@ use Rattle.tangle_expansion.proofs.expansion.Expansion.+write_text_after.Goals a
 use Rattle.tangle_expansion.proofs.expansion.Expansion.+write_text_after.Goals.{in-Some, in_default}
 
 pub loop-used-init : goal.loop-used-init
-loop-used-init g t c =
-    search (rules, wrote_at_first)
+loop-used-init g t c = search (rules, wrote_at_first)
 
 pub loop-used-preserved : goal.loop-used-preserved
 loop-used-preserved g t c =

@@ -9,13 +9,9 @@ use Rattle.tangle_expansion.proofs.numbers.Numbers.build.Goals as goal
 
 pub invariant_of-result : goal.invariant_of-result
 invariant_of-result c =
-    numbers_hold _
-    (omega (
-      arith,
-      ap length c.in_ok-clone.ensures.cases,
-      simp length-map at (ap length c.requires.pieces.right),
-      ap length (c.in_ok-share.ensures ∙ c.requires.names),
-    ))
+    let rows = simp length-map at (ap length c.requires.pieces.right) in
+    let names = ap length (c.in_ok-share.ensures ∙ c.requires.names) in
+    numbers_hold _ (omega (arith, ap length c.in_ok-clone.ensures.cases, rows, names))
 
 pub returns : goal.returns
 returns c =
