@@ -74,6 +74,6 @@ reads-tokens count (line ∷ ls) =
     (read-texts count (begins_directive line.tokens) line.tokens)
     ∙ ap (λ more. texts_of line.tokens ++ more) (reads-tokens (count_after count line.end words) ls)))
 
-pub all-counted : (file text : List ℕ) → tokens_of (c_reads [] file text) ≡ tokens text
-all-counted file text =
+pub all_counted : (file text : List ℕ) → tokens_of (c_reads [] file text) ≡ tokens text
+all_counted file text =
     search (rules, reads-tokens, lines-tokens, token-texts)

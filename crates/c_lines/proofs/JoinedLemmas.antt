@@ -111,14 +111,10 @@ cut-taken : (after : Bool) (a b : List ℕ) → feeds_taken after a ≡ true →
 cut-taken after [] b taken = refl
 cut-taken after (x ∷ a) b taken = grind (arith, nat_tests, cut-taken (x == backslash) a b)
 
--- what is directly before bytes matters only if they begin with a line feed
-cut-same : (after : Bool) (b : List ℕ) → (after && begins_feed b) ≡ false → cut_line after b ≡ cut_line false b
-cut-same after b same = grind (arith, nat_tests)
-
 -- a text of one line, and bytes after it
 joined-both : (a b : List ℕ) → IsOneLine a → keep_lines a b ≡ true →
     let cut = cut_line false b in joined_lines [] (a ++ b) ≡ (a ++ cut.0) ∷ lines_after cut.1
-joined-both a b one kept = search (rules, not-true, keep-is, joined-is, cut-taken, cut-same)
+joined-both a b one kept = search (rules, not-true, keep-is, joined-is, cut-taken)
 
 cut-all : (after : Bool) (b : List ℕ) → let cut = cut_line after b in b ≡ cut.0 ++ cut.1
 cut-all after [] = refl
@@ -196,15 +192,11 @@ unfolding is_element is_token is_punctuator
 feed-whole b =
     whole-apart (line_feed ∷ []) b refl (keep-is (line_feed ∷ []) b) (white-before line_feed (spliced b) refl)
 
-whole-feed : (line bs : List ℕ) → is_whole line ≡ true → keep_lines line (line_feed ∷ []) ≡ true
-    → is_whole (line ++ line_feed ∷ bs) ≡ is_whole bs
-whole-feed line bs whole kept = search (rules, whole-apart, keep-is, spliced-other, white-next, feed-whole)
-
 whole-from : (line bs : List ℕ) → AllByRecursion (λ line. is_whole line ≡ true) (joined_lines line bs)
     → is_whole (line ++ bs) ≡ true
 whole-from line [] lines = ap is_whole (append-nil line) ∙ lines.0
 whole-from line (b ∷ bs) lines =
-    grind (arith, nat_tests, whole-from [] bs, whole-from (line ++ b ∷ []) bs, append_assoc line (b ∷ []) bs, whole-feed line bs)
+    grind (arith, nat_tests, whole-from [] bs, whole-from (line ++ b ∷ []) bs, append_assoc line (b ∷ []) bs, whole-apart, keep-is, spliced-other, white-next, feed-whole)
 
 pub lines-whole : (t : List ℕ) → LinesAreWhole t → is_whole t ≡ true
 lines-whole t lines = whole-from [] t lines

@@ -15,7 +15,7 @@ use Rattle.c_lines.specs.Counting.{Place, PlacedElement, tokens_at, begins_direc
 use Rattle.c_tokens.proofs.GrammarLemmas.{all-weaker}
 use Rattle.c_tokens.proofs.NumberLemmas.{separated-number, word-separated, separates-word}
 use Rattle.c_tokens.proofs.ElementLemmas.{one-element, plain-token, token-element}
-use Rattle.c_tokens.proofs.BorderLemmas.{number-token, apart-tokens}
+use Rattle.c_tokens.proofs.BorderLemmas.{number-token, apart_tokens}
 use Rattle.c_lines.proofs.CountingLemmas.{token-texts}
 use Rattle.c_lines.proofs.JoinedLemmas.{IsInLine, spliced-other, white-next, white-before}
 
@@ -43,9 +43,6 @@ digits-number b t all =
     let words = all-weaker is_digit is_word_byte (λ b digit. grind (arith, nat_tests)) (b ∷ t) all in
     separated-number b t (and_parts (is_digit b) (list_all is_digit t) all).0 (word-separated (b ∷ t) words) (words-separate (b ∷ t) words)
 
-digits-token : (b : ℕ) (t : List ℕ) → list_all is_digit (b ∷ t) ≡ true → tokens (b ∷ t) ≡ (b ∷ t) ∷ []
-digits-token b t all = one-token b t (digits-line (b ∷ t) all) (number-token (b ∷ t) (digits-number b t all))
-
 pub digits-whole : (t : List ℕ) → list_all is_digit t ≡ true → is_whole t ≡ true
 digits-whole [] all = refl
 digits-whole (b ∷ t) all =
@@ -63,11 +60,11 @@ string-token (b ∷ t) is line = one-token b t line (plain-token (b ∷ t) (sear
 
 space-first : (rest : List ℕ) → tokens (space ∷ rest) ≡ tokens rest
 unfolding is_element is_token is_punctuator
-space-first rest = apart-tokens (space ∷ []) rest (and_from (keep_lines (space ∷ []) rest) (have_border (space ∷ []) (spliced rest)) (search rules) (white-before space (spliced rest) refl))
+space-first rest = apart_tokens (space ∷ []) rest (and_from (keep_lines (space ∷ []) rest) (have_border (space ∷ []) (spliced rest)) (search rules) (white-before space (spliced rest) refl))
 
 space-after : (a rest : List ℕ) → is_whole a ≡ true → tokens (a ++ space ∷ rest) ≡ tokens a ++ tokens rest
 space-after a rest whole =
-    grind (arith, nat_tests, apart-tokens, and_from, spliced-other, white-next, space-first)
+    grind (arith, nat_tests, apart_tokens, and_from, spliced-other, white-next, space-first)
 
 word-tokens : tokens (codes "#line") ≡ codes "#" ∷ codes "line" ∷ []
 unfolding is_element is_token is_punctuator
@@ -83,7 +80,7 @@ line-tokens [] literal all some is line = absurd (false≢true some)
 line-tokens (d ∷ digits) literal all some is line =
     space-after (codes "#line") (d ∷ digits ++ space ∷ literal) word-whole
     ∙ ap (λ ts. ts ++ tokens (d ∷ digits ++ space ∷ literal)) word-tokens
-    ∙ ap (λ ts. codes "#" ∷ codes "line" ∷ ts) (search (rules, space-after, digits-whole, digits-token, string-token))
+    ∙ ap (λ ts. codes "#" ∷ codes "line" ∷ ts) (search (rules, space-after, digits-whole, string-token, one-token, digits-line, number-token, digits-number))
 
 -- the same of tokens with places
 

@@ -20,7 +20,7 @@ use Rattle.c_lines.specs.JoinedLines.{joined_lines, LinesAreWhole, lines_of_each
 use Rattle.c_tokens.proofs.ElementLemmas.{spliced-both}
 use Rattle.c_lines.proofs.JoinedLemmas.{IsInLine, IsOneLine, taken-spliced, one-more, joined-is, spliced-other, white-next, white-before}
 use Rattle.c_tokens.proofs.BorderLemmas.{border-elements}
-use Rattle.c_tokens.proofs.LongestLemmas.{longest-one, elements-all}
+use Rattle.c_tokens.proofs.LongestLemmas.{longest-one, elements_all}
 
 -- places
 
@@ -52,7 +52,7 @@ elements-some (suc n) (x ∷ a) = elements-some n a
 elements-some zero (x ∷ a) = search (rules, and_from, take-some, longest-one, elements-some (longest is_element (x ∷ a) - 1) a)
 
 elements-fill : (p : Place) (a : List ℕ) → length (concat (elements a)) ≡ length (places p a)
-elements-fill p a = ap length (elements-all 0 (spliced a)) ∙ sym (places-length p a)
+elements-fill p a = ap length (elements_all 0 (spliced a)) ∙ sym (places-length p a)
 
 with_places-both : (ps qs : List Place) (es fs : List (List ℕ)) → list_all has_bytes es ≡ true → length (concat es) ≡ length ps →
     with_places (ps ++ qs) (es ++ fs) ≡ with_places ps es ++ with_places qs fs
@@ -105,7 +105,7 @@ none-feed ps (e ∷ es) none =
 
 none-feed-at : (p : Place) (l : List ℕ) → IsOneLine l → list_all (λ e. not (is_feed e)) (elements_at p l) ≡ true
 none-feed-at p l joined =
-    none-feed (places p l) (elements l) (subst IsInLine (sym (elements-all 0 (spliced l))) (taken-spliced l joined))
+    none-feed (places p l) (elements l) (subst IsInLine (sym (elements_all 0 (spliced l))) (taken-spliced l joined))
 
 -- the first line of a text, if a line feed after a whole line ends it
 pub line-first : (p : Place) (l rest : List ℕ) → is_whole l ≡ true → IsOneLine l → keep_lines l (line_feed ∷ []) ≡ true →
@@ -134,8 +134,8 @@ each-line-from line (b ∷ bs) p one whole =
     grind (arith, nat_tests, each-line-from [] bs (next_place (place_after p line) line_feed) refl, each-line-from (line ++ b ∷ []) bs p, one-more line b one, line-first p line bs, joined-is [] bs, append_assoc line (b ∷ []) bs)
 
 -- the lines of a text that has whole lines are these, each read by itself
-pub each-line : (p : Place) (text : List ℕ) → LinesAreWhole text → lines_from p text ≡ lines_of_each p (joined_lines [] text)
-each-line p text whole = each-line-from [] text p refl whole
+pub each_line : (p : Place) (text : List ℕ) → LinesAreWhole text → lines_from p text ≡ lines_of_each p (joined_lines [] text)
+each_line p text whole = each-line-from [] text p refl whole
 
 -- the lines are the whole text
 
@@ -144,5 +144,7 @@ lines-joined-by line [] = sym (append-nil line)
 lines-joined-by line (b ∷ bs) =
     grind (arith, nat_tests, lines-joined-by [] bs, lines-joined-by (line ++ b ∷ []) bs, append_assoc line (b ∷ []) bs, joined-is [] bs)
 
-pub lines-joined : (text : List ℕ) → join_with_byte line_feed (joined_lines [] text) ≡ text
-lines-joined text = lines-joined-by [] text
+pub lines_joined : (text : List ℕ) → join_with_byte line_feed (joined_lines [] text) ≡ text
+lines_joined text = lines-joined-by [] text
+
+pub ruleset each_alone = (lines_joined, each_line)

@@ -7,18 +7,18 @@ use Rattle.std.specs.List.{list_any, list_all, concat, flat_map}
 use Rattle.std.proofs.lemmas.Bool.{and_parts, and_from, and_left, and_right, or_cases, or_left, or_right, or_from, or_parts, both_ways}
 use Rattle.std.proofs.lemmas.Bool.{not-true, false_from_ne_true, eqb-true}
 use Rattle.std.proofs.lemmas.List.Elements.{filter-append}
-use Rattle.c_tokens.specs.Bytes.{space, apostrophe, slash, backslash}
-use Rattle.c_tokens.specs.Bytes.{is_hexadecimal, is_word_byte, is_quote, is_sign, is_exponent, is_white}
+use Rattle.c_tokens.specs.Bytes.{space, slash, backslash}
+use Rattle.c_tokens.specs.Bytes.{is_hexadecimal, is_word_byte, is_quote, is_sign, is_exponent}
 use Rattle.c_tokens.specs.Grammar.{begins_hexadecimal, begins_universal_name, has_universal_names, is_identifier_byte}
-use Rattle.c_tokens.specs.Grammar.{begins_number, is_number_byte, signs_follow_exponents, begins_with_sign, apostrophes_separate, is_number, is_quoted, ends_quoted}
+use Rattle.c_tokens.specs.Grammar.{begins_number, is_number_byte, signs_follow_exponents, apostrophes_separate, is_number, is_quoted, ends_quoted}
 use Rattle.c_tokens.specs.Grammar.{has_prefix, is_punctuator, is_token, is_comment, is_element}
 use Rattle.c_tokens.specs.Reading.{spliced, longest, elements_from, tokens}
-use Rattle.c_tokens.specs.Touching.{is_separator, is_operator, is_one, is_plain}
+use Rattle.c_tokens.specs.Touching.{is_operator, is_one, is_plain}
 use Rattle.c_tokens.specs.Borders.{is_unfinished, last_element, last_byte, is_plain_byte, are_never_in_one}
 use Rattle.c_tokens.specs.Borders.{is_at_operator, number_goes_on, is_border, have_border, are_apart, has_bytes, are_all_apart}
 use Rattle.c_tokens.proofs.ReadingLemmas.{NoLonger, elements-front, elements-append}
 use Rattle.c_tokens.proofs.GrammarLemmas.{identifier-bytes, number-parts, number-from, number-first, punctuator-is}
-use Rattle.c_tokens.proofs.GrammarLemmas.{begins_prefix, IsLiteral, ends-once}
+use Rattle.c_tokens.proofs.GrammarLemmas.{identifier-bytes, begins_prefix, IsLiteral, ends-once}
 use Rattle.c_tokens.proofs.LongerLemmas.{element-cases, all-last, all-front, all-last-byte, separators, operators, listed-not}
 use Rattle.c_tokens.proofs.LongerLemmas.{comment-open, AreSeveral, two-bytes, quote-not}
 use Rattle.c_tokens.proofs.ElementLemmas.{single-element, comment-element, token-element, one-element, plain-element}
@@ -41,14 +41,10 @@ is_met inside d c = is_cut inside d c || is_at_operator d c
 
 -- a test that these bytes fail, as those of words and numbers, fails at a border
 
-gap-not : (test : ℕ → Bool) → list_all (λ b. not (test b)) (slash ∷ gaps) ≡ true → (b : ℕ) → (is_white b || is_separator b) ≡ true →
-    test b ≡ false
-gap-not test none b h = grind (arith, nat_tests)
-
 cut-fails : (test : ℕ → Bool) → list_all (λ b. not (test b)) (slash ∷ gaps) ≡ true → (inside : Bool) (d c : ℕ) →
     is_cut inside d c ≡ true → (test d && test c) ≡ false
 cut-fails test none inside d c h =
-    search (rules, or_cases, and_parts, and_left, and_right, or_left, or_right, gap-not test none)
+    search (rules, or_cases, and_parts, and_left, and_right, or_left, or_right, listed-not test (slash ∷ gaps) none)
 
 operator-fails : (test : ℕ → Bool) → list_all (λ b. not (test b)) operators ≡ true → (d c : ℕ) → is_at_operator d c ≡ true →
     (test d && test c) ≡ false
@@ -68,10 +64,6 @@ none-fails : (test : ℕ → Bool) (x : ℕ) (a : List ℕ) (c : ℕ) (q : List 
 none-fails test x a c q all fails = both_ways (test (last_byte x a) && test c) fails (all-border test x a c q all)
 
 -- numbers
-
-weaker : (p s t : Bool) → (s ≡ true → t ≡ true) → (p || s) ≡ true → (p || t) ≡ true
-weaker true s t f h = refl
-weaker false s t f h = f h
 
 -- A universal character name that goes on over the end of a text has bytes there that pass this test.
 module _ (test : ℕ → Bool) (hexadecimal : (b : ℕ) → is_hexadecimal b ≡ true → test b ≡ true) (small : test 117 ≡ true)
@@ -96,7 +88,7 @@ module _ (test : ℕ → Bool) (hexadecimal : (b : ℕ) → is_hexadecimal b ≡
         has_universal_names (x ∷ a ++ c ∷ q) ≡ true → has_universal_names (x ∷ a) ≡ true
     names-front x [] stops h = grind (arith, nat_tests)
     names-front x (y ∷ a) stops h =
-        search (rules, and_parts, and_from, weaker, universal-front y a stops, names-front y a stops)
+        search (rules, and_parts, and_from, universal-front y a stops, names-front y a stops)
 
 -- where a text ends, a sign still follows an exponent
 signs-front : (x : ℕ) (a : List ℕ) (c : ℕ) (q : List ℕ) → signs_follow_exponents (x ∷ a ++ c ∷ q) ≡ true →
@@ -108,19 +100,11 @@ begins-front : (x : ℕ) (a : List ℕ) (c : ℕ) (q : List ℕ) → is_at_opera
     begins_number (x ∷ a ++ c ∷ q) ≡ true → begins_number (x ∷ a) ≡ true
 begins-front x a c q at h = search rules
 
-no-sign-front : (a q : List ℕ) → not (begins_with_sign (a ++ q)) ≡ true → not (begins_with_sign a) ≡ true
-no-sign-front [] q h = refl
-no-sign-front (b ∷ a) q h = h
-
 -- no apostrophe at the end of the first text separates, since what follows is an operator
-apostrophe-last : (x c : ℕ) (next : Bool) → is_at_operator x c ≡ true → (not (x == apostrophe) || is_word_byte c && next) ≡ true →
-    not (x == apostrophe) ≡ true
-apostrophe-last x c next at h = grind (arith, nat_tests, listed-not is_word_byte operators refl c)
-
 apostrophes-front : (x : ℕ) (a : List ℕ) (c : ℕ) (q : List ℕ) → is_at_operator (last_byte x a) c ≡ true →
     apostrophes_separate (x ∷ a ++ c ∷ q) ≡ true → apostrophes_separate (x ∷ a) ≡ true
-apostrophes-front x [] c q at h = grind (arith, nat_tests, apostrophe-last x c (not (begins_with_sign q)) at)
-apostrophes-front x (y ∷ a) c q at h = search (rules, and_parts, and_from, weaker, no-sign-front, apostrophes-front y a c q at)
+apostrophes-front x [] c q at h = grind (arith, nat_tests, listed-not is_word_byte operators refl c)
+apostrophes-front x (y ∷ a) c q at h = search (rules, and_parts, and_from, apostrophes-front y a c q at)
 
 number-front : (x : ℕ) (a : List ℕ) (c : ℕ) (q : List ℕ) → is_at_operator (last_byte x a) c ≡ true →
     is_number (x ∷ a ++ c ∷ q) ≡ true → is_number (x ∷ a) ≡ true
@@ -255,17 +239,11 @@ punctuator-border : (x : ℕ) (a : List ℕ) (c : ℕ) (q : List ℕ) → is_met
 punctuator-border x a c q met h =
     both_ways (is_met (has_bytes a) (last_byte x a) c) (met-at false x a c q (punctuator-is (none_met false) refl (x ∷ a ++ c ∷ q) h)) met
 
--- a comment has more than one byte
-comment-inside : (before : List ℕ) (x : ℕ) (a : List ℕ) → is_comment (last_element before (elements_from 0 (x ∷ a))) ≡ true →
-    has_bytes a ≡ true
-comment-inside before x [] comment = grind (arith, nat_tests)
-comment-inside before x (y ∷ a) comment = refl
-
 border-cases : (before : List ℕ) (x : ℕ) (a : List ℕ) (c : ℕ) → let element = last_element before (elements_from 0 (x ∷ a)) in
     is_border element (last_byte x a) c ≡ true → (is_cut (has_bytes a) (last_byte x a) c ≡ true)
     ⊎ ((not (is_number element && number_goes_on (last_byte x a) c) && is_at_operator (last_byte x a) c) ≡ true)
 border-cases before x a c border =
-    search (rules, or_cases, and_parts, and_from, or_left, or_right, comment-inside)
+    search (rules, or_cases, and_parts, and_from, or_left, or_right)
 
 border-meets : (before : List ℕ) (x : ℕ) (a : List ℕ) (c : ℕ) →
     is_border (last_element before (elements_from 0 (x ∷ a))) (last_byte x a) c ≡ true → is_met (has_bytes a) (last_byte x a) c ≡ true
@@ -353,8 +331,8 @@ border-elements (x ∷ a) (c ∷ r) whole border =
     (λ x a b q rest same. border-longer b.before x a c q b.whole b.border)
     0 (x ∷ a) (omega arith) (record { before = []; whole = whole; border = border })
 
-pub apart-tokens : (a b : List ℕ) → are_apart a b ≡ true → tokens (a ++ b) ≡ tokens a ++ tokens b
-apart-tokens a b apart = search (rules, and_parts, spliced-both, border-elements, not-true, filter-append)
+pub apart_tokens : (a b : List ℕ) → are_apart a b ≡ true → tokens (a ++ b) ≡ tokens a ++ tokens b
+apart_tokens a b apart = search (rules, and_parts, spliced-both, border-elements, not-true, filter-append)
 
 -- texts in a row
 
@@ -367,8 +345,10 @@ pub row-tokens : (a : List ℕ) (rest : List (List ℕ)) → are_all_apart (a �
     (spliced (a ++ concat rest) ≡ spliced a ++ spliced (concat rest))
     × (tokens (a ++ concat rest) ≡ tokens a ++ flat_map tokens rest)
 row-tokens a [] apart = search rules
-row-tokens a (b ∷ rest) apart = search (rules, and_parts, have_border-more, spliced-both, apart-tokens, row-tokens b rest)
+row-tokens a (b ∷ rest) apart = search (rules, and_parts, have_border-more, spliced-both, apart_tokens, row-tokens b rest)
 
-pub all-tokens : (texts : List (List ℕ)) → are_all_apart texts ≡ true → tokens (concat texts) ≡ flat_map tokens texts
-all-tokens [] apart = refl
-all-tokens (a ∷ rest) apart = (row-tokens a rest apart).1
+pub texts_apart : (texts : List (List ℕ)) → are_all_apart texts ≡ true → tokens (concat texts) ≡ flat_map tokens texts
+texts_apart [] apart = refl
+texts_apart (a ∷ rest) apart = (row-tokens a rest apart).1
+
+pub ruleset all_apart = (apart_tokens, texts_apart)

@@ -10,11 +10,11 @@ use Rattle.c_tokens.proofs.ReadingLemmas.{counted, longer}
 use Rattle.c_tokens.proofs.ElementLemmas.{single-element}
 use Rattle.std.proofs.lemmas.Bool.Decides.{nat_tests}
 
-pub longest-most : (test : List ℕ → Bool) (b : List ℕ) (n : ℕ) → n ≤ length b → test (take n b) ≡ true → n ≤ longest test b
-longest-most test b zero within h = omega arith
-longest-most test [] (suc n) within h = absurd (omega arith)
-longest-most test (x ∷ b) (suc zero) within h = grind (arith, nat_tests)
-longest-most test (x ∷ b) (suc (suc n)) within h = grind (arith, nat_tests, longest-most (λ t. test (x ∷ t)) b (suc n))
+pub longest_most : (test : List ℕ → Bool) (b : List ℕ) (n : ℕ) → n ≤ length b → test (take n b) ≡ true → n ≤ longest test b
+longest_most test b zero within h = omega arith
+longest_most test [] (suc n) within h = absurd (omega arith)
+longest_most test (x ∷ b) (suc zero) within h = grind (arith, nat_tests)
+longest_most test (x ∷ b) (suc (suc n)) within h = grind (arith, nat_tests, longest_most (λ t. test (x ∷ t)) b (suc n))
 
 longest-passes : (test : List ℕ → Bool) (b : List ℕ) → 0 < longest test b → test (take (longest test b) b) ≡ true
 longest-passes test [] h = absurd (omega arith)
@@ -26,19 +26,21 @@ longest-passes test (x ∷ b) h = go (longest (λ t. test (x ∷ t)) b) h (longe
     go (suc more) h rest = search (rules, longer)
 
 pub longest-one : (b : ℕ) (rest : List ℕ) → 1 ≤ longest is_element (b ∷ rest)
-longest-one b rest = longest-most is_element (b ∷ rest) 1 (omega arith) (single-element b)
+longest-one b rest = longest_most is_element (b ∷ rest) 1 (omega arith) (single-element b)
 
-pub longest-is : (b : ℕ) (rest : List ℕ) → is_element (take (longest is_element (b ∷ rest)) (b ∷ rest)) ≡ true
-longest-is b rest = longest-passes is_element (b ∷ rest) (longest-one b rest)
+pub longest_is : (b : ℕ) (rest : List ℕ) → is_element (take (longest is_element (b ∷ rest)) (b ∷ rest)) ≡ true
+longest_is b rest = longest-passes is_element (b ∷ rest) (longest-one b rest)
 
-pub elements-all : (n : ℕ) (a : List ℕ) → concat (elements_from n a) ≡ drop n a
-elements-all zero [] = refl
-elements-all (suc n) [] = refl
-elements-all (suc n) (x ∷ a) = elements-all n a
-elements-all zero (x ∷ a) =
-    go (longest is_element (x ∷ a)) (longest-one x a) (elements-all (longest is_element (x ∷ a) - 1) a)
+pub elements_all : (n : ℕ) (a : List ℕ) → concat (elements_from n a) ≡ drop n a
+elements_all zero [] = refl
+elements_all (suc n) [] = refl
+elements_all (suc n) (x ∷ a) = elements_all n a
+elements_all zero (x ∷ a) =
+    go (longest is_element (x ∷ a)) (longest-one x a) (elements_all (longest is_element (x ∷ a) - 1) a)
   where
     go : (k : ℕ) → 1 ≤ k → concat (elements_from (k - 1) a) ≡ drop (k - 1) a →
         take k (x ∷ a) ++ concat (elements_from (k - 1) a) ≡ x ∷ a
     go zero h rest = search rules
     go (suc k) h rest = search (rules, take-append-drop)
+
+pub ruleset are_longest = (elements_all, longest_is, longest_most)

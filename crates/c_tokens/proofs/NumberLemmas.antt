@@ -5,8 +5,8 @@ use Rattle.std.proofs.Common.{◌≡◌, ℕ, Bool, true, false, List, [], ◌�
 use Rattle.std.specs.Prelude.{◌||◌, ◌==◌, not}
 use Rattle.std.proofs.lemmas.Bool.{and_parts, and_from, or_left, or_right}
 use Rattle.std.specs.List.{list_all}
-use Rattle.c_tokens.specs.Bytes.{apostrophe, is_digit, is_word_byte, is_sign}
-use Rattle.c_tokens.specs.Grammar.{is_number_byte, signs_follow_exponents, apostrophes_separate, has_universal_names, is_number, begins_number}
+use Rattle.c_tokens.specs.Bytes.{apostrophe, is_digit, is_word_byte}
+use Rattle.c_tokens.specs.Grammar.{is_number_byte, signs_follow_exponents, apostrophes_separate, has_universal_names, is_number}
 use Rattle.c_tokens.proofs.GrammarLemmas.{all-weaker, number-from}
 use Rattle.std.proofs.lemmas.Bool.Decides.{nat_tests}
 
@@ -14,27 +14,20 @@ use Rattle.std.proofs.lemmas.Bool.Decides.{nat_tests}
 abbrev pub is_separated_byte : ℕ → Bool
 is_separated_byte b = is_word_byte b || b == apostrophe
 
-separated-unsigned : (b : ℕ) → is_separated_byte b ≡ true → not (is_sign b) ≡ true
-separated-unsigned b h = grind (arith, nat_tests)
-
 separated-signs : (a : List ℕ) → list_all is_separated_byte a ≡ true → signs_follow_exponents a ≡ true
 separated-signs [] h = refl
 separated-signs (b ∷ []) h = refl
-separated-signs (b ∷ c ∷ a) h = search (rules, and_parts, and_from, or_right, separated-unsigned, separated-signs (c ∷ a))
+separated-signs (b ∷ c ∷ a) h = search (rules, and_parts, and_from, or_right, separated-signs (c ∷ a))
 
 pub separated-names : (a : List ℕ) → list_all is_separated_byte a ≡ true → has_universal_names a ≡ true
 separated-names [] h = refl
 separated-names (b ∷ a) h = grind (arith, nat_tests, separated-names a)
 
-digit-begins : (b : ℕ) (a : List ℕ) → is_digit b ≡ true → begins_number (b ∷ a) ≡ true
-digit-begins b [] h = h
-digit-begins b (c ∷ a) h = grind (arith, nat_tests)
-
 pub separated-number : (b : ℕ) (a : List ℕ) → is_digit b ≡ true → list_all is_separated_byte (b ∷ a) ≡ true →
     apostrophes_separate (b ∷ a) ≡ true → is_number (b ∷ a) ≡ true
 separated-number b a digit all separate =
     let bytes = all-weaker is_separated_byte is_number_byte (λ b h. grind (arith, nat_tests)) (b ∷ a) all in
-    search (rules, number-from, digit-begins, bytes, separated-signs, separated-names)
+    grind (arith, nat_tests, number-from, bytes, separated-signs, separated-names)
 
 -- a word has no apostrophes
 
@@ -48,7 +41,7 @@ word-unquoted b h = grind (arith, nat_tests)
 pub separates-more : (c : ℕ) (a : List ℕ) → is_word_byte c ≡ true → list_all is_separated_byte a ≡ true →
     apostrophes_separate (c ∷ a) ≡ true → apostrophes_separate (apostrophe ∷ c ∷ a) ≡ true
 separates-more c [] word all h = search (rules, and_from, or_right)
-separates-more c (d ∷ a) word all h = search (rules, separated-unsigned, and_parts, and_from)
+separates-more c (d ∷ a) word all h = grind (arith, nat_tests, and_parts, and_from)
 
 -- a byte of a word before what goes on as a number of a word does
 pub separates-word : (b : ℕ) (a : List ℕ) → is_word_byte b ≡ true → apostrophes_separate a ≡ true →

@@ -10,9 +10,9 @@ use Rattle.c_tokens.specs.Bytes.{full_stop, is_digit, space, backslash, line_fee
 use Rattle.c_tokens.specs.Grammar.{is_character, is_string}
 use Rattle.c_tokens.specs.Grammar.{is_comment}
 use Rattle.c_tokens.specs.Grammar.{is_element}
-use Rattle.c_tokens.specs.Reading.{spliced, elements_from, tokens, ends_in_comment}
+use Rattle.c_tokens.specs.Reading.{spliced, elements_from, tokens}
 use Rattle.c_tokens.specs.Touching.{TextKind, is_separator, is_operator, is_plain_word, is_plain, IsOfKind}
-use Rattle.c_tokens.specs.Borders.{is_plain_byte, last_byte, keep_lines}
+use Rattle.c_tokens.specs.Borders.{is_plain_byte, last_byte}
 use Rattle.c_tokens.specs.Touching.{kinds_may_touch}
 use Rattle.c_tokens.proofs.ReadingLemmas.{elements-append}
 use Rattle.c_tokens.proofs.GrammarLemmas.{IsLiteral, literal-last, literal-from_character, literal-from_string}
@@ -21,8 +21,8 @@ use Rattle.c_tokens.proofs.LongerLemmas.{separators, operators, listed-not, all-
 use Rattle.c_tokens.specs.Borders.{is_unfinished}
 use Rattle.c_tokens.specs.Grammar.{is_number}
 use Rattle.c_tokens.proofs.ElementLemmas.{single-element, one-element, plain-element, spliced-both, keep-other, last-append}
-use Rattle.c_tokens.proofs.BorderLemmas.{border-literal, apart-tokens}
-use Rattle.c_tokens.specs.Borders.{is_at_operator, are_apart, is_whole, have_border}
+use Rattle.c_tokens.proofs.BorderLemmas.{border-literal, apart_tokens}
+use Rattle.c_tokens.specs.Borders.{is_at_operator, are_apart, have_border}
 use Rattle.std.proofs.lemmas.Bool.{both_ways, false_from_ne_true, and_from, or_parts}
 use Rattle.std.proofs.lemmas.Bool.Decides.{nat_tests}
 
@@ -47,15 +47,7 @@ elements-separator a s h closed =
         (ap is_quote (sym (last-append x a s [])) ∙ literal-last x (a ++ s ∷ []) literal)
     stays x a closed (d ∷ q) rest same = absurd (omega (arith, ap length same))
 
-other-separator : (a : List ℕ) (s : ℕ) → ends_in_comment a ≡ false → is_separator s ≡ true →
-    tokens (a ++ s ∷ []) ≡ tokens a ++ tokens (s ∷ [])
-other-separator a s closed h =
-    search (rules, keep-other, listed-not, separators, spliced-both, elements-separator, filter-append)
-
 -- other texts that may touch have a border
-
-border-apart : (a b : List ℕ) → is_whole a ≡ true → keep_lines a b ≡ true → have_border (spliced a) (spliced b) ≡ true → are_apart a b ≡ true
-border-apart a b whole kept border = search (rules, and_from)
 
 sign-not : (test : ℕ → Bool) → list_all (λ b. not (test b)) separators ≡ true → list_all (λ b. not (test b)) operators ≡ true → (s : ℕ) →
     (is_separator s || is_operator s) ≡ true → test s ≡ false
@@ -66,7 +58,7 @@ sign-apart : (s : ℕ) (b : List ℕ) → (is_separator s || is_operator s) ≡ 
 sign-apart s b h border =
     let quote : is_quote s ≡ false = sign-not is_quote refl refl s h in
     let back : (s == backslash) ≡ false = sign-not (λ b. b == backslash) refl refl s h in
-    border-apart (s ∷ []) b (grind (arith, nat_tests, one-element s [] (single-element s), quote)) (search (rules, back)) border
+    grind (arith, nat_tests, one-element s [] (single-element s), quote, back)
 
 separator-before : (s : ℕ) (b : List ℕ) → is_separator s ≡ true → have_border (s ∷ []) b ≡ true
 separator-before s [] h = refl
@@ -115,9 +107,9 @@ plain-border (x ∷ a) o plain h =
 plain-apart : (a : List ℕ) (s : ℕ) → is_plain (spliced a) ≡ true → (is_separator s || is_operator s) ≡ true →
     have_border (spliced a) (s ∷ []) ≡ true → are_apart a (s ∷ []) ≡ true
 plain-apart a s plain h border =
-    border-apart a (s ∷ []) (plain-whole (spliced a) plain) (keep-other a s [] (sign-not (λ b. b == line_feed) refl refl s h)) border
+    search (rules, and_from, plain-whole, keep-other a s [] (sign-not (λ b. b == line_feed) refl refl s h))
 
-pub touching-tokens : (k g : TextKind) (a b : List ℕ) → IsOfKind k a → IsOfKind g b → kinds_may_touch k g ≡ true →
+pub touching_tokens : (k g : TextKind) (a b : List ℕ) → IsOfKind k a → IsOfKind g b → kinds_may_touch k g ≡ true →
     tokens (a ++ b) ≡ tokens a ++ tokens b
-touching-tokens k g a b of_a of_b may =
-    search (rules, or_left, or_right, other-separator, apart-tokens, sign-apart, separator-before, separator-next, operator-before, plain-border, plain-apart)
+touching_tokens k g a b of_a of_b may =
+    search (rules, or_left, or_right, keep-other, listed-not, spliced-both, elements-separator, filter-append, apart_tokens, sign-apart, separator-before, separator-next, operator-before, plain-border, plain-apart)

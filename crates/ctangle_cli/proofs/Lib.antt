@@ -6,6 +6,6 @@ mod WorkedWebs
 mod RetangleLemmas
 mod WorkedArguments
 mod AnswerLemmas
-mod HistoryLemmas
+pub mod HistoryLemmas
 mod ReadLemmas
 mod WorkedPage

@@ -16,7 +16,7 @@ use Rattle.tangle_folders.specs.declared.folder.FolderFault.{FolderFault}
 use Rattle.ctangle_cli.specs.Arguments.{names_by_arguments}
 use Rattle.tangle_loading.specs.Loading.{LoadEnd}
 use Rattle.tangle_loading.specs.Loading.LoadEnd.{NoMemory as LoadMemory}
-use Rattle.tangle_session.specs.Headline.{output_files}
+use Rattle.tangle_session.specs.Headline.{faults_at, output_files}
 use Rattle.ctangle_cli.specs.Messages.{ending_line, unwritten_line, usage_line}
 use Rattle.ctangle_cli.specs.Run.{EndsUnstarted, Moment, RunEnds, TangledEnds, TriesToWrite, moment}
 use Rattle.ctangle_cli.specs.Run.EndsUnstarted.{IsMisused, IsCutAtUsage, IsUnnamed, IsUnloaded}
@@ -77,6 +77,7 @@ module _ (same : Moment) (known : IsSome same.stream.taken) (few : same.stream.f
   pub run_not_3 : (arguments : List (List ℕ)) → RunEnds arguments same same 3 → ⊥
   run_not_3 arguments (IsUnstarted ends) = unstarted_not_3 usage_line (names_by_arguments arguments) ends
   run_not_3 arguments (IsTangled roles started session is starts ends read) =
-      tangled_not_3 _ ends.faults started.folder (subst
-      (λ s. TangledEnds (output_files session.files session.roles) ends.faults (moment started.folder s) same 3)
-      starts.unwritten ends.ends)
+      let made = output_files session.files session.roles in
+      let faults = faults_at session.files session.roles in
+      tangled_not_3 made faults started.folder
+      (subst (λ s. TangledEnds made faults (moment started.folder s) same 3) starts.unwritten ends.ends)

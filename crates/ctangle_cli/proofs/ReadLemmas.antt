@@ -20,26 +20,21 @@ use Rattle.tangle_bodies.proofs.InsideLemmas.{table_inside}
 use Rattle.tangle_expansion.specs.Limits.{flat_of}
 use Rattle.tangle_expansion.specs.Numbers.{numbers_of}
 use Rattle.tangle_expansion.specs.Outputs.{output_file_bytes}
-use Rattle.tangle_expansion.proofs.NumberLemmas.{node_numbers_of}
-use Rattle.tangle_expansion.proofs.PieceLemmas.{pieces_written}
 use Rattle.tangle_c_tokens.specs.LineFeeds.{FilesHaveNoLineFeed}
 use Rattle.tangle_c_lines.specs.CountedLines.{DirectivesAreSeen, IsCountedAsWritten}
-use Rattle.tangle_c_lines.proofs.CountedLemmas.{file-counted}
-use Rattle.tangle_c_lines.proofs.LowSources.{source-low}
-use Rattle.tangle_c_tokens.proofs.FileLemmas.{AreWrittenByPieces, file-is_read}
-use Rattle.tangle_c_tokens.proofs.TableLemmas.{added-have, edited-have, source-has}
+use Rattle.tangle_c_lines.proofs.CountedLemmas.{file_counted}
+use Rattle.tangle_c_lines.proofs.LowSources.{source_low}
+use Rattle.tangle_c_tokens.proofs.FileLemmas.{file_is_read}
+use Rattle.tangle_c_tokens.proofs.TableLemmas.{added_have, edited_have, source-has}
 use Rattle.tangle_graph.proofs.OutputLemmas.{outputs_fit}
-use Rattle.tangle_loading.specs.Loading.{Contents, Load, Loaded, add_answer, ask, ask_all, load_of, rounds_after}
-use Rattle.tangle_loading.specs.Loading.{bad_name, first_round, load_unless, missing_in, named_in, so_far, unless_refused}
+use Rattle.tangle_loading.specs.Loading.{Contents, Loaded, add_answer, load_of, unless_refused}
+use Rattle.tangle_loading.proofs.RoundLemmas.{load_keeps}
 use Rattle.tangle_session.specs.Edits.{list_refusal}
 use Rattle.tangle_session.specs.Headline.{AreMade, Call, Apply, ApplyAll, History, Started, Answered, IsAnswered}
 use Rattle.tangle_session.specs.Headline.{source_at, web_at}
 use Rattle.tangle_session.specs.Sessions.{SessionRead}
 use Rattle.ctangle_cli.specs.Run.{Moment, StartsSession}
 use Rattle.ctangle_cli.specs.WhatTheCompilerReads.{OutputsAreReadAsWritten, OutputsStayReadAsWritten, classes_of, node_of}
-
-by-pieces : AreWrittenByPieces
-by-pieces = search (rules, pieces_written, node_numbers_of)
 
 -- no name and no line has a line feed, and the files are within the limits of tables
 abbrev pub AreSound : FileTable → Type 0
@@ -56,12 +51,12 @@ read-as-written files roles sound output there =
     let bytes : (m : MarkMode) → List ℕ =
     λ m. output_file_bytes (numbers_of web (table_of web) m) output.has_macros output.has_piece (flat_of (shapes web (table_of web)) node) in
     record {
-      tokens = λ whole. file-is_read by-pieces source roles.marks clear
+      tokens = λ whole. file_is_read source roles.marks clear
           output.has_macros output.has_piece node whole.macros (λ is. (fit.there is, whole.pieces is));
       lines = λ full whole.
           subst (λ (m : MarkMode). DirectivesAreSeen (classes_of files roles output) (bytes m)
           → IsCountedAsWritten web.file_names (classes_of files roles output) output.name (bytes m)) (sym full)
-          (file-counted by-pieces source clear (source-low files roles sound.1) output.name
+          (file_counted source clear (source_low files roles sound.1) output.name
           output.has_macros output.has_piece node whole.macros (λ is. (fit.there is, whole.pieces is)));
     }
 
@@ -74,7 +69,7 @@ IsSound (Err ending) = Unit {0}
 added-sound : (files : FileTable) (name bytes : List ℕ) (refusal : Option Refusal) → add_refusal files name bytes ≡ refusal
     → AreSound files → IsSound (unless_refused files name bytes refusal)
 added-sound files name bytes None is sound =
-    (added-have files name bytes is sound.0, IsWithinLimits-with_file files name bytes (sym is) sound.1)
+    (added_have files name bytes is sound.0, IsWithinLimits-with_file files name bytes (sym is) sound.1)
 added-sound files name bytes (Some refusal) is sound = tt
 
 answer-sound : (needed : Bool) (files : FileTable) (name : List ℕ) (answer : Option (List ℕ)) → AreSound files
@@ -84,40 +79,10 @@ answer-sound false files name None sound = sound
 answer-sound needed files name (Some bytes) sound =
     grind (arith, added-sound files name bytes (add_refusal files name bytes) refl sound)
 
-module _ (contents : Contents) where
-  ask-sound : (needed : Bool) (asked : List (List ℕ)) (loaded : Loaded) (name : List ℕ) → IsSound loaded
-      → IsSound (ask contents needed asked loaded name).loaded
-  ask-sound needed asked (Err ending) name sound = tt
-  ask-sound needed asked (Ok files) name sound = by (list_any (bytes_eq name) asked)
-    where
-      by : (b : Bool) →
-          let load : Load = if b then so_far asked (Ok files)
-          else so_far (asked ++ name ∷ []) (add_answer needed files name (contents name)) in
-          IsSound load.loaded
-      by true = sound
-      by false = answer-sound needed files name (contents name) sound
-
-  all-sound : (needed : Bool) (load : Load) (names : List (List ℕ)) → IsSound load.loaded
-      → IsSound (ask_all contents needed load names).loaded
-  all-sound needed load [] sound = sound
-  all-sound needed load (name ∷ names) sound =
-      all-sound needed (ask contents needed load.asked load.loaded name) names
-      (ask-sound needed load.asked load.loaded name sound)
-
-  rounds-sound : (roles : RolesRead) (n : ℕ) (load : Load) → IsSound load.loaded
-      → IsSound (rounds_after contents roles n load).loaded
-  unfolding rounds_after
-  rounds-sound roles zero load sound = sound
-  rounds-sound roles (suc n) load sound =
-      rounds-sound roles n _ (all-sound false load (missing_in load.loaded roles) sound)
-
-  load-sound : (roles : RolesRead) → IsSound (load_of contents roles).loaded
-  load-sound roles = by (bad_name roles)
-    where
-      by : (bad : Option (List ℕ)) → IsSound (load_unless contents bad roles).loaded
-      by (Some name) = tt
-      by None = rounds-sound roles most_files (first_round contents roles)
-          (all-sound true (so_far [] (Ok [])) (roles.web ∷ named_in roles.change) (record { names = tt; lines = tt }, IsWithinLimits-none))
+load-sound : (contents : Contents) (roles : RolesRead) → IsSound (load_of contents roles).loaded
+load-sound contents roles = load_keeps contents roles (λ load. IsSound load.loaded)
+    (λ needed asked files name sound fresh. answer-sound needed files name (contents name) sound)
+    (record { names = tt; lines = tt }, IsWithinLimits-none) (λ ending. tt)
 
 pub started-sound : (roles : RolesRead) (old new : Moment) (session : SessionRead) → StartsSession roles old new session
     → AreSound session.files
@@ -133,7 +98,7 @@ edits-sound files roles [] none sound = sound
 edits-sound files roles (edit ∷ edits) none sound =
     let first : edit_refusal files edit ≡ None = grind (arith, none) in
     edits-sound (edited files edit) roles edits (grind (arith, none))
-    (edited-have files edit first sound.0, IsWithinLimits-edited files edit (sym first) sound.1)
+    (edited_have files edit first sound.0, IsWithinLimits-edited files edit (sym first) sound.1)
 
 made-sound : (before : SessionRead) (edits : List Edit) (after : SessionRead)
     → list_refusal before.files before.roles edits ≡ None → AreMade before edits after → AreSound before.files

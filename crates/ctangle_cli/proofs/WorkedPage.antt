@@ -9,7 +9,7 @@ use Rattle.c_tokens.specs.Bytes.{space, line_feed}
 use Rattle.c_tokens.specs.Grammar.{is_element, is_token, is_punctuator}
 use Rattle.c_lines.specs.Counting.{LineOfTokens, lines_from, reads, start_of_text}
 use Rattle.c_tokens.specs.Borders.{is_whole}
-use Rattle.c_lines.proofs.LineLemmas.{each-line}
+use Rattle.c_lines.proofs.LineLemmas.{each_line}
 use Rattle.c_lines.specs.JoinedLines.{lines_of_each}
 use Rattle.std.specs.List.{AllByRecursion}
 use Rattle.std.proofs.Common.{rules}
@@ -103,5 +103,5 @@ reads_of_lines = record { both = refl; debug = refl; other = refl; of_header = r
 worked : Reads (lines_from start_of_text program) (lines_from start_of_text header)
 worked =
     subst (λ (both : List LineOfTokens × List LineOfTokens). Reads both.0 both.1)
-    (λ i. (sym (each-line start_of_text program program_whole) i, sym (each-line start_of_text header header_whole) i))
+    (λ i. (sym (each_line start_of_text program program_whole) i, sym (each_line start_of_text header header_whole) i))
     reads_of_lines

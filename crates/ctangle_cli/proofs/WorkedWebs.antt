@@ -1,6 +1,5 @@
--- Worked webs: their output files and faults are as expected. None of their names contains itself, so the faults of the
--- graph are those of a graph without cycles.
-use Rattle.std.proofs.Common.{◌≡◌, ℕ, zero, suc, false, List, [], ◌∷◌, ◌++◌, Option, None, Some, rules}
+-- Worked webs: their output files and faults are as expected.
+use Rattle.std.proofs.Common.{◌≡◌, ℕ, zero, suc, List, [], ◌∷◌, ◌++◌, Option, None, Some, rules}
 use Rattle.std.specs.Prelude.{codes}
 use Rattle.std.specs.Fmt.{digits}
 use Rattle.tangle_faults.specs.declared.faults.FaultKind.{FaultKind}
@@ -17,23 +16,18 @@ use Rattle.tangle_lines.specs.Reading.{reads_in}
 use Rattle.tangle_lexer.specs.Steps.{tokens_from, lexeme, occurrences_from}
 use Rattle.tangle_files.specs.Roles.{RolesRead, roles_of}
 use Rattle.tangle_files.specs.declared.marks.MarkMode.TheVariants.{Bare}
-use Rattle.tangle_names.specs.Faults.{name_faults}
 use Rattle.tangle_expansion.specs.Limits.{levels, heaviest}
-use Rattle.tangle_graph.specs.Faults.{graph_faults}
+use Rattle.tangle_graph.specs.Cycles.{contains_itself, reaches_cycle}
 use Rattle.tangle_graph.specs.PlainForms.{plain_form}
-use Rattle.tangle_session.specs.Headline.{output_files, source_at, table_at, web_at}
+use Rattle.tangle_session.specs.Headline.{faults_at, output_files, source_at, web_at}
 
 -- the faults and the output files
 abbrev FaultsAndFiles : Type 0
 FaultsAndFiles = List FaultRead × List (List ℕ × List ℕ)
 
--- what tangling gives where no node contains itself or reaches a name that does
+-- what tangling gives
 abbrev tangle_of : FileTable → RolesRead → FaultsAndFiles
-tangle_of files roles = (
-  (source_at files roles).faults ++ ((web_at files roles).faults ++ (name_faults (web_at files roles)
-      ++ graph_faults (web_at files roles) (table_at files roles) roles.out (λ n. false) (λ n. false))),
-  output_files files roles,
-)
+tangle_of files roles = (faults_at files roles, output_files files roles)
 
 -- tangling these files, whose web is `a.w`; a web alone; and a web with a change file
 abbrev tangled_files : FileTable → FaultsAndFiles
@@ -105,7 +99,7 @@ record Changes : Type 0 where
       (codes "/*1:*/\n#line 4 \"a.w\"\n\nx\n/*:1*/\n")
 
 changes : Changes
-unfolding source_at web_at reads_in tokens_from lexeme occurrences_from levels heaviest digits
+unfolding faults_at contains_itself reaches_cycle source_at web_at reads_in tokens_from lexeme occurrences_from levels heaviest digits
 changes = search rules
 
 -- the text of C parts and macros
@@ -132,7 +126,7 @@ record Parts : Type 0 where
       ≡ gives [] (codes "/*1:*/\n#line 2 \"a.w\"\n\ns=\"a\\\nb\";u@v\n#include <p@q>\n/*:1*/\n")
 
 parts : Parts
-unfolding source_at web_at reads_in tokens_from lexeme occurrences_from levels heaviest digits
+unfolding faults_at contains_itself reaches_cycle source_at web_at reads_in tokens_from lexeme occurrences_from levels heaviest digits
 parts = search rules
 
 -- names, and bytes of other codes
@@ -169,5 +163,5 @@ record Names : Type 0 where
       )
 
 names : Names
-unfolding source_at web_at reads_in tokens_from lexeme occurrences_from levels heaviest digits plain_form
+unfolding faults_at contains_itself reaches_cycle source_at web_at reads_in tokens_from lexeme occurrences_from levels heaviest digits plain_form
 names = search rules

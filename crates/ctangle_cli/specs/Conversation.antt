@@ -7,8 +7,6 @@ use Rattle.std.specs.List.{list_any}
 use Rattle.std.specs.Option.{option_map}
 use Rattle.std.specs.declared.vec.Vec.{Vec}
 use Rattle.tangle_faults.specs.Faults.{FaultRead, is_error}
-use Rattle.tangle_files.specs.Lines.{FileTable}
-use Rattle.tangle_files.specs.Roles.{RolesRead}
 use Rattle.tangle_files.specs.declared.edits.Edit.{Edit}
 use Rattle.tangle_files.specs.declared.edits.Edit.TheVariants as edit
 use Rattle.tangle_files.specs.declared.marks.MarkMode.{MarkMode}
@@ -24,8 +22,7 @@ use Rattle.tangle_script.specs.Script.{IsCut}
 use Rattle.tangle_script.specs.Endings.{ConversationEnds}
 use Rattle.tangle_script.specs.Endings.ConversationEnds.{IsAtQuit, IsAtInputEnd, IsUnread}
 use Rattle.tangle_script.specs.Endings.ConversationEnds.{IsTooLong, IsUnwritten, IsOutOfMemory}
-use Rattle.tangle_session.specs.Headline.{Call, Apply, ApplyAll, IsAnswered, IsPlainTangling}
-use Rattle.tangle_session.specs.Headline.{output_at, output_files}
+use Rattle.tangle_session.specs.Headline.{Call, Apply, ApplyAll, IsAnswered, faults_at, output_at}
 use Rattle.tangle_session.specs.Sessions.{SessionRead}
 use Rattle.tangle_session.specs.declared.refusing.ListRefusal.{ListRefusal}
 use Rattle.ctangle_cli.specs.Messages.{fault_lines, refusal_name}
@@ -97,12 +94,6 @@ abbrev pub listed_faults : List FaultRead → List ℕ
 listed_faults faults =
     codes "faults " ++ decimal (length faults) ++ codes "\n" ++ fault_lines faults
 
--- the faults of the files are listed
-abbrev pub ListsFaults : FileTable → RolesRead → List ℕ → Type 0
-ListsFaults files roles output =
-    (faults : List FaultRead) × IsPlainTangling files roles (output_files files roles) faults
-    × (output ≡ listed_faults faults)
-
 -- whether the request opens, makes or drops a list, and may do so: `Begin` while no list is open,
 -- the others while one is
 abbrev pub is_of_list : Option (List Edit) → Request → Bool
@@ -115,7 +106,7 @@ is_of_list draft _ = false
 -- `quit`, and that to a bad command.
 abbrev pub Reports : SessionRead → Request → List ℕ → Type 0
 Reports s (Show file) output = output ≡ shown file (output_at s.files s.roles file)
-Reports s Faults output = ListsFaults s.files s.roles output
+Reports s Faults output = output ≡ listed_faults (faults_at s.files s.roles)
 Reports s Work output = output ≡ codes "work " ++ decimal (length s.work) ++ codes "\n"
 Reports s Quit output = output ≡ codes "ok\n"
 Reports s _ output = output ≡ codes "no BadCommand\n"
@@ -185,11 +176,7 @@ calls_until_cut cut =
 
 -- whether an error is among the faults of the files
 abbrev pub HasError : SessionAndDraft → Bool → Type 0
-HasError s error =
-    (faults : List FaultRead)
-    × IsPlainTangling s.session.files s.session.roles
-    (output_files s.session.files s.session.roles) faults
-    × (error ≡ list_any is_error faults)
+HasError s error = error ≡ list_any is_error (faults_at s.session.files s.session.roles)
 
 -- the calls of the answers in a conversation
 abbrev pub calls_of_conversation : {old new : Conversation SessionAndDraft} {status : ℕ}

@@ -7,7 +7,7 @@ use Rattle.tangle_files.specs.Roles.{RolesRead}
 use Rattle.tangle_faults.specs.Faults.{FaultRead}
 use Rattle.tangle_script.specs.Endings.{ConversationEnds}
 use Rattle.tangle_script.specs.Script.{Conversation}
-use Rattle.tangle_session.specs.Headline.{History, IsPlainTangling, IsStarted, output_files}
+use Rattle.tangle_session.specs.Headline.{History, IsStarted, faults_at, output_files}
 use Rattle.tangle_session.specs.Sessions.{SessionRead}
 use Rattle.tangle_folders.specs.declared.folder.FolderFault.{FolderFault}
 use Rattle.tangle_folders.specs.declared.folder.FolderFault.TheVariants.{NoMemory}
@@ -92,9 +92,7 @@ pub data TangledEnds (outputs : List File) (faults : List FaultRead)
 -- how a run ends after it has started a session of these files
 pub record SessionEnds (files : FileTable) (roles : RolesRead)
     (old new : Moment) (status : ℕ) : Type 0 where
-  pub faults : List FaultRead
-  pub plain : IsPlainTangling files roles (output_files files roles) faults
-  pub ends : TangledEnds (output_files files roles) faults old new status
+  pub ends : TangledEnds (output_files files roles) (faults_at files roles) old new status
   pub asks_nothing : AsksNothing old new
 
 -- the files of these names are loaded, and a session of them is started; nothing is written

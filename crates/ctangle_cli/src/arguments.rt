@@ -159,6 +159,7 @@ fn complete_all(alloc: Global, names: &[&[u8]]) -> Result<Words, WordFault>
 ///
 /// `Usage` where there is no name among the arguments, or more than three; `NoMemory` where an
 /// allocation failed.
+#[tactic(auto, unfolding(crate::specs::Arguments::names_by_arguments))]
 pub fn read_words(alloc: Global, arguments: &[&[u8]]) -> Result<Words, WordFault>
     ensures ok { IfOk result (λ w. names_by_arguments (map (λ v. v.now) arguments.now) ≡ Some w) }
     ensures usage { IfErr result

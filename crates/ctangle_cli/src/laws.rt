@@ -6,10 +6,10 @@ ghost use Rattle.tangle_files.specs.Roles.{RolesRead};
 ghost use Rattle.tangle_script.specs.Requests.{Command};
 ghost use Rattle.tangle_script.specs.Requests.Request.{Faults, Show};
 ghost use Rattle.tangle_script.specs.Script.{Dialogue};
-ghost use Rattle.tangle_session.specs.Headline.{Call, History, accepted, files_after, output_at};
-ghost use Rattle.tangle_session.specs.Headline.{roles_with};
-ghost use Rattle.ctangle_cli.specs.Conversation.{ListsFaults, SessionAndDraft, answers};
-ghost use Rattle.ctangle_cli.specs.Conversation.{calls_of, shown};
+ghost use Rattle.tangle_session.specs.Headline.{Call, History, accepted, faults_at, files_after};
+ghost use Rattle.tangle_session.specs.Headline.{output_at, roles_with};
+ghost use Rattle.ctangle_cli.specs.Conversation.{SessionAndDraft, answers, calls_of, listed_faults};
+ghost use Rattle.ctangle_cli.specs.Conversation.{shown};
 ghost use Rattle.ctangle_cli.specs.WhatTheCompilerReads.{OutputsStayReadAsWritten};
 ghost use Rattle.tangle_c_tokens.specs.LineFeeds.{FilesHaveNoLineFeed};
 
@@ -17,6 +17,7 @@ ghost use Rattle.tangle_c_tokens.specs.LineFeeds.{FilesHaveNoLineFeed};
 /// edit that is passed, and each list of edits, is one more call, with the answer that was written
 /// (`IsReply`). Held edits and questions change nothing, nor does an edit for which memory ran out.
 /// So the headline holds after each line of a script.
+#[tactic(auto, using(crate::proofs::HistoryLemmas::goes_on))]
 pub fn the_answers_of_a_script_are_a_history()
     ensures { (files : FileTable) (roles : RolesRead) (calls : List Call)
         (old new : SessionAndDraft) (commands : List Command) (output : List ℕ)
@@ -37,8 +38,8 @@ pub fn scripts_show_plain_tangling()
     ensures faults { (files : FileTable) (roles : RolesRead) (calls : List Call)
         (s t : SessionAndDraft) (output : List ℕ)
         → History files roles calls s.session → answers s Faults output t
-        → ListsFaults (files_after files (accepted calls)) (roles_with roles (accepted calls))
-        output }
+        → output ≡ listed_faults (faults_at (files_after files (accepted calls))
+        (roles_with roles (accepted calls))) }
 {}
 
 /// A C compiler reads each output file as the author wrote it

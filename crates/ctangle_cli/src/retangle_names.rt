@@ -152,6 +152,7 @@ fn value_bytes(value: Option<&str>) -> Option<&[u8]>
 ///
 /// `Parse` where `clap` refuses the arguments or they ask for help or the version; never where
 /// clap's definition of the command's matches accepts them. `NoMemory` where an allocation failed.
+#[tactic(auto, unfolding(crate::specs::RetangleArguments::retangle_names_of))]
 pub fn read_retangle<S: AsStr>(alloc: Global, arguments: &[S]) -> Result<Words, RetangleFault>
     ensures ok { IfOk result (λ w. retangle_names_of (map S.text arguments.now) ≡ Some w) }
     ensures usage { IfErr result

@@ -10,3 +10,4 @@ pub mod OrderSoFarLemmas
 pub mod OrderLemmas
 pub mod PathLemmas
 mod PassLemmas
+pub mod ComputedReach

@@ -37,12 +37,12 @@ left_out_deep graph order is range P start up (suc fuel) n h out =
     (left_out_deep graph order is range P start up fuel next.0 (use_in graph range n next.0 next.1) next.2)
 
 -- a node that reaches a cycle uses a node that reaches it
-cycle_used : (graph : Graph) (n k : ℕ) → Reaches (HasUse graph) n k → ContainsItself (HasUse graph) k
-    → (m : ℕ) × HasUse graph n m × ReachesCycle (HasUse graph) m
-cycle_used graph n k here c = (c.0, c.1, (n, c.2, c))
-cycle_used graph n k (on {b = m} u r) c = (m, u, (k, r, c))
+pub cycle_used : {X : Type 0} (Uses : X → X → Type 0) (n k : X)
+    → Reaches Uses n k → ContainsItself Uses k → (m : X) × Uses n m × ReachesCycle Uses m
+cycle_used Uses n k here c = (c.0, c.1, (n, c.2, c))
+cycle_used Uses n k (on {b = m} u r) c = (m, u, (k, r, c))
 
 pub ordered_acyclic : (graph : Graph) (order : List ℕ) (n : ℕ)
     → IsOrder graph order → Contains order n → ReachesCycle (HasUse graph) n → ⊥
 ordered_acyclic graph order n is = along graph order is.after_uses (λ k. ReachesCycle (HasUse graph) k → ⊥)
-    (λ k below c. let next = cycle_used graph k c.0 c.1 c.2 in below next.0 next.1 next.2) n
+    (λ k below c. let next = cycle_used (HasUse graph) k c.0 c.1 c.2 in below next.0 next.1 next.2) n

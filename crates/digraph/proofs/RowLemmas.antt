@@ -39,8 +39,7 @@ ends_push size start (first ∷ ends) end is h = (is.0, ends_push size first end
 pub rows_push : {X : Type 0} (entries row : List X) (start : ℕ) (ends : List ℕ) (end : ℕ)
     → AreEnds (length entries) start ends → end ≡ length entries + length row
     → rows_between (entries ++ row) start (ends ++ end ∷ []) ≡ rows_between entries start ends ++ row ∷ []
-rows_push entries row start [] end is e =
-    search (rules, drop_at, take_all)
+rows_push entries row start [] end is e = search (rules, drop_at, take_all)
 rows_push entries row start (first ∷ ends) end is e =
     let low : first ≤ length entries = start_in (length entries) first ends is.1 in
     let begins : start ≤ length entries = omega arith in

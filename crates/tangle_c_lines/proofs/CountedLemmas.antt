@@ -1,5 +1,5 @@
 -- The tokens of a file are counted as they are written.
-use Rattle.std.proofs.Common.{◌≡◌, ℕ, Bool, true, false, List, [], ◌∷◌, ◌++◌}
+use Rattle.std.proofs.Common.{rules, ◌≡◌, ℕ, Bool, true, false, List, [], ◌∷◌, ◌++◌}
 use Rattle.std.proofs.Common.{None, refl, sym, subst, append-nil}
 use Rattle.std.specs.Prelude.{if◌then◌else◌}
 use Rattle.c_tokens.specs.Bytes.{line_feed}
@@ -21,10 +21,9 @@ use Rattle.tangle_expansion.proofs.LineTruth.{node_is_located}
 use Rattle.tangle_c_tokens.specs.Files.{SourceHasNoLineFeed, numbers_in, shapes_in, ReachesWholePieces}
 use Rattle.tangle_c_lines.specs.CountedLines.{no_class, classes_of_bytes, classes_of_file, bytes_of_file}
 use Rattle.tangle_c_lines.specs.CountedLines.{FilesAreCountedAsWritten, SourceLinesAreLow, IsSeen}
-use Rattle.tangle_c_tokens.proofs.FeedLemmas.{KeepsFeed}
 use Rattle.tangle_c_tokens.proofs.AllMacroLemmas.{macros-keep}
-use Rattle.tangle_c_tokens.proofs.FileLemmas.{AreWrittenByPieces, file-is_read}
-use Rattle.c_lines.proofs.LineLemmas.{each-line}
+use Rattle.tangle_c_tokens.proofs.FileLemmas.{file_is_read}
+use Rattle.c_lines.proofs.LineLemmas.{each_line}
 use Rattle.tangle_c_lines.proofs.ByteLemmas.{FileOfBytes, IsOwn}
 use Rattle.tangle_c_lines.proofs.LineEndLemmas.{at_front, last-read}
 use Rattle.tangle_c_lines.proofs.RunLemmas.{IsReadOn, loose-read}
@@ -33,7 +32,7 @@ use Rattle.tangle_c_lines.proofs.FitLemmas.{node-fits}
 use Rattle.tangle_c_lines.proofs.LowLemmas.{mark-low}
 use Rattle.tangle_c_lines.proofs.KeptLemmas.{node-kept}
 
-module _ (pieces : AreWrittenByPieces) (source : SourceRead) (clear : SourceHasNoLineFeed source) (low : SourceLinesAreLow source.lines) where
+module _ (source : SourceRead) (clear : SourceHasNoLineFeed source) (low : SourceLinesAreLow source.lines) where
   abbrev web : WebRead
   web = web_of source
 
@@ -71,20 +70,16 @@ module _ (pieces : AreWrittenByPieces) (source : SourceRead) (clear : SourceHasN
     property false node = tt
     property true node = node_is_located source web levels node true None (web-line-truth source)
 
-    front-keeps : (has_macros : Bool) → KeepsFeed (front_bytes numbers has_macros)
-    front-keeps false = refl
-    front-keeps true = macros-keep (texts_of source.lines) web.macros
-
-  pub file-counted : FilesAreCountedAsWritten source
-  file-counted name has_macros has_piece node whole ready seen choices =
+  pub file_counted : FilesAreCountedAsWritten source
+  file_counted name has_macros has_piece node whole ready seen choices =
       let all : List ByteClass = classes_of_file source has_macros has_piece node in
       let text : List ℕ = bytes_of_file source has_macros has_piece node in
-      let each = each-line start_of_text text
-      (file-is_read pieces source Full clear has_macros has_piece node whole ready).lines in
+      let each = each_line start_of_text text
+      (file_is_read source Full clear has_macros has_piece node whole ready).lines in
       let start : LineCount = record { row = 0; origin = record { file = name; line = 1 } } in
       subst (λ (ls : List LineOfTokens). AllByRecursion (IsOwn (file all)) (reads choices true start ls)) (sym each)
       (loose-read (file all) (front_bytes numbers has_macros) _ _ (Property all has_piece node)
-      (front-keeps all has_macros) (after-macros all has_piece node ready)
+      (search (rules, macros-keep)) (after-macros all has_piece node ready)
       (at_front start_of_text true start) choices refl (record {
         at = refl;
         fits = tt;

@@ -25,15 +25,12 @@ use Rattle.tangle_c_tokens.proofs.ListLemmas.{all-get}
 use Rattle.tangle_c_lines.specs.CountedLines.{SourceLinesAreLow}
 
 module _ (lines : List SourceLine) (low : SourceLinesAreLow lines) where
-  origin-low : (n : ℕ) → IsLow (origin_at lines n)
-  origin-low n = all-get (λ (l : SourceLine). IsLow l.origin) lines n _ (omega arith) low
-
   abbrev AreLow : List Item → Type 0
   AreLow items = AllByRecursion IsLow (flat_map item_origins items)
 
   all-marks-low : (before : Option Token) (es : List Token) → AreLow (with_all_marks lines before es)
   all-marks-low before [] = tt
-  all-marks-low before (e ∷ es) = search (rules, origin-low, all-marks-low (Some e) es)
+  all-marks-low before (e ∷ es) = search (rules, all-get, all-marks-low (Some e) es)
 
   needed-low : (line : List Item) (counted : Origin) (items : List Item) → AreLow items → AreLow (with_needed_marks (texts_of lines) line counted items)
   needed-low line counted [] h = tt
@@ -55,7 +52,7 @@ IsLowPiece p = IsLow p.origin × AllByRecursion IsLow (flat_map item_origins p.i
 
 pieces-low : (lines : List SourceLine) → SourceLinesAreLow lines → (bs : List Block) → AllByRecursion IsLowPiece (flat_map (piece_of lines) bs)
 pieces-low lines low [] = tt
-pieces-low lines low (b ∷ bs) = search (rules, pieces-low lines low bs, origin-low, part-low)
+pieces-low lines low (b ∷ bs) = search (rules, pieces-low lines low bs, all-get, part-low)
 
 abbrev AreLowNumbers : List PieceNumbersRead → Type 0
 AreLowNumbers ns = AllByRecursion (λ n. AllByRecursion IsLow n.origins) ns

@@ -22,6 +22,6 @@ files-low [] h n = tt
 files-low (f ∷ files) h zero = lines-low 1 f.1 (omega (arith, h.0))
 files-low (f ∷ files) h (suc n) = files-low files h.1 n
 
-pub source-low : (files : FileTable) (roles : RolesRead) → IsWithinLimits files → SourceLinesAreLow (source_of files roles).lines
-source-low files roles within =
+pub source_low : (files : FileTable) (roles : RolesRead) → IsWithinLimits files → SourceLinesAreLow (source_of files roles).lines
+source_low files roles within =
     source-lines (λ n l. n < 2 ^ 32) files roles (files-low files (recursion_from_All _ files within.lines))

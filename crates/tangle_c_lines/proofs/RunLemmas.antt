@@ -7,7 +7,7 @@ use Rattle.std.specs.Prelude.{◌==◌, ◌&&◌, ◌||◌, not, if◌then◌els
 use Rattle.std.specs.List.{AllByRecursion, AllZip, list_all, list_any}
 use Rattle.std.proofs.lemmas.Bool.{and_parts, or_parts, not-true}
 use Rattle.c_tokens.specs.Bytes.{line_feed, space}
-use Rattle.c_tokens.specs.Borders.{keep_lines, has_bytes}
+use Rattle.c_tokens.specs.Borders.{keep_lines}
 use Rattle.c_lines.specs.Counting.{Place, LineCount}
 use Rattle.c_lines.specs.Counting.{next_place, place_after, tokens_at, directive}
 use Rattle.c_lines.specs.Counting.{count_after, unescaped, reads}
@@ -24,7 +24,7 @@ use Rattle.std.proofs.lemmas.Bool.{or_from}
 use Rattle.std.proofs.lemmas.List.Folds.{list_any-append}
 use Rattle.c_lines.proofs.LineDirectiveLemmas.{digits-line}
 use Rattle.std.proofs.lemmas.Fmt.{decimal_is_IsNumeral}
-use Rattle.c_tokens.specs.Bytes.{backslash, double_quote}
+use Rattle.c_tokens.specs.Bytes.{double_quote}
 use Rattle.tangle_lines.specs.declared.origin.Origin.{Origin}
 use Rattle.tangle_scan.specs.LineTruth.{with_line_end}
 use Rattle.tangle_scan.specs.Directives.{ForEachChoice}
@@ -75,19 +75,11 @@ stays-first origin b bs k stays = search (rules, and_parts, not-true, or_parts)
 
 -- names in quotes
 
-unescaped-other : (b : ℕ) (t : List ℕ) → has_bytes t ≡ true → (b == backslash) ≡ false → unescaped
-    (b ∷ t) ≡ b ∷ unescaped t
-unescaped-other b t some other = grind (arith, nat_tests)
-
-quoted-some : (name : List ℕ) → has_bytes (quoted name) ≡ true
-quoted-some [] = refl
-quoted-some (b ∷ name) = search rules
-
 -- the name is what is read of it
 unescaped-quoted : (name : List ℕ) → unescaped (quoted name) ≡ name
 unescaped-quoted [] = refl
 unescaped-quoted (b ∷ name) =
-    grind (arith, nat_tests, unescaped-quoted name, unescaped-other b (quoted name) (quoted-some name))
+    grind (arith, nat_tests, unescaped-quoted name)
 
 module _ (f : FileOfBytes) where
   -- What is after any line so far, of which each region that the border permits has this property,

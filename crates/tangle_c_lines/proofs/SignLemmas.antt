@@ -8,7 +8,7 @@ use Rattle.c_tokens.specs.Grammar.{is_token}
 use Rattle.c_tokens.specs.Reading.{spliced, elements}
 use Rattle.c_tokens.specs.Borders.{has_bytes}
 use Rattle.c_lines.specs.Counting.{Place, PlacedElement, next_place, place_after, places, with_places, tokens_at}
-use Rattle.c_tokens.proofs.LongestLemmas.{elements-all}
+use Rattle.c_tokens.proofs.LongestLemmas.{elements_all}
 use Rattle.c_lines.proofs.LineLemmas.{elements-some}
 
 -- the first byte of an element
@@ -39,7 +39,7 @@ module _ (Q : Place → ℕ → Type 0) where
   tokens-first p l h =
       recursion_from_All IsFirst _ (All-filter (λ e. is_token e.text) IsFirst _ (All-from_recursion IsFirst _
       (firsts (places p l) (elements l) (elements-some 0 (spliced l))
-      (subst (AllZip Q (places p l)) (sym (elements-all 0 (spliced l))) h))))
+      (subst (AllZip Q (places p l)) (sym (elements_all 0 (spliced l))) h))))
 
   -- a line and one byte more
   pub line-more : (p : Place) (l : List ℕ) (b : ℕ) → AllZip Q (places p l) (spliced l) → Q (place_after p l) b

@@ -95,10 +95,7 @@ module _ (web : WebRead) (table : TableRead) (named : AllByRecursion TextHasNoLi
       (origin : Option Origin) (T : Bool → Type 0) → let bytes = symbol_bytes numbers symbol in
       ReadOn kept origin (bytes ++ later symbols) (k ∷ no_classes (drop 1 bytes) ++ more symbols classes) T
       → ReadOn kept origin (later (symbol ∷ symbols)) (more (symbol ∷ symbols) (k ∷ classes)) T
-  one-symbol symbol symbols k classes kept origin T h =
-      grouped kept origin (symbol_bytes numbers symbol) (expansion_bytes numbers symbols) (line_feed ∷ [])
-      (k ∷ no_classes (drop 1 (symbol_bytes numbers symbol))) (classes_of_bytes numbers symbols classes)
-      (no_class ∷ []) T h
+  one-symbol symbol symbols k classes kept origin T h = simp append_assoc h
 
   -- a line mark
 

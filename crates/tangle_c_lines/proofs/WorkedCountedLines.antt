@@ -9,7 +9,7 @@ use Rattle.std.proofs.lemmas.Bool.Decides.{nat_tests}
 use Rattle.c_lines.specs.Counting.{LineOfTokens, start_of_text, begins_group, directive, turns_group}
 use Rattle.c_tokens.specs.Grammar.{is_element, is_token, is_punctuator}
 use Rattle.c_lines.specs.JoinedLines.{LinesAreWhole, joined_lines, lines_of_each}
-use Rattle.c_lines.proofs.LineLemmas.{each-line}
+use Rattle.c_lines.proofs.LineLemmas.{each_line}
 use Rattle.tangle_lines.specs.Reading.{SourceRead}
 use Rattle.tangle_lexer.specs.Steps.{lexeme, occurrences_from, tokens_from}
 use Rattle.tangle_scan.specs.Directives.{Border, SameRegion, GroupBegins, GroupTurns}
@@ -67,16 +67,13 @@ is_seen classes line =
     (not (begins_group words) || is_between_regions border) && (not (turns_group words) || is_turn border)
     && (not (sets_line words) || not (is_of_item (class_of_byte classes (place_of_first line.tokens).at)))
 
-turn-is : (border : Border) → is_turn border ≡ true → border ≡ GroupTurns
-turn-is border is = search (rules, false≢true)
-
 implied : (b c : Bool) → (not b || c) ≡ true → b ≡ true → c ≡ true
 implied b c h is = grind (arith, nat_tests)
 
 all-seen : (classes : List ByteClass) (ls : List LineOfTokens) → list_all (is_seen classes) ls ≡ true
     → AllByRecursion (IsSeen classes) ls
 all-seen classes [] h = tt
-all-seen classes (line ∷ ls) h = search (rules, and_parts, implied, turn-is, not-true, all-seen classes ls)
+all-seen classes (line ∷ ls) h = search (rules, and_parts, implied, false≢true, not-true, all-seen classes ls)
 
 each-seen : AllByRecursion (IsSeen of_bytes) (lines_of_each start_of_text (joined_lines [] written))
 unfolding is_element is_token is_punctuator
@@ -85,7 +82,7 @@ each-seen = all-seen of_bytes (lines_of_each start_of_text (joined_lines [] writ
 -- the directives of the file are seen
 seen : DirectivesAreSeen (classes_of_file source false true Program) (bytes_of_file source false true Program)
 seen =
-    rw classes (rw bytes (subst (AllByRecursion (IsSeen of_bytes)) (sym (each-line start_of_text written whole)) each-seen))
+    rw classes (rw bytes (subst (AllByRecursion (IsSeen of_bytes)) (sym (each_line start_of_text written whole)) each-seen))
 
 -- a directive that C sees alone
 
@@ -119,5 +116,5 @@ each-hidden h = false≢true (ap is_between_regions (h.1.1.1.1.1.0.turns refl))
 -- the directives of the file are not all seen
 hidden : DirectivesAreSeen (classes_of_file other_source false true Program) (bytes_of_file other_source false true Program) → ⊥
 hidden h =
-    each-hidden (subst (AllByRecursion (IsSeen of_other_bytes)) (each-line start_of_text other_written other_whole)
+    each-hidden (subst (AllByRecursion (IsSeen of_other_bytes)) (each_line start_of_text other_written other_whole)
     (rw other_bytes at (rw other_classes at h)))

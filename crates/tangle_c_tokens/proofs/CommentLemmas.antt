@@ -44,9 +44,6 @@ inside-ends (b ∷ []) more all = grind (arith, nat_tests)
 inside-ends (b ∷ c ∷ []) more all = grind (arith, nat_tests, inside-ends (c ∷ []) more)
 inside-ends (b ∷ c ∷ d ∷ inside) more all = grind (arith, nat_tests, inside-ends (c ∷ d ∷ inside) more)
 
-comment-is : (inside : List ℕ) → list_all is_inside inside ≡ true → is_comment (comment inside) ≡ true
-comment-is inside all = rw (inside-ends inside [] all) refl
-
 comment-ended : (inside : List ℕ) → list_all is_inside inside ≡ true
     → is_comment (comment inside ++ space ∷ []) ≡ false
 comment-ended inside all = search (rules, append_assoc, inside-ends)
@@ -60,7 +57,7 @@ spliced-comment : (inside : List ℕ) → list_all is_inside inside ≡ true →
 spliced-comment inside all = search (rules, spliced-inside)
 
 one-comment : (inside : List ℕ) → list_all is_inside inside ≡ true → elements (comment inside) ≡ comment inside ∷ []
-one-comment inside all = search (rules, spliced-comment, one-element, comment-element, comment-is)
+one-comment inside all = search (rules, spliced-comment, one-element, comment-element, inside-ends)
 
 no-token : (inside : List ℕ) → filter is_token (comment inside ∷ []) ≡ []
 unfolding is_token is_punctuator
@@ -71,7 +68,7 @@ comment-border inside [] all = refl
 comment-border inside (c ∷ b) all =
     let t = comment inside in
     let is : is_comment (last_element [] (elements_from 0 t)) ≡ true =
-    grind (arith, nat_tests, one-element slash, comment-element t, comment-is inside all) in
+    grind (arith, nat_tests, one-element slash, comment-element t, inside-ends) in
     search (rules, or_right, last-append)
 
 -- bytes after a comment, and before one

@@ -8,15 +8,17 @@ use Rattle.tangle_files.specs.declared.marks.MarkMode.{MarkMode}
 use Rattle.tangle_lines.specs.declared.origin.Origin.{Origin}
 use Rattle.tangle_lines.specs.Reading.{SourceRead, SourceLine, origin_at}
 use Rattle.tangle_scan.specs.Rules.{texts_of, part_tokens, part_items}
-use Rattle.tangle_scan.specs.Web.{WebRead, web_of, PieceRead, Block}
+use Rattle.tangle_scan.specs.Web.{web_of, PieceRead, Block}
 use Rattle.tangle_names.specs.NameTable.{TableRead, table_of}
 use Rattle.tangle_bodies.specs.Shapes.{Title, Named, Shapes, shape_names, item_names}
 use Rattle.tangle_bodies.specs.Flat.{Symbol, flat, pieces_flat}
-use Rattle.tangle_bodies.specs.WebShapes.{ResolvesInside, pieces_of, shapes, shape_item, shape_of}
+use Rattle.tangle_bodies.specs.WebShapes.{pieces_of, shape_item, shape_of}
 use Rattle.tangle_bodies.proofs.InsideLemmas.{table_inside}
 use Rattle.tangle_expansion.specs.Limits.{flat_of, levels, IsExpandableNode}
-use Rattle.tangle_expansion.specs.Numbers.{NumbersRead, numbers_of, expansion_bytes, mark_bytes, mark_bytes_at, opening_bytes, closing_bytes}
+use Rattle.tangle_expansion.specs.Numbers.{NumbersRead, expansion_bytes, mark_bytes, opening_bytes, closing_bytes}
 use Rattle.tangle_expansion.specs.PieceBytes.{bytes_after_mark, piece_bytes, used_bytes, items_bytes}
+use Rattle.tangle_expansion.proofs.NumberLemmas.{node_numbers_of}
+use Rattle.tangle_expansion.proofs.PieceLemmas.{pieces_written}
 use Rattle.tangle_expansion.proofs.SameShapes.{flat_by_uses}
 use Rattle.tangle_c_tokens.specs.Reading.{IsReadAsTexts}
 use Rattle.tangle_c_tokens.specs.Pieces.{passage_text, Passage, mark_place, row_after, row_of_piece}
@@ -39,19 +41,7 @@ line_feed_first : (marks : MarkMode) (ending : List ℕ) (line : ℕ)
     → mark_bytes marks ending line ≡ line_feed ∷ drop 1 (mark_bytes marks ending line)
 line_feed_first marks ending line = search rules
 
-grouped : (o m i c rest : List ℕ) → (o ++ m ++ i ++ c) ++ rest ≡ o ++ (m ++ (i ++ (c ++ rest)))
-grouped o m i c rest = simp append_assoc
-
--- the bytes of a node are those of its pieces, as `nodes_are_written_by_pieces` of tangle_expansion
--- has it
-abbrev pub AreWrittenByPieces : Type 0
-AreWrittenByPieces =
-    (web : WebRead) (table : TableRead) (marks : MarkMode) (used : List ℕ → List Symbol) (node : Title)
-    → ResolvesInside table
-    → expansion_bytes (numbers_of web table marks) (pieces_flat used node 0 (shapes web table node))
-    ≡ flat_map (piece_bytes (numbers_of web table marks) table used web.texts) (pieces_of web table node)
-
-module _ (pieces : AreWrittenByPieces) (source : SourceRead) (modes : MarkMode)
+module _ (source : SourceRead) (modes : MarkMode)
     (feeds : SourceHasNoLineFeed source) where
   abbrev lines : List SourceLine
   lines = source.lines
@@ -113,8 +103,7 @@ module _ (pieces : AreWrittenByPieces) (source : SourceRead) (modes : MarkMode)
         let places = flat_map mark_place (part_items lines line b.tokens) in
         let us = texts_in (row_after (texts_of lines) [] places tokens) ++ ts in
         subst (IsReadAsTexts (mark ∷ us))
-        (sym (grouped opening (mark_bytes_at numbers origin) items (closing_bytes b.section) rest
-        ∙ ap (λ m. opening ++ (m ++ (items ++ tail))) (line_feed_first numbers.marks _ origin.line)))
+        (search (rules, append_assoc, line_feed_first))
         (after-opening b.section (line_feed ∷ (mark ++ (items ++ tail))) _
         (feed-front (mark ++ (items ++ tail)) _ (mark-between mark (items ++ tail) (mark-lines origin) us
         (piece-by-parts source used_text (bytes_after_mark numbers) numbers.macros mark-lines macros-line tail ts
@@ -132,7 +121,7 @@ module _ (pieces : AreWrittenByPieces) (source : SourceRead) (modes : MarkMode)
     -- the bytes of a node are those of its pieces
     written : (node : Title) → expansion_bytes numbers (pieces_flat used node 0 (all_shapes node))
         ≡ flat_map bytes_of (pieces_of (web_of source) table node)
-    written node = pieces (web_of source) table modes used node (table_inside (web_of source))
+    written node = search (rules, pieces_written, node_numbers_of, table_inside)
 
     -- `tail` is written after the node, and read as the texts `us`.
     module _ (node : Title) (tail : List ℕ) (us : List (List ℕ)) (tail_read : IsReadAsTexts us tail) where
@@ -202,8 +191,8 @@ module _ (pieces : AreWrittenByPieces) (source : SourceRead) (modes : MarkMode)
       (expansion_bytes numbers symbols ++ tail)) (sym (flat_by_uses levels all_shapes node expandable.shallow))
       (node-by-parts used node tail us read reaches (name-line levels))
 
-  pub node-is_read : NodesAreReadByParts source modes
-  node-is_read node expandable reaches = simp append-nil at (node-then node expandable reaches [] [] no-text)
+  pub node_is_read : NodesAreReadByParts source modes
+  node_is_read node expandable reaches = simp append-nil at (node-then node expandable reaches [] [] no-text)
 
   abbrev bytes_in_file : Bool → Title → List ℕ
   bytes_in_file has_piece node =
@@ -215,8 +204,8 @@ module _ (pieces : AreWrittenByPieces) (source : SourceRead) (modes : MarkMode)
   node-in-file true node ready =
       simp append-nil at (node-then node (ready refl).0 (ready refl).1 (line_feed ∷ []) [] (feed-front [] [] no-text))
 
-  pub file-is_read : FilesAreReadByParts source modes
-  file-is_read false has_piece node whole ready = node-in-file has_piece node ready
-  file-is_read true has_piece node whole ready =
+  pub file_is_read : FilesAreReadByParts source modes
+  file_is_read false has_piece node whole ready = node-in-file has_piece node ready
+  file_is_read true has_piece node whole ready =
       macros-whole lines (bytes_in_file has_piece node) (if has_piece then texts_of_node source modes node else [])
       (node-in-file has_piece node ready) feeds.lines (whole refl)

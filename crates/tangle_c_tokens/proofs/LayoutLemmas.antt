@@ -312,10 +312,7 @@ module _ (lines : List SourceLine) (used : ℕ → List ℕ) (mark : Origin → 
         goes-on items own at o on =
             let rest = items_from (after e at) es in
             let no_places : flat_map mark_place (items_at lines e) ≡ [] = search rules in
-            subst (λ row. P row (own ++ own_items e at es))
-            (sym (more items _ ∙ ap (λ places. row_after texts (items ++ e ∷ []) places es)
-            (flat_map-append mark_place (items_at lines e) rest
-            ∙ ap (λ places. places ++ flat_map mark_place rest) no_places)))
+            rw (more items _, flat_map-append mark_place (items_at lines e) rest, no_places)
             (subst (P _) (append_assoc own (items_at lines e) rest)
             (next.within (items ++ e ∷ []) (own ++ items_at lines e) (after e at)
             (more-open items own (items_at lines e) e _ es o (on_line items on) (search (rules, append-nil))

@@ -26,7 +26,7 @@ use Rattle.tangle_c_tokens.specs.Edges.{begins_as, ends_as, last_number_goes_on}
 use Rattle.tangle_c_tokens.specs.Kinds.{item_kind, is_range}
 use Rattle.tangle_c_tokens.specs.Groups.{Group, group_before, groups_after, group_text}
 use Rattle.tangle_c_tokens.specs.Macros.{text_of, stay_apart, IsReadAlone, GroupsAreReadAlone, macro_texts}
-use Rattle.tangle_c_tokens.proofs.kind_lemmas.TableKinds.{same-table}
+use Rattle.tangle_c_tokens.proofs.kind_lemmas.TableKinds.{same_table}
 use Rattle.tangle_c_tokens.proofs.OneLineLemmas.{HasItsEdges, AreOnLine, IsLast, one-more, next-edges, written-on_line}
 use Rattle.c_lines.proofs.JoinedLemmas.{ends_back, lines-one}
 use Rattle.tangle_c_tokens.proofs.GroupLemmas.{last-item, text-more, group-one}
@@ -89,7 +89,7 @@ module _ (texts : List (List ℕ)) (tail : List ℕ) (ts : List (List ℕ))
       let k = item_kind texts e in
       let g : TextKind = item_kind texts f in
       let inner = apart-edges (group_text texts (items ++ e ∷ [])) e f of_e of_f may apart in
-      grind (arith, nat_tests, kinds-border k g, same-table texts e f, text-more (text_of texts) items e, ends-as k)
+      grind (arith, nat_tests, kinds-border k g, same_table texts e f, text-more (text_of texts) items e, ends-as k)
 
   meets-if_no_blank : (in_name : Bool) (items : List Token) (e : Token) (next : Option Token) → HasItsEdges texts e
       → IfSome next (HasItsEdges texts) → has_blank_at_line_end texts in_name (Some e) next ≡ false

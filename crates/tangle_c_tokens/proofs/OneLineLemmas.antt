@@ -19,8 +19,7 @@ use Rattle.tangle_text.specs.Text.{texts_of, span_text}
 use Rattle.tangle_text.specs.declared.spans.Span.{Span}
 use Rattle.tangle_lexer.specs.declared.tokens.Token.{Token}
 use Rattle.tangle_lexer.specs.declared.tokens.Token.TheVariants as token
-use Rattle.tangle_lexer.specs.declared.tokens.SpanKind.TheVariants as span_kind
-use Rattle.tangle_lexer.specs.SpanBytes.{first_byte, last_byte}
+use Rattle.tangle_lexer.specs.SpanBytes.{last_byte}
 use Rattle.tangle_scan.specs.Rules.{is_continued, is_front_gap, next_item}
 use Rattle.tangle_scan.specs.ReadAsMeant.{written_tokens}
 use Rattle.c_tokens.specs.Bytes.{line_feed}
@@ -64,12 +63,6 @@ module _ (texts : List (List ℕ)) where
     pub begins : is_range e ≡ false → begins_as (item_kind texts e) (text_of texts e) ≡ true
     pub ends : is_range e ≡ false → ends_as (item_kind texts e) (text_of texts e) ≡ true
 
-  range-edges : (e : Token) → is_range e ≡ true → HasItsEdges e
-  range-edges e is = search rules
-
-  item-edges : (e : Token) → is_range e ≡ false → HasItsKind texts e → HasItsEdges e
-  item-edges e alone kind = search rules
-
   -- the line feeds of an item are directly after backslashes, and an item that continues its line
   -- ends in one; `after` says whether a backslash is directly before the item
   pub record IsOnLine (after : Bool) (e : Token) : Type 0 where
@@ -87,10 +80,6 @@ module _ (texts : List (List ℕ)) where
 
   -- a backslash before items changes nothing
 
-  item-more : (after : Bool) (e : Token) → IsOnLine false e → IsOnLine after e
-  item-more after e one =
-      record { taken = taken-more after (text_of texts e) one.taken; back = one.back; edges = one.edges }
-
   back-by : (t : List ℕ) (es : List Token) → ((after : Bool) → AreOnLine false es → AreOnLine after es)
       → (after : Bool) → AreOnLine (ends_back false t) es → AreOnLine (ends_back after t) es
   back-by [] es more after all = more after all
@@ -100,7 +89,7 @@ module _ (texts : List (List ℕ)) where
   more-on_line [] after all = tt
   more-on_line (token.White ∷ es) after all = all
   more-on_line (e ∷ es) after all =
-      search (rules, item-more, back-by (text_of texts e) es (more-on_line es))
+      search (rules, taken-more, back-by (text_of texts e) es (more-on_line es))
 
   -- the ranges and breaks of a quoted text
 
@@ -109,7 +98,7 @@ module _ (texts : List (List ℕ)) where
       → AreOnLine after (part ++ ts)
   part-on_line [] after ts ranges taken rest = rest
   part-on_line (e ∷ part) after ts ranges taken rest =
-      grind (arith, nat_tests, part-on_line part, taken-append, back-append, range-edges)
+      grind (arith, nat_tests, part-on_line part, taken-append, back-append)
 
   -- a group with one item more, and the tokens after it
 
@@ -156,27 +145,19 @@ module _ (lines : List SourceLine) (none : SourceLinesHaveNoLineFeed lines) wher
   span-taken : (after : Bool) (s : Span) → feeds_taken after (span_text texts s) ≡ true
   span-taken after s = in-line-taken after (span_text texts s) (span-clear lines none s)
 
-  -- a sign or a verbatim text that continues its line
-
-  sign-back : (s : Span) → HasItsKind texts (token.Span span_kind.Sign s) → (first_byte texts s == backslash) ≡ true
-      → ends_back false (span_text texts s) ≡ true
-  sign-back s kind back = search (rules, kind.1)
+  -- a verbatim text that continues its line
 
   verbatim-back : (s : Span) → (last_byte texts s == backslash) ≡ true → ends_back false (span_text texts s) ≡ true
   verbatim-back s back = grind (arith, nat_tests, range-back s.start (s.end - s.start - 1) (get_or texts s.line []))
 
-  item-on_line : (after : Bool) (e : Token) → is_range e ≡ false → HasItsKind texts e → IsOnLine texts after e
-  item-on_line after e alone kind =
-      search (rules, span-taken, sign-back, verbatim-back, in-line-taken, digits-line, decimal-digits, item-edges)
-
   first-on_line : (e : Token) (es : List Token) → is_range e ≡ false → HasItsKind texts e → AreOnLine texts false es
       → AreOnLine texts false (e ∷ es)
   first-on_line token.White es alone kind rest = rest
-  first-on_line e es alone kind rest = search (rules, item-on_line, more-on_line texts es)
+  first-on_line e es alone kind rest = search (rules, more-on_line texts es, span-taken, verbatim-back, in-line-taken, digits-line, decimal-digits)
 
   pub texts-on_line : (es : List Token) → AreTexts texts es → AreOnLine texts false es
   texts-on_line =
       texts-by texts (AreOnLine texts false) tt (λ e es alone kind all rest. first-on_line e es alone kind rest)
-      (λ part es quoted all rest.
-      part-on_line texts part false es quoted.ranges (spliced-taken (group_text texts part) quoted.one_line)
+      (λ t part es quoted all rest.
+      part-on_line texts (t ∷ part) false es quoted.ranges (spliced-taken (group_text texts (t ∷ part)) quoted.one_line)
       (more-on_line texts es _ rest))

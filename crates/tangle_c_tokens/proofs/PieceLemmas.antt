@@ -1,7 +1,7 @@
 -- The tokens of the bytes of a piece are those of its row.
 use Rattle.std.proofs.Common.{arith}
 use Rattle.std.proofs.Common.{◌≡◌, ℕ, true, false, ◌==◌, List, [], ◌∷◌, ◌++◌, map, flat_map}
-use Rattle.std.proofs.Common.{append-nil, append_assoc, refl, ap, sym, ◌∙◌, subst}
+use Rattle.std.proofs.Common.{append-nil, append_assoc, refl, sym, subst}
 use Rattle.std.specs.List.{AllByRecursion, list_all}
 use Rattle.std.proofs.lemmas.Bool.Decides.{nat_tests}
 use Rattle.std.proofs.lemmas.List.Concat.{flat_map-append}
@@ -100,9 +100,7 @@ module _ (source : SourceRead) (used : ℕ → List ℕ) (mark : Origin → List
       → IsReadAsTexts (texts_in row) (bytes_of xs)
       → IsReadAsTexts (texts_in (OfPart part ∷ row)) (bytes_of (own ++ xs))
   part-reads white part own row xs front same follow read =
-      subst (IsReadAsTexts (texts_in (OfPart part ∷ row)))
-      (sym (ap (λ t. t ++ tail) (flat_map-append item_bytes own xs ∙ ap (λ t. t ++ flat_map item_bytes xs) same)
-      ∙ append_assoc (white ++ text part.items) (flat_map item_bytes xs) tail ∙ append_assoc white (text part.items) (bytes_of xs)))
+      rw (flat_map-append item_bytes own xs, same, append_assoc (white ++ text part.items), append_assoc white (text part.items))
       (front (text part.items ++ bytes_of xs) _ (follow (texts_in row) read))
 
   use-reads : (e : Token) (x : Item) (es : List Token) (origin : Origin) (row : List Passage) (xs : List Item)

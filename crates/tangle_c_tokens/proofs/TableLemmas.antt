@@ -17,7 +17,7 @@ use Rattle.tangle_files.specs.declared.refusal.Refusal.{Refusal}
 use Rattle.tangle_lines.specs.Reading.{source_of}
 use Rattle.tangle_c_tokens.specs.Files.{SourceHasNoLineFeed}
 use Rattle.tangle_c_tokens.specs.LineFeeds.{TextHasNoLineFeed, FilesHaveNoLineFeed}
-use Rattle.tangle_c_tokens.proofs.kind_lemmas.LineFeeds.{cut-have, source-clear, trimmed-has}
+use Rattle.tangle_c_tokens.proofs.kind_lemmas.LineFeeds.{cut_have, source_clear, trimmed-has}
 use Rattle.tangle_c_tokens.proofs.ListLemmas.{all-append, all-drop, all-map, all-take}
 
 file-more : (files : FileTable) (name : List ℕ) (lines : List (List ℕ)) → TextHasNoLineFeed name
@@ -27,10 +27,10 @@ file-more files name lines of_name of_lines h = search (rules, all-append)
 new-name : (files : FileTable) (name : List ℕ) → name_refusal files name ≡ None → TextHasNoLineFeed name
 new-name files name none = grind (arith, nat_tests)
 
-pub added-have : (files : FileTable) (name bytes : List ℕ) → add_refusal files name bytes ≡ None
+pub added_have : (files : FileTable) (name bytes : List ℕ) → add_refusal files name bytes ≡ None
     → FilesHaveNoLineFeed files → FilesHaveNoLineFeed (with_file files name bytes)
-added-have files name bytes none h =
-    file-more files name (cut bytes) (new-name files name (grind (arith, nat_tests))) (cut-have bytes) h
+added_have files name bytes none h =
+    file-more files name (cut bytes) (new-name files name (grind (arith, nat_tests))) (cut_have bytes) h
 
 replaced-have : (lines : List (List ℕ)) (start end : ℕ) (new_lines : List (List ℕ))
     → AllByRecursion TextHasNoLineFeed new_lines → AllByRecursion TextHasNoLineFeed lines
@@ -64,20 +64,22 @@ entry-removed name (f ∷ files) h = let rest = entry-removed name files (record
 text-has : (text : List ℕ) → text_refusal text ≡ None → TextHasNoLineFeed text
 text-has text none = grind (arith, nat_tests)
 
-pub edited-have : (files : FileTable) (edit : Edit) → edit_refusal files edit ≡ None
+pub edited_have : (files : FileTable) (edit : Edit) → edit_refusal files edit ≡ None
     → FilesHaveNoLineFeed files → FilesHaveNoLineFeed (edited files edit)
-edited-have files (edits.Remove file at) none h = search (rules, lines-edited, replaced-have)
-edited-have files (edits.Insert file at text) none h =
+edited_have files (edits.Remove file at) none h = search (rules, lines-edited, replaced-have)
+edited_have files (edits.Insert file at text) none h =
     search (rules, lines-edited, replaced-have, trimmed-has, text-has, nat_tests)
-edited-have files (edits.Replace file at text) none h =
+edited_have files (edits.Replace file at text) none h =
     search (rules, lines-edited, replaced-have, trimmed-has, text-has, nat_tests)
-edited-have files (edits.Create file) none h = file-more files file.items [] (new-name files file.items none) tt h
-edited-have files (edits.Discard file) none h = entry-removed file.items files h
-edited-have files (edits.Marks mode) none h = h
+edited_have files (edits.Create file) none h = file-more files file.items [] (new-name files file.items none) tt h
+edited_have files (edits.Discard file) none h = entry-removed file.items files h
+edited_have files (edits.Marks mode) none h = h
 
 -- no source line and no name of a file has one either
 pub source-has : (files : FileTable) (roles : RolesRead) → FilesHaveNoLineFeed files → SourceHasNoLineFeed (source_of files roles)
 source-has files roles h = record {
-  lines = source-clear files roles h.lines;
+  lines = source_clear files roles h.lines;
   names = all-map TextHasNoLineFeed (λ f. f.0) files h.names;
 }
+
+pub ruleset have_no_feeds = (cut_have, source_clear, added_have, edited_have)

@@ -96,15 +96,9 @@ ends-as k a t ends = search (rules, ends-spliced, ends-append)
 pub kinds-border : (k g : TextKind) (a t more : List ℕ) → kinds_may_touch k g ≡ true
     → ends_as k a ≡ true → begins_as g t ≡ true → last_number_goes_on a t ≡ false
     → have_border a (spliced (t ++ more)) ≡ true
-kinds-border k g a t more may ends begins none = by k g may ends begins (search rules)
-  where
-    b : List ℕ
-    b = spliced (t ++ more)
-
-    by : (k g : TextKind) → kinds_may_touch k g ≡ true → ends_as k a ≡ true → begins_as g t ≡ true
-        → begins_as g b ≡ true → have_border a b ≡ true
-    by k g may ends begins next =
-        search (rules, false≢true, separator-before, separator-next, operator-before, operator-next, same-next)
+kinds-border k g a t more may ends begins none =
+    let next : begins_as g (spliced (t ++ more)) ≡ true = search rules in
+    search (rules, false≢true, separator-before, separator-next, operator-before, operator-next, same-next)
 
 -- white space, and texts before it
 

@@ -11,8 +11,8 @@ use Rattle.tangle_c_tokens.proofs.OneLineLemmas.{texts-on_line}
 use Rattle.tangle_c_tokens.proofs.kind_lemmas.WebTexts.{macro_tokens_of, macros-by, blocks-have}
 use Rattle.tangle_c_tokens.proofs.MacroLemmas.{one-macro}
 
-pub macros-by-groups : (source : SourceRead) → MacrosAreReadByGroups source (web_of source)
-macros-by-groups source none =
+pub macros_by_groups : (source : SourceRead) → MacrosAreReadByGroups source (web_of source)
+macros_by_groups source none =
     let texts = texts_of source.lines in
     macros-by source.lines (AllZip (λ items es. GroupsAreReadAlone texts es → IsReadAsTexts (macro_texts texts es) (macro_bytes texts items))) tt
     (λ b macros tokens are all.

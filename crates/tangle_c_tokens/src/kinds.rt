@@ -24,6 +24,7 @@ ghost use Rattle.tangle_c_tokens.specs.LineFeeds.{FileLinesHaveNoLineFeed, Files
 /// one byte, and the line feeds of a quoted text are directly after backslashes. This is true of the
 /// tokens of the source, and so of the tokens of each piece and of each macro. The premise is that
 /// no line has a line feed in it (`lines_have_no_line_feeds`).
+#[tactic(auto, using(crate::proofs::kind_lemmas::WebTexts::are_of_kinds))]
 pub fn items_are_of_their_kinds()
     ensures table { (texts : List (List ℕ)) (e f : Token)
         → may_touch texts e f ≡ kinds_may_touch (item_kind texts e) (item_kind texts f) }
@@ -38,6 +39,7 @@ pub fn items_are_of_their_kinds()
 /// No line that bytes are cut into has a line feed in it. If no line of the files has one, then
 /// none of the source has. A file that is added, and an edit that is not refused, bring no line
 /// feed into a name or a line.
+#[tactic(auto, using(crate::proofs::TableLemmas::have_no_feeds))]
 pub fn lines_have_no_line_feeds()
     ensures cut { (bytes : List ℕ) → AllByRecursion TextHasNoLineFeed (cut bytes) }
     ensures source { (files : FileTable) (roles : RolesRead) → FileLinesHaveNoLineFeed files

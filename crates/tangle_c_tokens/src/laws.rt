@@ -6,10 +6,9 @@ ghost use Rattle.tangle_c_tokens.specs.Macros.{MacrosAreReadByGroups};
 ghost use Rattle.tangle_c_tokens.specs.Files.{SourceHasNoLineFeed, NodesAreReadByParts};
 ghost use Rattle.tangle_c_tokens.specs.Files.{FilesAreReadByParts};
 
-use tangle_expansion::nodes_are_written_by_pieces;
-
 /// Of each macro a C compiler reads `#define`, and then the tokens of its groups of items, one group
 /// after another. No comment and no quoted text of it goes over the end of a line of C.
+#[tactic(auto, using(crate::proofs::WebLemmas::macros_by_groups))]
 pub fn macros_are_read_by_groups()
     ensures { (source : SourceRead) → MacrosAreReadByGroups source (web_of source) }
 {}
@@ -24,6 +23,4 @@ pub fn files_are_read_by_parts()
         → NodesAreReadByParts source marks }
     ensures files { (source : SourceRead) (marks : MarkMode) → SourceHasNoLineFeed source
         → FilesAreReadByParts source marks }
-{
-    nodes_are_written_by_pieces();
-}
+{}

@@ -37,9 +37,6 @@ between_more bytes start end size next fits low is =
     = omega (arith, length-drop start bytes) in
     search (rules, drop-drop, take-add, take_min)
 
-bytes_fit : (body : NodeBody) → length body.bytes.items < 2 ^ 64
-bytes_fit body = omega arith
-
 -- the bytes from a use on
 use_bytes : (numbers : NumbersRead) (rest : List (List Symbol) → List Symbol) (used : List (List Symbol))
     → expansion_bytes numbers (with_used tag.Use (Byte space ∷ []) used rest)
@@ -68,7 +65,7 @@ module _ (numbers : NumbersRead) (body : NodeBody) (at next : Cursor) (t : ItemT
   passes used =
       let bytes = take t.size (drop at.start body.bytes.items) in
       let passed = bytes_between body.bytes.items start at.start in
-      let more = between_more body.bytes.items start at.start t.size next.start (bytes_fit body) low after.start in
+      let more = between_more body.bytes.items start at.start t.size next.start (omega arith) low after.start in
       rw (symbols_next used, bytes_then numbers bytes, ← append_assoc passed bytes, more) refl
 
   -- bytes alone

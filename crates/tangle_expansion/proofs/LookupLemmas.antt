@@ -1,10 +1,12 @@
 -- The numbers that are stored of pieces are those of the pieces.
 use Rattle.std.proofs.Common.{rules}
-use Rattle.std.proofs.Common.{◌≡◌, ◌∙◌, ◌<◌, ℕ, List, [], ◌∷◌, ap, get_or, map}
-use Rattle.std.proofs.Common.{length, refl, All}
+use Rattle.std.proofs.Common.{◌≡◌, ◌∙◌, ◌<◌, ℕ, List, ◌∷◌, ap, get_or, map}
+use Rattle.std.proofs.Common.{length, sym, All}
 use Rattle.std.specs.Prelude.{slice_index_or}
 use Rattle.std.proofs.lemmas.List.{get_or-map}
-use Rattle.std.proofs.lemmas.List.Elements.{All-head, All-tail}
+use Rattle.std.proofs.lemmas.List.Elements.{All-contains}
+use Rattle.std.proofs.lemmas.Simd.{map-map}
+use Rattle.tangle_expansion.proofs.SameShapes.{map_same}
 use Rattle.tangle_scan.specs.Texts.{TextRead, IsTextOf}
 use Rattle.tangle_scan.specs.Web.{PieceRead, WebRead, no_piece, stored_piece}
 use Rattle.tangle_scan.specs.declared.pieces.Piece.{Piece}
@@ -31,14 +33,12 @@ module _ (numbers : PieceNumbers) (pieces : List PieceRead)
 
   row_numbers : (row : List ℕ) → All (λ n. n < length pieces) row
       → map (numbers_of_position numbers) row ≡ map numbers_of_piece (pieces_at pieces row)
-  row_numbers [] inside = refl
-  row_numbers (n ∷ row) inside =
-      λ i. position_numbers n (All-head (λ n. n < length pieces) n row inside) i
-      ∷ row_numbers row (All-tail (λ n. n < length pieces) n row inside) i
+  row_numbers row inside =
+      map_same (numbers_of_position numbers) (λ n. numbers_of_piece (slice_index_or pieces n no_piece)) row
+      (λ n c. position_numbers n (All-contains (λ n. n < length pieces) row n inside c))
+      ∙ sym (map-map _ _ row)
 
   pub rows_numbers : (rows : List (List ℕ)) → All (All (λ n. n < length pieces)) rows
       → numbers_of_rows numbers rows ≡ map (map numbers_of_piece) (map (pieces_at pieces) rows)
-  rows_numbers [] inside = refl
-  rows_numbers (row ∷ rows) inside =
-      λ i. row_numbers row (All-head (All (λ n. n < length pieces)) row rows inside) i
-      ∷ rows_numbers rows (All-tail (All (λ n. n < length pieces)) row rows inside) i
+  rows_numbers rows inside =
+      search (rules, map_same, map-map, row_numbers, All-contains)

@@ -1,10 +1,11 @@
 -- The expansion of a node follows from the shapes that the node reaches.
 use Rattle.std.proofs.Common.{rules}
 use Rattle.std.proofs.lemmas.Bool.Decides.{nat_tests}
-use Rattle.std.proofs.Common.{◌≡◌, ◌≢◌, ◌∙◌, ℕ, ◌<◌, ◌≤◌, zero, suc, min, List, [], ◌∷◌, map, refl, ap, arith}
+use Rattle.std.proofs.Common.{◌≡◌, ◌≢◌, ◌∙◌, ℕ, ◌<◌, ◌≤◌, zero, suc, min, max, List, [], ◌∷◌, map, refl, ap, sym, arith}
 use Rattle.std.specs.Prelude.{Contains, sum_by}
 use Rattle.std.proofs.lemmas.List.Sums.{sum_by-cons}
-use Rattle.digraph.specs.Reach.{Reaches, here, on, ContainsItself, ReachesCycle}
+use Rattle.digraph.specs.Reach.{Reaches, here, on, ReachesCycle}
+use Rattle.digraph.proofs.OrderLemmas.{cycle_used}
 use Rattle.tangle_names.proofs.ContainsLemmas.{here as here_in, there}
 use Rattle.tangle_bodies.specs.Shapes.{Title, Named, Shape, Shapes, Uses, shape_names}
 use Rattle.tangle_bodies.specs.Flat.{Symbol, pieces_flat, flat, pieces_weight, weight, greatest_by, pieces_depth, depth}
@@ -25,59 +26,50 @@ pub pieces_flat-same : (f g : List ℕ → List Symbol) (node : Title) (shape : 
 pieces_flat-same f g node shape same =
     rw (← shape_flat node f 0 0 shape, ← shape_flat node g 0 0 shape, map_same f g (shape_names shape) same) refl
 
--- weights and depths are equal up to a cap if those of the used names are
-module _ (cap : ℕ) (f g : List ℕ → ℕ) where
-  names_alike : (names : List (List ℕ)) → ((name : List ℕ) → Contains names name → min cap (f name) ≡ min cap (g name))
-      → (min cap (sum_by f names) ≡ min cap (sum_by g names))
-      × (min cap (greatest_by f names) ≡ min cap (greatest_by g names))
-  names_alike [] same = (refl, refl)
-  names_alike (name ∷ names) same =
-      let first = same name (here_in name names) in
-      let rest = names_alike names (λ other c. same other (there name names other c)) in
-      (omega (arith, sum_by-cons f name names, sum_by-cons g name names), omega arith)
+-- depths are equal if those of the used names are
+greatest-same : (f g : List ℕ → ℕ) (names : List (List ℕ))
+    → ((name : List ℕ) → Contains names name → f name ≡ g name) → greatest_by f names ≡ greatest_by g names
+greatest-same f g [] same = refl
+greatest-same f g (name ∷ names) same =
+    λ i. max (same name (here_in name names) i) (greatest-same f g names (λ other c. same other (there name names other c)) i)
 
-  pub pieces_alike : (pieces : Shape)
-      → ((name : List ℕ) → Contains (shape_names pieces) name → min cap (f name) ≡ min cap (g name))
-      → (min (suc cap) (pieces_weight f pieces) ≡ min (suc cap) (pieces_weight g pieces))
-      × (min (suc cap) (pieces_depth f pieces) ≡ min (suc cap) (pieces_depth g pieces))
-  pieces_alike [] same = (refl, refl)
-  pieces_alike (items ∷ pieces) same = grind (arith, nat_tests, names_alike (shape_names (items ∷ pieces)) same)
+pieces_depth-same : (f g : List ℕ → ℕ) (shape : Shape)
+    → ((name : List ℕ) → Contains (shape_names shape) name → f name ≡ g name) → pieces_depth f shape ≡ pieces_depth g shape
+pieces_depth-same f g [] same = refl
+pieces_depth-same f g (items ∷ shape) same = ap suc (greatest-same f g (shape_names (items ∷ shape)) same)
 
--- no depth exceeds the fuel
+-- a cap of a weight or a depth may be put on those of the used names
+module _ (cap : ℕ) (f : List ℕ → ℕ) where
+  abbrev capped : List ℕ → ℕ
+  capped name = min cap (f name)
 
-greatest_bound : (cap : ℕ) (f : List ℕ → ℕ) → ((name : List ℕ) → f name ≤ cap)
-    → (names : List (List ℕ)) → greatest_by f names ≤ cap
-greatest_bound cap f h [] = omega arith
-greatest_bound cap f h (name ∷ names) = omega (arith, greatest_bound cap f h names)
+  names_capped : (names : List (List ℕ))
+      → (min cap (sum_by f names) ≡ min cap (sum_by capped names)) × (min cap (greatest_by f names) ≡ greatest_by capped names)
+  names_capped [] = (refl, omega arith)
+  names_capped (name ∷ names) =
+      let rest = names_capped names in
+      (omega (arith, sum_by-cons f name names, sum_by-cons capped name names), omega arith)
 
-pieces_depth-bound : (cap : ℕ) (f : List ℕ → ℕ) → ((name : List ℕ) → f name ≤ cap)
-    → (pieces : Shape) → pieces_depth f pieces ≤ suc cap
-pieces_depth-bound cap f h [] = omega arith
-pieces_depth-bound cap f h (items ∷ pieces) = omega (arith, greatest_bound cap f h (shape_names (items ∷ pieces)))
-
-depth-bound : (fuel : ℕ) (shapes : Shapes) (node : Title) → depth fuel shapes node ≤ fuel
-depth-bound zero shapes node = omega arith
-depth-bound (suc fuel) shapes node = grind (arith, nat_tests, pieces_depth-bound fuel, depth-bound fuel shapes)
+  pieces_capped : (pieces : Shape)
+      → (min (suc cap) (pieces_weight f pieces) ≡ min (suc cap) (pieces_weight capped pieces))
+      × (min (suc cap) (pieces_depth f pieces) ≡ pieces_depth capped pieces)
+  pieces_capped [] = (refl, omega arith)
+  pieces_capped (items ∷ pieces) = grind (arith, nat_tests, names_capped (shape_names (items ∷ pieces)))
 
 -- in the old shapes, each node that the node reaches in the new ones has the same shape
 abbrev pub SameReached : Shapes → Shapes → Title → Type 0
 SameReached old new node = (other : Title) → Reaches (Uses new) node other → new other ≡ old other
 
-pub flat-same : (fuel : ℕ) (old new : Shapes) (node : Title)
-    → SameReached old new node → flat fuel new node ≡ flat fuel old node
-flat-same zero old new node same = refl
-flat-same (suc fuel) old new node same =
-    pieces_flat-same (λ name. flat fuel new (Named name)) (λ name. flat fuel old (Named name)) node (new node)
-    (λ name u. flat-same fuel old new (Named name) (λ other r. same other (on u r)))
-    ∙ ap (pieces_flat (λ name. flat fuel old (Named name)) node 0) (same node here)
-
-pub depth-same : (fuel : ℕ) (old new : Shapes) (node : Title)
-    → SameReached old new node → depth fuel new node ≡ depth fuel old node
-depth-same zero old new node same = refl
-depth-same (suc fuel) old new node same =
-    let alike = pieces_alike fuel (λ name. depth fuel new (Named name)) (λ name. depth fuel old (Named name)) (new node)
-    (λ name u. ap (min fuel) (depth-same fuel old new (Named name) (λ other r. same other (on u r)))) in
-    omega (arith, depth-bound (suc fuel) new node, depth-bound (suc fuel) old node, ap (pieces_depth (λ name. depth fuel old (Named name))) (same node here))
+pub same_reached : (fuel : ℕ) (old new : Shapes) (node : Title) → SameReached old new node
+    → (flat fuel new node ≡ flat fuel old node) × (depth fuel new node ≡ depth fuel old node)
+same_reached zero old new node same = (refl, refl)
+same_reached (suc fuel) old new node same =
+    let below = λ (name : List ℕ) (u : Uses new node (Named name)).
+    same_reached fuel old new (Named name) (λ other r. same other (on u r)) in
+    rw (← same node here) (
+      pieces_flat-same _ _ node (new node) (λ name u. (below name u).0),
+      pieces_depth-same _ _ (new node) (λ name u. (below name u).1),
+    )
 
 -- the expansion of a node that is not too deep, from those of the used names with the same fuel
 pub flat_by_uses : (fuel : ℕ) (shapes : Shapes) (node : Title) → depth fuel shapes node < fuel
@@ -92,14 +84,17 @@ flat_by_uses (suc fuel) shapes node h =
 -- with one level more, a capped weight and a capped depth are the same
 settles : (cap : ℕ) (shapes : Shapes) (node : Title)
     → (min cap (weight (suc cap) shapes node) ≡ min cap (weight cap shapes node))
-    × (min cap (depth (suc cap) shapes node) ≡ min cap (depth cap shapes node))
+    × (min cap (depth (suc cap) shapes node) ≡ depth cap shapes node)
 settles zero shapes node = (omega arith, omega arith)
 settles (suc cap) shapes node = (
-  (let alike = pieces_alike cap (λ name. weight (suc cap) shapes (Named name)) (λ name. weight cap shapes (Named name))
-      (shapes node) (λ name u. (settles cap shapes (Named name)).0) in
-      omega (arith, weight-suc (suc cap) shapes node, weight-suc cap shapes node)),
-  (pieces_alike cap (λ name. depth (suc cap) shapes (Named name)) (λ name. depth cap shapes (Named name))
-      (shapes node) (λ name u. (settles cap shapes (Named name)).1)).1,
+  (let more = pieces_capped cap (λ name. weight (suc cap) shapes (Named name)) (shapes node) in
+      let less = pieces_capped cap (λ name. weight cap shapes (Named name)) (shapes node) in
+      let same : pieces_weight (λ name. min cap (weight (suc cap) shapes (Named name))) (shapes node)
+      ≡ pieces_weight (λ name. min cap (weight cap shapes (Named name))) (shapes node) =
+      λ i. pieces_weight (λ name. (settles cap shapes (Named name)).0 i) (shapes node) in
+      omega (arith, weight-suc (suc cap) shapes node, weight-suc cap shapes node, same)),
+  (pieces_capped cap (λ name. depth (suc cap) shapes (Named name)) (shapes node)).1
+      ∙ (λ i. pieces_depth (λ name. (settles cap shapes (Named name)).1 i) (shapes node)),
 )
 
 -- the capped weight, from the capped weights of the used names: also for a node that reaches a cycle
@@ -107,27 +102,21 @@ pub weight_by_uses : (cap : ℕ) (shapes : Shapes) (node : Title)
     → min cap (weight cap shapes node)
     ≡ min cap (pieces_weight (λ name. min cap (weight cap shapes (Named name))) (shapes node))
 weight_by_uses cap shapes node =
-    let alike = pieces_alike cap (λ name. weight cap shapes (Named name))
-    (λ name. min cap (weight cap shapes (Named name))) (shapes node) (λ name u. omega arith) in
+    let capped = pieces_capped cap (λ name. weight cap shapes (Named name)) (shapes node) in
     omega (arith, weight-suc cap shapes node, (settles cap shapes node).0)
 
 -- the capped depth, from those of the used names
 pub depth_by_uses : (fuel : ℕ) (shapes : Shapes) (node : Title)
     → depth fuel shapes node ≡ min fuel (pieces_depth (λ name. depth fuel shapes (Named name)) (shapes node))
-depth_by_uses fuel shapes node = omega (arith, (settles fuel shapes node).1, depth-bound fuel shapes node)
+depth_by_uses fuel shapes node = sym (settles fuel shapes node).1
 
 -- A node that reaches a cycle is deeper and heavier than any number.
-
-first_use : (shapes : Shapes) (node other : Title) → Reaches (Uses shapes) node other
-    → ContainsItself (Uses shapes) other → (used : Title) × Uses shapes node used × ReachesCycle (Uses shapes) used
-first_use shapes node other here c = (c.0, c.1, (node, c.2, c))
-first_use shapes node other (on {b = used} u r) c = (used, u, (other, r, c))
 
 pub cycle_deep_and_heavy : (fuel : ℕ) (shapes : Shapes) (node : Title) → ReachesCycle (Uses shapes) node
     → (fuel ≤ depth fuel shapes node) × (fuel ≤ weight fuel shapes node)
 cycle_deep_and_heavy zero shapes node c = (omega arith, omega arith)
 cycle_deep_and_heavy (suc fuel) shapes node c =
-    let next = first_use shapes node c.0 c.1 c.2 in
+    let next = cycle_used (Uses shapes) node c.0 c.1 c.2 in
     let more = cycle_deep_and_heavy fuel shapes next.0 next.2 in
     (deeper fuel shapes node next.0 next.1 more.0, heavier fuel shapes node next.0 next.1 more.1)
 

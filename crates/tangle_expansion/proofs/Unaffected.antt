@@ -8,7 +8,7 @@ use Rattle.digraph.specs.Reach.{here, ReachesCycle}
 use Rattle.tangle_bodies.specs.Shapes.{Title, kind_discrete, item_discrete, Shape, Shapes, Uses}
 use Rattle.tangle_bodies.specs.Flat.{flat}
 use Rattle.tangle_expansion.specs.Affected.{IsExpandable, IsAffected}
-use Rattle.tangle_expansion.proofs.SameShapes.{SameReached, flat-same, depth-same, cycle_deep_and_heavy}
+use Rattle.tangle_expansion.proofs.SameShapes.{SameReached, same_reached, cycle_deep_and_heavy}
 
 -- equality of shapes can be decided
 
@@ -24,8 +24,8 @@ stays levels limit old new node expandable unaffected =
       | no f ↦ absurd (unaffected (record { expandable = expandable; cause = other; reaches = r; changed = f }))
     ] in
     let shape : new node ≡ old node = same node here in
-    let symbols : flat levels new node ≡ flat levels old node = flat-same levels old new node same in
-    search (rules, depth-same)
+    let reached = same_reached levels old new node same in
+    search rules
 
 -- an expandable node reaches no name that contains itself
 pub no_cycle : (levels limit : ℕ) (shapes : Shapes) (node : Title)

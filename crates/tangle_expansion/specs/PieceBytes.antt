@@ -11,7 +11,7 @@ use Rattle.tangle_scan.specs.MacroBytes.{macro_bytes}
 use Rattle.tangle_scan.specs.Web.{WebRead, PieceRead}
 use Rattle.tangle_scan.specs.declared.items.Item.{Item}
 use Rattle.tangle_names.specs.declared.Resolved.{Resolved}
-use Rattle.tangle_names.specs.declared.Resolved.TheVariants.{Name, NoFullName, Ambiguous}
+use Rattle.tangle_names.specs.declared.Resolved.TheVariants.{Name}
 use Rattle.tangle_names.specs.NameTable.{TableRead}
 use Rattle.tangle_bodies.specs.Flat.{Symbol}
 use Rattle.tangle_bodies.specs.WebShapes.{resolved_at}
@@ -27,8 +27,7 @@ module _ (numbers : NumbersRead) where
     -- the bytes of the name to which an occurrence resolves, where a name has these symbols
     abbrev pub resolved_bytes : Resolved → List ℕ
     resolved_bytes (Name id) = expansion_bytes numbers (used (slice_index_or table.names id []))
-    resolved_bytes NoFullName = []
-    resolved_bytes Ambiguous = []
+    resolved_bytes _ = []
 
     abbrev pub used_bytes : ℕ → List ℕ
     used_bytes occurrence = resolved_bytes (resolved_at table occurrence)

@@ -105,7 +105,7 @@ pub fn outputs_are_short()
 
 /// The bytes of a node are those of its pieces, one after another: for each piece its opening, its
 /// mark, its items and its closing. An item that is a use gives the bytes of the used name's
-/// expansion.
+/// expansion. By `nodes_expand_by_uses` these are also the bytes of an expandable node's expansion.
 pub fn nodes_are_written_by_pieces()
     ensures pieces { (web : WebRead) (table : TableRead) (marks : MarkMode)
         (used : List ℕ → List Symbol) (node : Title)
@@ -114,13 +114,6 @@ pub fn nodes_are_written_by_pieces()
         (pieces_flat used node 0 (shapes web table node))
         ≡ flat_map (piece_bytes (numbers_of web table marks) table used web.texts)
         (pieces_of web table node) }
-    ensures expandable { (web : WebRead) (marks : MarkMode) (node : Title)
-        → IsExpandableNode (shapes web (table_of web)) node
-        → expansion_bytes (numbers_of web (table_of web) marks)
-        (flat_of (shapes web (table_of web)) node)
-        ≡ flat_map (piece_bytes (numbers_of web (table_of web) marks) (table_of web)
-        (λ name. flat_of (shapes web (table_of web)) (Named name)) web.texts)
-        (pieces_of web (table_of web) node) }
 {}
 
 /// In what is written, a C compiler reads the items of each macro and of each piece as the author

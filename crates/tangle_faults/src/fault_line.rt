@@ -84,7 +84,7 @@ pub fn write_fault<S: Sink>(fault: &Fault, sink: &mut S) -> Result<u128, WriteFa
 {
     let kind = fault.kind();
     let (message, ending) = wording(kind);
-    let placed = write_place_if_any(fault.place(), sink);
+    let placed = write_place_if_any(sink, Ok(0), fault.place());
     let rated = write_after(sink, placed, severity(kind));
     let reported = write_after(sink, rated, message);
     let ended = write_ending(sink, reported, ending, fault);
@@ -102,26 +102,34 @@ fn severity(kind: FaultKind) -> &'static [u8]
     }
 }
 
-/// Writes the place of a fault, if it has one.
-fn write_place_if_any<S: Sink>(place: Option<&Place>, sink: &mut S) -> Result<u128, WriteFault>
-    ensures written { IsWritten (S.stream sink.old) (S.stream sink.new)
+/// Writes the place of a fault, if it has one, unless `so_far` is an error.
+fn write_place_if_any<S: Sink>(
+    sink: &mut S,
+    so_far: Result<u128, WriteFault>,
+    place: Option<&Place>,
+) -> Result<u128, WriteFault>
+    ensures written { IsWrittenAfter (S.stream sink.old) (S.stream sink.new) so_far
         (place_bytes_if_any (option_copied place.entry)) result }
     ensures short { length (place_bytes_if_any (option_copied place.entry)) < 2 ^ 65 }
 {
     match place {
-        Some(place) => write_place(place, sink),
-        None => Ok(0),
+        Some(place) => write_place(sink, so_far, place),
+        None => so_far,
     }
 }
 
-/// Writes a place, which comes before the message of a fault.
-fn write_place<S: Sink>(place: &Place, sink: &mut S) -> Result<u128, WriteFault>
-    ensures written { IsWritten (S.stream sink.old) (S.stream sink.new) (place_bytes place.now)
-        result }
+/// Writes a place, which comes before the message of a fault, unless `so_far` is an error.
+fn write_place<S: Sink>(
+    sink: &mut S,
+    so_far: Result<u128, WriteFault>,
+    place: &Place,
+) -> Result<u128, WriteFault>
+    ensures written { IsWrittenAfter (S.stream sink.old) (S.stream sink.new) so_far
+        (place_bytes place.now) result }
     ensures short { length (place_bytes place.now) < 2 ^ 65 }
 {
     let mut digits = Buffer::new();
-    let file = write_after(sink, Ok(0), place.file());
+    let file = write_after(sink, so_far, place.file());
     let colon = write_after(sink, file, b":");
     let line = write_after(sink, colon, digits.format(place.line()).as_bytes());
     write_after(sink, line, b": ")

@@ -26,8 +26,7 @@ use Rattle.tangle_files.specs.Table.{SharedLines, Table, file_of, files_of}
 pub lines_of-entries : (name : List ℕ) (es : List (Vec ℕ Global × SharedLines))
     → lines_of (map file_of es) name ≡ option_map (λ v. v.value.items) (lookup (λ k. bytes_eq name k.items) es)
 lines_of-entries name [] = refl
-lines_of-entries name (e ∷ es) =
-    grind (arith, nat_tests, lines_of-entries name es)
+lines_of-entries name (e ∷ es) = grind (arith, nat_tests, lines_of-entries name es)
 
 -- the lines of a table entry are within the limit
 pub entry-limit : (t : Table) (n : ℕ) (e : Vec ℕ Global × SharedLines)
@@ -78,8 +77,7 @@ pub map-insert_entry : (es : List (Vec ℕ Global × SharedLines)) (k : Vec ℕ 
     → map file_of (insert_entry (λ x y. bytes_eq x.items y.items) es k v)
     ≡ map file_of es ++ (k.items, v.value.items) ∷ []
 map-insert_entry [] k v none = refl
-map-insert_entry (e ∷ es) k v none =
-    grind (arith, nat_tests, map-insert_entry es k v)
+map-insert_entry (e ∷ es) k v none = grind (arith, nat_tests, map-insert_entry es k v)
 
 -- setting the lines of an entry sets those of its file, and removing the entry removes it
 pub map-set_value : (name : List ℕ) (es : List (Vec ℕ Global × SharedLines)) (w : SharedLines)
@@ -97,8 +95,7 @@ position_or_len-entries : (name : List ℕ) (es : List (Vec ℕ Global × Shared
     → position_or_len (λ (f : List ℕ × List (List ℕ)). bytes_eq name f.0) (map file_of es)
     ≡ position_or_len (λ (k : Vec ℕ Global). bytes_eq name k.items) (map (λ e. e.0) es)
 position_or_len-entries name [] = refl
-position_or_len-entries name (e ∷ es) =
-    grind (arith, nat_tests, position_or_len-entries name es)
+position_or_len-entries name (e ∷ es) = grind (arith, nat_tests, position_or_len-entries name es)
 
 -- a name is at the same position in the table as among the files
 pub position-entries : (name : List ℕ) (es : List (Vec ℕ Global × SharedLines))

@@ -7,15 +7,14 @@ use Rattle.std.proofs.Common.{get_or-set_same, get_or-set_other, length-take}
 use Rattle.std.proofs.lemmas.List.{get_or-take, get_or_default, take_more}
 use Rattle.std.specs.Bool.{Decides}
 use Rattle.std.proofs.lemmas.Bool.Decides.{Decides-at, Decides-like, Decides-or}
-use Rattle.std.proofs.lemmas.List.Folds.{Any-from_list_any, list_any-from_Any}
+use Rattle.std.proofs.lemmas.List.Folds.{Any-from_list_any, list_any_at}
 use Rattle.std.proofs.lemmas.List.Elements.{Contains-push_cases}
-use Rattle.tangle_bodies.specs.Shapes.{Title, Named, Shapes, Uses}
-use Rattle.tangle_bodies.specs.Shapes as title
+use Rattle.tangle_bodies.specs.Shapes.{Title, Shapes, Uses}
 use Rattle.digraph.specs.Nodes.{Node}
 use Rattle.digraph.specs.Reach.{here, on}
 use Rattle.tangle_graph.specs.Ordering.{IsOrderIn}
 use Rattle.tangle_graph.specs.Stores.{StoreRead, IsStoreOf, IsNodeIn, flag_at, uses_at, title_in_store}
-use Rattle.tangle_graph.proofs.NameLemmas.{used_node}
+use Rattle.tangle_graph.proofs.NameLemmas.{use_of_title}
 use Rattle.tangle_graph.specs.AffectedFlags.{ReachesNewShape, AreFlagged, uses_flagged}
 
 -- an item among the first `i` of a list is at a position before `i`
@@ -62,23 +61,10 @@ module _ (store : StoreRead) (order : List Node) (ordered : IsOrderIn store orde
             ((is.uses node found.1 at_position).0 used).1,
             (are found.1 (after_used found.1 used)).0 found.4,
           )),
-      λ some. by some.0 some.1 some.2,
+      λ some. (let m = use_of_title new store node some.0 is at_position some.1 in
+          list_any_at (flag_at flags) (uses_at store node) m.1.0 m.0 m.1.1 (ap (flag_at flags) m.1.2
+          ∙ (are m.0 (after_used m.0 m.1)).1 (subst (ReachesNewShape old new) (sym m.2) some.2))),
     )
-      where
-        by : (used : Title) → Uses new (title_in_store store node) used → ReachesNewShape old new used
-            → uses_flagged store flags node ≡ true
-        by title.Program u r = absurd u
-        by (Named name) u r =
-            let m = used_node new store node name is at_position u in
-            let used = (is.uses node m.0 at_position).1
-            (m.1, subst (Uses new (title_in_store store node)) (sym m.2) u) in
-            list_any-from_Any (flag_at flags) (uses_at store node) (
-              used.0,
-              m.0,
-              used.1,
-              used.2,
-              (are m.0 (after_used m.0 used)).1 (subst (ReachesNewShape old new) (sym m.2) r),
-            )
 
     pub flagged_next : (own : Bool) → length flags ≡ length store.names + 1
         → ((own ≡ true) ↔ (new (title_in_store store node) ≢ old (title_in_store store node)))

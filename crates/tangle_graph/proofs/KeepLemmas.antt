@@ -1,15 +1,17 @@
 -- The expansion of one more node is kept, and what is kept at the end.
 use Rattle.std.proofs.Common.{rules}
 use Rattle.std.proofs.Common.{◌≡◌, ◌∙◌, ◌+◌, ◌<◌, ◌≤◌, ◌++◌, ℕ, Bool, true, false, cond, List, [], ◌∷◌, length, take}
-use Rattle.std.proofs.Common.{get_or, refl, suc, ap, sym, subst, append_assoc, arith, Contains}
+use Rattle.std.proofs.Common.{get_or, suc, ap, sym, subst, append_assoc, arith, Contains}
 use Rattle.std.specs.Prelude.{None, unwrap_or}
 use Rattle.std.specs.List.{filter}
 use Rattle.std.proofs.lemmas.List.{take_all}
 use Rattle.std.proofs.lemmas.List.Elements.{filter_more}
-use Rattle.std.proofs.lemmas.Bool.{both_ways, false_from_ne_true}
+use Rattle.std.proofs.Common.{inl, inr}
+use Rattle.std.proofs.lemmas.Bool.{both_ways, cases_Bool}
+use Rattle.tangle_graph.proofs.NameLemmas.{empty_unless}
 use Rattle.tangle_expansion.proofs.SameShapes.{used_expandable}
-use Rattle.tangle_expansion.specs.Kept.{kept_at, used_symbols, PutsKept}
-use Rattle.tangle_expansion.specs.Limits.{levels, heaviest, flat_of, IsExpandableNode}
+use Rattle.tangle_expansion.specs.Kept.{kept_at, PutsKept}
+use Rattle.tangle_expansion.specs.Limits.{levels, heaviest, flat_of}
 use Rattle.tangle_bodies.specs.Flat.{flat, pieces_flat}
 use Rattle.tangle_bodies.specs.Shapes.{Title, Named, Shape, Shapes}
 use Rattle.tangle_expansion.specs.declared.kept.Kept.{Kept}
@@ -37,30 +39,20 @@ module _ {shapes : Shapes} {store : StoreRead} {order : List Node}
     -- the expansion of a used name is kept, if the name has a piece, and else none
     used_kept : (kept : Kept) → is_expandable_at store node ≡ true
         → KeepsThese shapes store (take i order) kept → KeepsUsed shapes store kept node
-    used_kept kept flag keeps id u = by (shapes name) refl
-      where
-        name : Title
-        name = Named (get_or store.names id [])
-
-        here : IsNodeIn store node
-        here = at_position store order ordered i h node at
-
-        inside : IsNodeIn store (suc id)
-        inside = omega arith
-
-        by : (s : Shape) → shapes name ≡ s → used_symbols kept id ≡ flat_of shapes name
-        by (x ∷ s) e =
-            let used : IsExpandableNode shapes name =
-            used_expandable levels heaviest shapes (title_in_store store node) (get_or store.names id [])
-            ((expandable_at shapes store is node here).0 flag) u.uses
-            (λ none. let both : x ∷ s ≡ [] = sym e ∙ none in cc) in
-            let next : Contains (uses_at store node) (suc id) = (is.uses node (suc id) here).1 (inside, u.uses) in
-            ap (λ o. unwrap_or o []) (keeps.expandable (suc id) (after_used store order ordered i h node at (suc id) next)
-            ((expandable_at shapes store is (suc id) inside).1 used))
-        by [] none =
-            let not = false_from_ne_true (is_expandable_at store (suc id))
-            (λ on. ((expandable_at shapes store is (suc id) inside).0 on).has_piece none) in
-            ap (λ o. unwrap_or o []) (keeps.others (suc id) not) ∙ sym (flat_empty shapes name none)
+    used_kept kept flag keeps id u =
+        let name : Title = Named (get_or store.names id []) in
+        let here : IsNodeIn store node = at_position store order ordered i h node at in
+        let inside : IsNodeIn store (suc id) = omega arith in
+        let next : Contains (uses_at store node) (suc id) = (is.uses node (suc id) here).1 (inside, u.uses) in
+        elim (cases_Bool (is_expandable_at store (suc id))) [
+          | inl on ↦ ap (λ o. unwrap_or o [])
+              (keeps.expandable (suc id) (after_used store order ordered i h node at (suc id) next) on)
+          | inr off ↦ ap (λ o. unwrap_or o []) (keeps.others (suc id) off)
+              ∙ sym (flat_empty shapes name (empty_unless (shapes name) (λ has. both_ways _ off
+              ((expandable_at shapes store is (suc id) inside).1 (used_expandable levels heaviest shapes
+              (title_in_store store node) (get_or store.names id [])
+              ((expandable_at shapes store is node here).0 flag) u.uses has)))))
+        ]
 
     pub kept_more : (before after : Kept) → is_expandable_at store node ≡ true
         → KeepsThese shapes store (take i order) before

@@ -17,7 +17,6 @@ pub mod ExpandLemmas
 mod StoreOfWeb
 pub mod OutputLemmas
 mod StoredRows
-pub mod FaultLemmas
 mod NameGraphLemmas
 mod PlainFormLemmas
 mod WorkedForms
@@ -27,3 +26,4 @@ pub mod StoredPieces
 mod FlagLemmas
 mod AffectedLemmas
 mod KeepLemmas
+pub mod CycleLemmas

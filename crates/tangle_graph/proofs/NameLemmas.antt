@@ -1,13 +1,13 @@
 -- Nodes found by name, and their shapes.
 use Rattle.std.proofs.Common.{rules}
-use Rattle.std.proofs.Common.{◌≡◌, ◌≢◌, ℕ, suc, Bool, List, [], ◌∷◌, None, ap, refl, arith}
+use Rattle.std.proofs.Common.{◌≡◌, ◌≢◌, ℕ, suc, Bool, List, [], ◌∷◌, None, ap, refl, arith, get_or, subst, sym, Contains}
 use Rattle.std.specs.Prelude.{Option, IsSome}
 use Rattle.digraph.specs.Nodes.{Node, program}
 use Rattle.tangle_bodies.specs.Shapes.{Title, Named, Shape, Shapes, Uses}
 use Rattle.tangle_bodies.specs.Shapes as title
 use Rattle.tangle_bodies.specs.declared.nodes.NodeBody.{NodeBody}
 use Rattle.tangle_graph.specs.NewBodies.{AreNewBodies}
-use Rattle.tangle_graph.specs.Stores.{AreNewShapes, StoreRead, IsStoreOf, IsNodeIn, title_in_store}
+use Rattle.tangle_graph.specs.Stores.{AreNewShapes, StoreRead, IsStoreOf, IsNodeIn, title_in_store, uses_at}
 use Rattle.tangle_graph.proofs.BodyLemmas.{name_used, some_at}
 
 -- a title with a piece is the title of a node
@@ -26,14 +26,17 @@ pub no_shape : (shapes : Shapes) (store : StoreRead) (node : Title)
 no_shape shapes store node is none =
     empty_unless (shapes node) (λ has. let at = node_with_piece shapes store node is has in none at.0 at.1 at.2)
 
--- each name that a node uses has a node
-pub used_node : (shapes : Shapes) (store : StoreRead) (node : Node) (name : List ℕ) → IsStoreOf shapes store
-    → IsNodeIn store node → Uses shapes (title_in_store store node) (Named name)
-    → (a : Node) × IsNodeIn store a × (title_in_store store a ≡ Named name)
-used_node shapes store node name is inside u =
+-- each title that a node uses is that of a node among its uses
+pub use_of_title : (shapes : Shapes) (store : StoreRead) (node : Node) (used : Title) → IsStoreOf shapes store
+    → IsNodeIn store node → Uses shapes (title_in_store store node) used
+    → (a : Node) × Contains (uses_at store node) a × (title_in_store store a ≡ used)
+use_of_title shapes store node title.Program is inside u = absurd u
+use_of_title shapes store node (Named name) is inside u =
     let own = some_at store.bodies node (omega arith) in
     let found = name_used shapes store.names node own.0 (is.bodies.each node own.0 own.1) name u in
-    (suc found.0, omega arith, ap Named found.3)
+    let same : Named (get_or store.names found.0 []) ≡ Named name = ap Named found.3 in
+    let used = subst (Uses shapes (title_in_store store node)) (sym same) u in
+    (suc found.0, (is.uses node (suc found.0) inside).1 (omega arith, used), same)
 
 -- the flags of the bodies of a store are those of its new shapes
 pub new_shapes_of : (old store : StoreRead) (names : List (List ℕ)) (bodies : List NodeBody) (flags : List Bool)

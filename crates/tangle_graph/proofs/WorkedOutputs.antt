@@ -1,7 +1,7 @@
 -- Worked webs: their output files and the faults of their graph of names; and nodes at the limits.
 use Rattle.std.proofs.Common.{arith, length-append, rules}
 use Rattle.std.proofs.lemmas.List.{length-map}
-use Rattle.std.proofs.Common.{◌≡◌, ℕ, ◌+◌, ◌==◌, ◌||◌, not, Bool, true, false, List, [], ◌∷◌, ◌++◌, None, codes}
+use Rattle.std.proofs.Common.{◌≡◌, ℕ, ◌+◌, true, false, List, [], ◌∷◌, ◌++◌, None, codes}
 use Rattle.std.proofs.Common.{flat_map, replicate, length, refl}
 use Rattle.std.specs.Fmt.{digits}
 use Rattle.std.specs.Prelude.{decimal, if◌then◌else◌}
@@ -16,7 +16,7 @@ use Rattle.tangle_bodies.specs.Shapes.{Named, Program, Shapes, Use, Word, Writte
 use Rattle.tangle_bodies.specs.Flat.{weight}
 use Rattle.tangle_expansion.specs.Limits.{heaviest, levels}
 use Rattle.tangle_expansion.specs.Outputs.{OutputRead}
-use Rattle.digraph.specs.Nodes.{Node}
+use Rattle.tangle_graph.specs.Cycles.{contains_itself, reaches_cycle}
 use Rattle.tangle_graph.specs.Faults.{graph_faults}
 use Rattle.tangle_graph.specs.Outputs.{is_expandable, outputs}
 use Rattle.tangle_graph.specs.PlainForms.{plain_form}
@@ -34,13 +34,9 @@ output_shown o =
 abbrev files : List ℕ → List ℕ
 files bytes = flat_map output_shown (outputs (web bytes) (table_of (web bytes)) (codes "a.c"))
 
--- the faults of its graph of names, where these nodes contain themselves, and these reach one that does
-abbrev faults_with : (Node → Bool) → (Node → Bool) → List ℕ → List ℕ
-faults_with contains_itself reaches_cycle bytes = flat_map fault_line
-    (graph_faults (web bytes) (table_of (web bytes)) (codes "a.c") contains_itself reaches_cycle)
-
+-- the faults of its graph of names
 abbrev faults : List ℕ → List ℕ
-faults = faults_with (λ n. false) (λ n. false)
+faults bytes = flat_map fault_line (graph_faults (web bytes) (table_of (web bytes)) (codes "a.c"))
 
 -- two names that contain each other, a file, and a file that reaches them
 abbrev cycle : List ℕ
@@ -72,15 +68,10 @@ record Faults : Type 0 where
       ++ codes "a:1: error: file name is the main file's: <a.c>\na:5: error: file has another name: <h>\n"
       ++ codes "warning: no program text\n"
   -- only what contains itself has a fault; what reaches it is not too large
-  pub cycles : faults_with (λ n. (n == 1) || (n == 2)) (λ n. not (n == 3)) cycle
-      ≡ codes "a:3: error: contains itself: <A>\na:5: error: contains itself: <B>\n"
-  -- without these flags, nodes that reach a cycle count as nodes that are too deep
-  pub too_large : faults cycle
-      ≡ codes "a:3: error: too large: <A>\na:5: error: too large: <B>\na:10: error: too large: <i>\n"
-      ++ codes "error: too large: the unnamed program\n"
+  pub cycles : faults cycle ≡ codes "a:3: error: contains itself: <A>\na:5: error: contains itself: <B>\n"
 
 faults_are : Faults
-unfolding reads_in tokens_from lexeme occurrences_from levels heaviest plain_form digits
+unfolding contains_itself reaches_cycle reads_in tokens_from lexeme occurrences_from levels heaviest plain_form digits
 faults_are = search rules
 
 -- a name with one piece uses the name that is one byte shorter

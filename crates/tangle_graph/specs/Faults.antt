@@ -1,12 +1,11 @@
 -- The faults of the graph of names: a name is undefined, never used, contains itself, is too large,
 -- or is that of the main file or of an earlier file; or the program is too large or has no piece.
-use Rattle.std.specs.Prelude.{◌≡◌, ◌≤◌, ◌↔◌, ℕ, suc, Bool, true}
+use Rattle.std.specs.Prelude.{ℕ, suc, Bool}
 use Rattle.std.specs.Prelude.{not, ◌&&◌, List, [], ◌∷◌, ◌++◌, length}
 use Rattle.std.specs.Prelude.{map, flat_map, slice_get, slice_index_or, Option, Some, None}
 use Rattle.std.specs.Prelude.{option_to_list, is_some, position, if◌then◌else◌}
 use Rattle.std.specs.List.{range_with_len}
 use Rattle.digraph.specs.Nodes.{Node, program}
-use Rattle.digraph.specs.Reach.{ContainsItself, ReachesCycle}
 use Rattle.tangle_faults.specs.declared.faults.FaultKind.{FaultKind}
 use Rattle.tangle_faults.specs.declared.faults.FaultKind.TheVariants as kind
 use Rattle.tangle_faults.specs.Faults.{FaultRead, fault_about, fault_unplaced}
@@ -15,9 +14,10 @@ use Rattle.tangle_names.specs.Faults.{named_place_of}
 use Rattle.tangle_names.specs.NameTable.{TableRead}
 use Rattle.tangle_names.specs.Numbers.{is_number, is_use}
 use Rattle.tangle_names.specs.Resolving.{resolve}
-use Rattle.tangle_bodies.specs.Shapes.{Uses}
+use Rattle.tangle_bodies.specs.Shapes.{Named}
 use Rattle.tangle_bodies.specs.WebShapes.{name_at, shapes}
 use Rattle.tangle_bodies.specs.Nodes.{title_at}
+use Rattle.tangle_graph.specs.Cycles.{contains_itself, reaches_cycle}
 use Rattle.tangle_graph.specs.Outputs.{shape_has_piece, is_expandable, first_file_occurrence}
 use Rattle.tangle_graph.specs.Outputs.{is_earlier_file, is_main_file}
 
@@ -37,6 +37,13 @@ module _ (web : WebRead) (table : TableRead) where
   abbrev pub has_piece_of_node : Node → Bool
   has_piece_of_node n = shape_has_piece (shapes web table (title_at table.names n))
 
+  -- the node has a piece, reaches no name that contains itself, and is beyond a limit
+  abbrev pub is_too_large : Node → Bool
+  is_too_large n =
+      has_piece_of_node n
+      && (not (reaches_cycle (shapes web table) table.names (title_at table.names n))
+      && not (is_expandable (shapes web table) (title_at table.names n)))
+
   -- the numbers of a name's first occurrence, and of the first use that resolves to it
   abbrev pub first_occurrence_number : ℕ → Option ℕ
   first_occurrence_number id = Some (slice_index_or table.first_occurrences id 0)
@@ -46,22 +53,13 @@ module _ (web : WebRead) (table : TableRead) where
   first_use id =
       position (λ o. is_use o.role && is_number id (resolve web.occurrences o)) web.occurrences
 
--- The node has a piece, reaches no name that contains itself, and is beyond a limit.
--- `reaches_cycle` says of each node whether it reaches such a name.
-abbrev pub is_too_large : WebRead → TableRead → (Node → Bool) → Node → Bool
-is_too_large web table reaches_cycle n =
-    has_piece_of_node web table n
-    && (not (reaches_cycle n) && not (is_expandable (shapes web table) (title_at table.names n)))
-
 -- a fault without a place, if there is one
 abbrev pub fault_if : FaultKind → Bool → List FaultRead
 fault_if kind has_fault = if has_fault then fault_unplaced kind ∷ [] else []
 
--- The faults: those of the names in their order, and then those of the program. The two functions
--- say of each node whether it contains itself, and whether it reaches a name that does.
--- Both are passed in, since a definition cannot compute whether a path exists.
-module _ (web : WebRead) (table : TableRead) (out : List ℕ)
-    (contains_itself reaches_cycle : Node → Bool) where
+-- The faults, for a main file of the name `out`: those of the names in their order, and then those
+-- of the program.
+module _ (web : WebRead) (table : TableRead) (out : List ℕ) where
   -- the occurrence at which the name has a fault of this kind, if it has one
   abbrev pub fault_occurrence : FaultKind → ℕ → Option ℕ
   fault_occurrence kind.Undefined id =
@@ -73,9 +71,11 @@ module _ (web : WebRead) (table : TableRead) (out : List ℕ)
       then first_occurrence_number web table id
       else None
   fault_occurrence kind.SelfContaining id =
-      if contains_itself (suc id) then first_occurrence_number web table id else None
+      if contains_itself (shapes web table) table.names (Named (name_at table id))
+      then first_occurrence_number web table id
+      else None
   fault_occurrence kind.TooLarge id =
-      if is_too_large web table reaches_cycle (suc id)
+      if is_too_large web table (suc id)
       then first_occurrence_number web table id
       else None
   fault_occurrence kind.FileClash id =
@@ -88,27 +88,19 @@ module _ (web : WebRead) (table : TableRead) (out : List ℕ)
       else None
   fault_occurrence _ id = None
 
+  -- the fault of this kind that the name has, if it has one
+  abbrev pub fault_of_name : FaultKind → ℕ → List FaultRead
+  fault_of_name kind id = fault_of web table kind id (fault_occurrence kind id)
+
   -- the faults of this kind, in the order of the names
   abbrev pub faults_of_names : FaultKind → List FaultRead
-  faults_of_names kind = flat_map (λ id. fault_of web table kind id (fault_occurrence kind id))
-      (range_with_len 0 (length table.names))
+  faults_of_names kind = flat_map (fault_of_name kind) (range_with_len 0 (length table.names))
 
   abbrev pub graph_faults : List FaultRead
   graph_faults =
       faults_of_names kind.Undefined
       ++ (faults_of_names kind.Unused ++ (faults_of_names kind.SelfContaining
       ++ (faults_of_names kind.TooLarge
-      ++ (fault_if kind.TooLarge (is_too_large web table reaches_cycle program)
+      ++ (fault_if kind.TooLarge (is_too_large web table program)
       ++ (faults_of_names kind.FileClash ++ (faults_of_names kind.FileTwice
       ++ fault_if kind.NoProgram (not (has_piece_of_node web table program))))))))
-
--- the faults of the graph of names of a web, for a main file of this name
-pub record AreGraphFaults (web : WebRead) (table : TableRead)
-    (out : List ℕ) (faults : List FaultRead) : Type 0 where
-  pub contains_itself : Node → Bool
-  pub reaches_cycle : Node → Bool
-  pub self_containing : (n : Node) → n ≤ length table.names
-      → (contains_itself n ≡ true) ↔ ContainsItself (Uses (shapes web table)) (title_at table.names n)
-  pub reaching_cycles : (n : Node) → n ≤ length table.names
-      → (reaches_cycle n ≡ true) ↔ ReachesCycle (Uses (shapes web table)) (title_at table.names n)
-  pub list : faults ≡ graph_faults web table out contains_itself reaches_cycle

@@ -9,6 +9,7 @@ pub mod Stores
 pub mod Ordering
 pub mod StoreView
 pub mod NewBodies
+pub mod Cycles
 pub mod Faults
 pub mod FaultSearches
 pub mod NameGraphs

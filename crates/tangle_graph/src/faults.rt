@@ -2,11 +2,10 @@
 //! or is that of the main file or of an earlier file; or the program is too large or has no piece.
 ghost use Rattle.std.specs.Prelude.{◌≡◌, ◌<◌, ◌≤◌, ◌++◌, false, None, All, IfOk, OnOk};
 ghost use Rattle.std.specs.Prelude.{length, if◌then◌else◌};
-ghost use Rattle.tangle_graph.specs.Faults.{AreGraphFaults, fault_if, first_use};
+ghost use Rattle.tangle_graph.specs.Faults.{fault_if, fault_occurrence, fault_of_name};
+ghost use Rattle.tangle_graph.specs.Faults.{faults_of_names, first_use, graph_faults};
 ghost use Rattle.tangle_graph.specs.Faults.{has_piece_of_node, is_too_large};
-ghost use Rattle.tangle_graph.specs.FaultSearches.{HaveTheFaults, IsFaultSearch, fault_number};
-ghost use Rattle.tangle_graph.specs.FaultSearches.{fault_of_name, faults_of_kind};
-ghost use Rattle.tangle_graph.specs.Stores.{reaches_cycle_at};
+ghost use Rattle.tangle_graph.specs.FaultSearches.{HaveTheFaults, IsFaultSearch};
 
 use crate::named_files::NamedFiles;
 use crate::store::Store;
@@ -77,8 +76,7 @@ impl<'f, 's, 'a> FaultSearch<'f, 's, 'a> {
     fn is_too_large(&self, node: Node) -> bool
         requires search { IsFaultSearch self.now }
         requires node { node ≤ length self.now.table.now.names }
-        ensures { result ≡ is_too_large self.now.web.now self.now.table.now
-            (reaches_cycle_at self.now.store.now) node }
+        ensures { result ≡ is_too_large self.now.web.now self.now.table.now node }
     {
         self.has_piece(node) && (!self.store.reaches_cycle(node) && !self.store.expandable(node))
     }
@@ -88,7 +86,8 @@ impl<'f, 's, 'a> FaultSearch<'f, 's, 'a> {
     fn fault_number(&self, kind: FaultKind, id: usize) -> Option<usize>
         requires search { IsFaultSearch self.now }
         requires name { id < length self.now.table.now.names }
-        ensures { result ≡ fault_number self.now kind id }
+        ensures { result
+            ≡ fault_occurrence self.now.web.now self.now.table.now self.now.out.now kind id }
     {
         let node = Node::name(id);
         let use_number = self.first_use(id);
@@ -120,7 +119,8 @@ impl<'f, 's, 'a> FaultSearch<'f, 's, 'a> {
         requires search { IsFaultSearch self.now }
         requires name { id < length self.now.table.now.names }
         ensures { OnOk result (faults.new.items
-            ≡ faults.old.items ++ fault_of_name self.now kind id) }
+            ≡ faults.old.items
+            ++ fault_of_name self.now.web.now self.now.table.now self.now.out.now kind id) }
     {
         if let Some(number) = self.fault_number(kind, id) {
             if let Some(occurrence) = self.web.occurrences().get(number) {
@@ -138,7 +138,8 @@ impl<'f, 's, 'a> FaultSearch<'f, 's, 'a> {
     fn may_have_fault(&self, id: usize) -> bool
         requires search { IsFaultSearch self.now }
         requires name { id < length self.now.table.now.names }
-        ensures { result ≡ false → (kind : FaultKind) → fault_number self.now kind id ≡ None }
+        ensures { result ≡ false → (kind : FaultKind)
+            → fault_occurrence self.now.web.now self.now.table.now self.now.out.now kind id ≡ None }
     {
         let node = Node::name(id);
         !self.store.expandable(node)
@@ -174,7 +175,8 @@ impl<'f, 's, 'a> FaultSearch<'f, 's, 'a> {
         requires names { All (λ id. id < length self.now.table.now.names) names.now }
         requires faults { HaveTheFaults self.now names.now }
         ensures { OnOk result (faults.new.items
-            ≡ faults.old.items ++ faults_of_kind self.now kind) }
+            ≡ faults.old.items
+            ++ faults_of_names self.now.web.now self.now.table.now self.now.out.now kind) }
     {
         for id in names {
             self.add_fault(alloc, kind, *id, faults)?;
@@ -185,8 +187,8 @@ impl<'f, 's, 'a> FaultSearch<'f, 's, 'a> {
     /// All faults of the graph.
     pub(crate) fn faults(&self, alloc: Global) -> Result<Vec<Fault>, NoMemory>
         requires { IsFaultSearch self.now }
-        ensures { IfOk result (λ faults. AreGraphFaults self.now.web.now self.now.table.now
-            self.now.out.now faults.items) }
+        ensures { IfOk result (λ faults. faults.items
+            ≡ graph_faults self.now.web.now self.now.table.now self.now.out.now) }
     {
         let names = self.candidates(alloc)?;
         let is_large = self.is_too_large(Node::program());

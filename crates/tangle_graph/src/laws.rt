@@ -1,19 +1,25 @@
-//! Laws of the definitions of faults and of affected nodes.
-ghost use Rattle.std.specs.Prelude.{◌≡◌, ℕ, [], List};
+//! Laws of the definitions of cycles and of affected nodes.
+ghost use Rattle.std.specs.Prelude.{◌≡◌, [], List};
+ghost use Rattle.std.specs.Bool.{Decides};
 ghost use Rattle.digraph.specs.Nodes.{Node};
-ghost use Rattle.tangle_faults.specs.Faults.{FaultRead};
+ghost use Rattle.digraph.specs.Reach.{ContainsItself, ReachesCycle};
 ghost use Rattle.tangle_scan.specs.Web.{WebRead};
-ghost use Rattle.tangle_names.specs.NameTable.{TableRead};
-ghost use Rattle.tangle_bodies.specs.Shapes.{Title, Shapes};
+ghost use Rattle.tangle_names.specs.NameTable.{table_of};
+ghost use Rattle.tangle_bodies.specs.Shapes.{Title, Shapes, Uses};
+ghost use Rattle.tangle_bodies.specs.WebShapes.{shapes};
 ghost use Rattle.tangle_graph.specs.Affected.{ListsAffected};
-ghost use Rattle.tangle_graph.specs.Faults.{AreGraphFaults};
+ghost use Rattle.tangle_graph.specs.Cycles.{contains_itself, reaches_cycle};
 ghost use Rattle.tangle_graph.specs.Stores.{StoreRead};
 
-/// The web, the table and the main file's name determine the faults of the graph, with their order
-/// and their places.
-pub fn graph_faults_are_one_list()
-    ensures { (web : WebRead) (table : TableRead) (out : List ℕ) (a b : List FaultRead)
-        → AreGraphFaults web table out a → AreGraphFaults web table out b → a ≡ b }
+/// A node of a web contains itself, or reaches a name that does, exactly where the functions say so
+/// from which the faults are made.
+pub fn cycles_are_computed()
+    ensures contains_itself { (web : WebRead) (node : Title)
+        → let all = shapes web (table_of web) in
+        Decides (contains_itself all (table_of web).names node) (ContainsItself (Uses all) node) }
+    ensures reaches_cycle { (web : WebRead) (node : Title)
+        → let all = shapes web (table_of web) in
+        Decides (reaches_cycle all (table_of web).names node) (ReachesCycle (Uses all) node) }
 {}
 
 /// An edit that leaves every shape unchanged affects no node: for example one that shifts lines or

@@ -23,7 +23,7 @@ pub use digraph::Node;
 pub use edits::affected;
 pub use flags::is_flagged;
 pub use keeping::{expand_again, expand_all};
-pub use laws::{alike_shapes_affect_nothing, graph_faults_are_one_list};
+pub use laws::{alike_shapes_affect_nothing, cycles_are_computed};
 pub use nodes::node_before;
 pub use shapes::same_shape;
 pub use store::{Built, Store};

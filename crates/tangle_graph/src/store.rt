@@ -8,7 +8,7 @@ ghost use Rattle.tangle_bodies.specs.NodeBodies.{body_title, body_uses};
 ghost use Rattle.tangle_bodies.specs.Shapes.{Shapes};
 ghost use Rattle.tangle_bodies.specs.WebShapes.{shapes};
 ghost use Rattle.tangle_graph.specs.Bodies.{node_bodies};
-ghost use Rattle.tangle_graph.specs.Faults.{AreGraphFaults};
+ghost use Rattle.tangle_graph.specs.Faults.{graph_faults};
 ghost use Rattle.tangle_graph.specs.NameGraphs.{IsNameGraphOf};
 ghost use Rattle.tangle_graph.specs.Ordering.{IsOrderIn};
 ghost use Rattle.tangle_graph.specs.Stores.{AreNewShapes, IsNodeIn, IsStoreOf, KeepsUsed};
@@ -232,7 +232,7 @@ impl Store {
     ) -> Result<Vec<Fault>, NoMemory>
         requires table { table.now ≡ table_of web.now }
         requires store { IsStoreOfWeb web.now table.now out.now self.now }
-        ensures { IfOk result (λ faults. AreGraphFaults web.now table.now out.now faults.items) }
+        ensures { IfOk result (λ faults. faults.items ≡ graph_faults web.now table.now out.now) }
     {
         let search = FaultSearch {
             web,

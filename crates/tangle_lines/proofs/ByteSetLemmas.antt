@@ -16,8 +16,7 @@ use Rattle.tangle_lines.specs.Bytes.{double_quote, is_white}
 -- a search found the first byte that passes a test; where it found none, that is at the end
 pub found-at : (searched test : ℕ → Bool) → ((b : ℕ) → searched b ≡ test b) → (hay : List ℕ) (r : Option ℕ)
     → IsFirstByte searched hay r → position_or_len test hay ≡ unwrap_or r (length hay)
-found-at searched test same hay (Some k) h =
-    search (rules, position_or_len_is)
+found-at searched test same hay (Some k) h = search (rules, position_or_len_is)
 found-at searched test same hay None h =
     let f = IsFirstByte-same hay searched test (λ j _. same (slice_index hay j)) None h in
     position_or_len_is test hay (length hay) 0 (omega arith)
@@ -42,7 +41,6 @@ pub blank-found : (hay : List ℕ) (r : Option ℕ) (blank : Bool)
     → IsFirstByte (not_in white_set) hay r → is_some r ≡ not blank → blank ≡ list_all is_white hay
 blank-found hay None true h e =
     sym (list_all-from_AllPass is_white hay (All-from_get_or (λ b. is_white b ≡ true) hay 0 (search (rules, is_in-white))))
-blank-found hay (Some k) false h e =
-    search (rules, list_all_at, is_in-white)
+blank-found hay (Some k) false h e = search (rules, list_all_at, is_in-white)
 blank-found hay None false h e = absurd (false≢true e)
 blank-found hay (Some k) true h e = absurd (false≢true (sym e))

@@ -1,20 +1,19 @@
 -- Each step of reading takes a line, so the bound allows all steps.
 use Rattle.std.proofs.Common.{rules}
 use Rattle.std.proofs.Common.{◌≡◌, ℕ, zero, suc, ◌+◌, ◌-◌, ◌<◌, ◌≤◌, List, [], ◌∷◌}
-use Rattle.std.proofs.Common.{◌++◌, length, min, drop, Option, None, Some, refl, arith}
+use Rattle.std.proofs.Common.{◌++◌, length, min, drop, None, Some, refl, arith}
 use Rattle.std.proofs.Common.{append_assoc, append-nil}
 use Rattle.tangle_faults.specs.declared.faults.FaultKind.TheVariants.{SourceTooLong}
 use Rattle.tangle_faults.specs.Faults.{fault_at, FaultRead}
 use Rattle.std.proofs.lemmas.Bool.{lt-ltb, le-ltb}
 use Rattle.tangle_files.specs.Lines.{FileTable}
 use Rattle.tangle_lines.specs.Change.{Change}
-use Rattle.tangle_lines.specs.Waiting.{IsPlain, Makes}
+use Rattle.tangle_lines.specs.Waiting.{IsPlain}
 use Rattle.tangle_lines.specs.ReadingLaw.{ReadsByStep}
 use Rattle.tangle_lines.specs.Reading.{WaitingLine, SourceLine, Reads, place_of, State, ReadingStep, step_of, line_step}
-use Rattle.tangle_lines.specs.Reading.{plain_step, change_here, unused_faults, after, reads_in, reads_from}
+use Rattle.tangle_lines.specs.Reading.{change_here, unused_faults, after, reads_in, reads_from}
 use Rattle.tangle_lines.specs.Reading.{source_line_limit, before_reads, change_lines, mismatch_faults, change_place}
 use Rattle.tangle_lines.specs.Reading.{unequal_lines}
-use Rattle.tangle_lines.specs.Inclusion.{included_name}
 use Rattle.tangle_lines.specs.Reading.ReadingStep.{Ends, Goes}
 
 -- a step ends reading, or is below the limit and takes a line
@@ -81,8 +80,7 @@ module _ (files : FileTable) (change_file : ℕ) (start : Reads) (lines : List S
         → line_step files change_file w ws changes t (change_here changes w) ≡ Goes more s → t < source_line_limit
         → before_reads (before_reads (record { lines = lines; faults = faults }) more) (reads_from files change_file s)
         ≡ start
-    step_out more s is h =
-        rw (before_reads-append, ← step, first, lt-ltb t source_line_limit h, is) refl
+    step_out more s is h = rw (before_reads-append, ← step, first, lt-ltb t source_line_limit h, is) refl
 
     pub so_far-plain : (ws' : List WaitingLine) (lines' : List SourceLine) (faults' : List FaultRead)
         → t < source_line_limit → None ≡ change_here changes w
@@ -90,15 +88,8 @@ module _ (files : FileTable) (change_file : ℕ) (start : Reads) (lines : List S
         → before_reads (record { lines = lines'; faults = faults' })
         (reads_from files change_file (at ws' changes (t + 1)))
         ≡ start
-    so_far-plain ws' lines' faults' h none made = by (included_name w.bytes) refl made
-      where
-        by : (name : Option (List ℕ))
-            → name ≡ included_name w.bytes → Makes (plain_step files w ws [] 0 name) ws' lines lines' faults faults'
-            → before_reads (record { lines = lines'; faults = faults' })
-            (reads_from files change_file (at ws' changes (t + 1)))
-            ≡ start
-        by None e made = rw (made.0, made.1.0, made.1.1) (step_out _ _ (rw (← none, ← e) refl) h)
-        by (Some name) e made = rw (made.0, made.1.0, made.1.1) (step_out _ _ (rw (← none, ← e) refl) h)
+    so_far-plain ws' lines' faults' h none made =
+        rw (made.waiting, made.read, made.found) (step_out _ _ (rw (← none) refl) h)
 
     pub so_far-used : (c : Change) (ws' : List WaitingLine) (faults' : List FaultRead) (n : ℕ)
         → t < source_line_limit → Some c ≡ change_here changes w

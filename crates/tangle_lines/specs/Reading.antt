@@ -129,18 +129,20 @@ module _ (files : FileTable) where
   inclusion w [] = ([], fault_at IncludeNoName (place_of files w.origin) ∷ [])
   inclusion w (b ∷ bs) = included w (b ∷ bs) (file_number files (b ∷ bs))
 
-  -- a line that no change takes becomes a source line, or is replaced by the file that it includes
+  -- what a line gives that no change takes, and the lines that wait in its place: it becomes a
+  -- source line, or is replaced by the file that it includes
+  abbrev pub plain : WaitingLine → Option (List ℕ) → (Reads × List WaitingLine)
+  plain w None =
+      let line : SourceLine = record { bytes = w.bytes; origin = w.origin; changed = w.changed } in
+      (record { lines = line ∷ []; faults = [] }, [])
+  plain w (Some name) = (record { lines = []; faults = (inclusion w name).1 }, (inclusion w name).0)
+
   abbrev pub plain_step : WaitingLine → List WaitingLine → List Change → ℕ → Option (List ℕ)
       → ReadingStep
-  plain_step w ws changes taken None =
-      Goes (record {
-        lines = record { bytes = w.bytes; origin = w.origin; changed = w.changed } ∷ [];
-        faults = [];
-      })
-      (record { waiting = ws; changes = changes; taken = taken + 1 })
-  plain_step w ws changes taken (Some name) =
-      Goes (record { lines = []; faults = (inclusion w name).1 })
-      (record { waiting = (inclusion w name).0 ++ ws; changes = changes; taken = taken + 1 })
+  plain_step w ws changes taken name =
+      let s : State =
+      record { waiting = (plain w name).1 ++ ws; changes = changes; taken = taken + 1 } in
+      Goes (plain w name).0 s
 
 module _ (files : FileTable) (change_file : ℕ) where
   -- the place of a change

@@ -9,10 +9,9 @@ use Rattle.tangle_files.specs.Adding.{most_lines}
 use Rattle.tangle_faults.specs.Faults.{FaultRead}
 use Rattle.tangle_lines.specs.Change.{Change}
 use Rattle.tangle_lines.specs.Inclusion.{included_name}
-use Rattle.tangle_lines.specs.Reading.{WaitingLine, SourceLine, ReadingStep, waiting_lines}
-use Rattle.tangle_lines.specs.Reading.{change_lines, plain_step, reads_from}
+use Rattle.tangle_lines.specs.Reading.{WaitingLine, SourceLine, waiting_lines}
+use Rattle.tangle_lines.specs.Reading.{change_lines, plain, reads_from}
 use Rattle.tangle_lines.specs.Reading.{before_reads, source_line_limit}
-use Rattle.tangle_lines.specs.Reading.ReadingStep.{Ends, Goes}
 
 -- the lines of the open files, of which the last is read first
 abbrev pub stacked : List (List WaitingLine) → List WaitingLine
@@ -31,19 +30,12 @@ abbrev pub IsWithinLimit : Rest → Type 0
 IsWithinLimit (OfFile lines read) = read + length lines.now ≤ most_lines
 IsWithinLimit (OfChange lines) = Unit {0}
 
--- the source lines and faults that a step adds, and the lines that wait after it
-abbrev pub Makes : ReadingStep → List WaitingLine → List SourceLine
-    → List SourceLine → List FaultRead → List FaultRead → Type 0
-Makes (Ends more) waiting lines lines' faults faults' =
-    (lines' ≡ lines) × (faults' ≡ faults ++ more)
-Makes (Goes out s) waiting lines lines' faults faults' =
-    (waiting ≡ s.waiting) × ((lines' ≡ lines ++ out.lines) × (faults' ≡ faults ++ out.faults))
-
 -- a line was read that no change takes
-abbrev pub IsPlain : FileTable → WaitingLine → List WaitingLine → List WaitingLine
-    → List SourceLine → List SourceLine → List FaultRead → List FaultRead → Type 0
-IsPlain files w ws ws' lines lines' faults faults' =
-    Makes (plain_step files w ws [] 0 (included_name w.bytes)) ws' lines lines' faults faults'
+pub record IsPlain (files : FileTable) (w : WaitingLine) (ws ws' : List WaitingLine)
+    (lines lines' : List SourceLine) (faults faults' : List FaultRead) : Type 0 where
+  pub waiting : ws' ≡ (plain files w (included_name w.bytes)).1 ++ ws
+  pub read : lines' ≡ lines ++ (plain files w (included_name w.bytes)).0.lines
+  pub found : faults' ≡ faults ++ (plain files w (included_name w.bytes)).0.faults
 
 -- the first old line of the next change, if it may be used among these lines
 abbrev pub awaited : List Change → Bool → Option (List ℕ)

@@ -59,8 +59,7 @@ pub fn read_source<'a>(
     let mut faults = Vec::new(alloc);
     let (change_file, changes) = changes_of_file(alloc, files, roles.change(), &mut faults)?;
     let web = file_number_or_count(files, roles.web());
-    let mut waiting = Waiting::new(alloc);
-    waiting.open(OpenFile::new(web, files.lines_at(web), false, 1))?;
+    let mut waiting = Waiting::new(alloc, OpenFile::new(web, files.lines_at(web), false, 1));
     let lines = read_on(
         alloc,
         files,

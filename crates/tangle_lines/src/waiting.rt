@@ -14,6 +14,7 @@ use crate::reading::{awaited_line, is_source_line};
 use crate::source::SourceLine;
 use std::alloc::Global;
 use std::marker::Model;
+use std::mem;
 use tangle_files::Line;
 use tangle_streams::NoMemory;
 
@@ -182,54 +183,57 @@ fn plain_count(awaited: Option<&[u8]>, lines: &[Line], limit: usize) -> usize
     count
 }
 
-/// The open files. The last one is read first.
+/// The open files: the one that is read first, and those below it, of which the last one is read
+/// next.
 #[derive(Drop)]
 pub(crate) struct Waiting<'a, 'c> {
-    files: Vec<OpenFile<'a, 'c>>,
+    top: OpenFile<'a, 'c>,
+    below: Vec<OpenFile<'a, 'c>>,
 }
 
 impl<'a, 'c> Model for Waiting<'a, 'c> {
-    ghost use Rattle.std.specs.Prelude.{List};
+    ghost use Rattle.std.specs.Prelude.{List, ◌++◌};
     ghost use Rattle.tangle_lines.specs.Reading.{WaitingLine as WaitingLineRead};
     ghost use Rattle.tangle_lines.specs.Waiting.{stacked};
 
     ghost Value = { List WaitingLineRead };
 
-    ghost view = { λ w. stacked w.files.items };
+    ghost view = { λ w. w.top ++ stacked w.below.items };
 }
 
 impl<'a, 'c> Waiting<'a, 'c> {
-    pub(crate) fn new(alloc: Global) -> Self
-        ensures { result ≡ [] }
+    /// The lines of one file.
+    pub(crate) fn new(alloc: Global, file: OpenFile<'a, 'c>) -> Self
+        ensures { result ≡ file.entry }
     {
         Waiting {
-            files: Vec::new(alloc),
+            top: file,
+            below: Vec::new(alloc),
         }
     }
 
     /// Opens a file, which is read before the others.
+    #[tactic(auto, using(crate::proofs::WaitingLemmas::stacked_push))]
     pub(crate) fn open(&mut self, file: OpenFile<'a, 'c>) -> Result<(), NoMemory>
         ensures { OnOk result (self.new ≡ file.entry ++ self.old) }
     {
-        self.files.push(file)?;
+        let before = mem::replace(&mut self.top, file);
+        self.below.push(before)?;
         Ok(())
     }
 
     /// Takes the first line that waits, if there is one.
+    #[tactic(auto, using(crate::proofs::WaitingLemmas::stacked_push))]
     pub(crate) fn take(&mut self) -> Option<WaitingLine<'a>>
         ensures front { IfSome result (λ w. self.old ≡ w ∷ self.new) }
         ensures none { IfNone result ((self.old ≡ []) × (self.new ≡ [])) }
     {
-        while !self.files.is_empty() {
-            let last = self.files.len() - 1;
-            let top = &mut self.files[last];
-            match top.take() {
-                Some(line) => return Some(line),
-                None => {}
-            }
-            self.files.pop();
+        let mut line = self.top.take();
+        while line.is_none() {
+            self.top = self.below.pop()?;
+            line = self.top.take();
         }
-        None
+        line
     }
 
     /// Takes source lines from the file that is read first, up to an inclusion, a line that a
@@ -247,12 +251,6 @@ impl<'a, 'c> Waiting<'a, 'c> {
         ensures short { OnOk result (All IsShort lines.old.items → All IsShort lines.new.items) }
         ensures limit { IfOk result (λ n. n ≤ limit) }
     {
-        if self.files.is_empty() {
-            return Ok(0);
-        }
-        let last = self.files.len() - 1;
-        let top = &mut self.files[last];
-        let taken = top.take_plain(changes, limit, lines)?;
-        Ok(taken)
+        self.top.take_plain(changes, limit, lines)
     }
 }

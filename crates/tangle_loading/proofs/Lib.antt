@@ -1,7 +1,7 @@
 pub mod AskLemmas
-mod LoadLemmas
-mod NoMissingLemmas
-mod RoundLemmas
-mod StepLemmas
-mod TableLemmas
+pub mod LoadLemmas
+pub mod NoMissingLemmas
+pub mod RoundLemmas
+pub mod StepLemmas
+pub mod TableLemmas
 mod WorkedLoading

@@ -116,7 +116,9 @@ module _ (files : FileTable) (no_missing : IncludesNoMissing files) where
     step_is_clean [] (c ∷ cs) t changes none = refl
     step_is_clean (w ∷ ws) [] t changes none =
         let both = or_parts (misses_waiting w) (list_any misses_waiting ws) none in
-        search (rules, plain_is_clean)
+        cond_both (nat_lt t source_line_limit) (line_step files file w ws [] t None)
+        (Ends (fault_at SourceTooLong (place_of files w.origin) ∷ [])) StepIsClean
+        (λ _. plain_is_clean w ws [] t (included_name w.bytes) both.0 changes both.1) (λ _. refl)
     step_is_clean (w ∷ ws) (c ∷ cs) t changes none =
         let both = or_parts (misses_waiting w) (list_any misses_waiting ws) none in
         let them = or_parts (new_misses c) (list_any new_misses cs) changes in

@@ -8,7 +8,7 @@ use Rattle.std.proofs.lemmas.List.Elements.{All-from_recursion}
 use Rattle.tangle_files.specs.Lines.{FileTable}
 use Rattle.tangle_files.specs.Adding.{has_file, most_files}
 use Rattle.tangle_files.specs.Roles.{RolesRead, fits, has_file_if_any}
-use Rattle.tangle_loading.specs.Loading.{Contents, Load, Loaded, ask_all, bad_name, first_round}
+use Rattle.tangle_loading.specs.Loading.{Contents, Load, LoadEnd, Loaded, ask_all, bad_name, first_round}
 use Rattle.tangle_loading.specs.Loading.{load_of, load_unless, missing_in, missing_of, named_in, round_after}
 use Rattle.tangle_loading.specs.Loading.{rounds_after, so_far}
 use Rattle.tangle_loading.proofs.AskLemmas.{AreThere, AsksOnce, Extends, HasFew, IsAsked, IsKept, all_extend}
@@ -121,18 +121,18 @@ module _ (contents : Contents) (roles : RolesRead) where
   leads_on load e = sym one_more ∙ ap round e ∙ rounds_swap most_files load
 
   -- what each name keeps, loading keeps
-  load_keeps : (P : Load → Type 0) → ((needed : Bool) → IsKept contents P needed)
-      → ((loaded : Loaded) → P (so_far [] loaded)) → P (load_of contents roles)
-  load_keeps P kept start = by (bad_name roles)
+  pub load_keeps : (P : Load → Type 0) → ((needed : Bool) → IsKept contents P needed)
+      → P (so_far [] (Ok [])) → ((ending : LoadEnd) → P (so_far [] (Err ending))) → P (load_of contents roles)
+  load_keeps P kept start ended = by (bad_name roles)
     where
       by : (bad : Option (List ℕ)) → P (load_unless contents bad roles)
-      by (Some bad) = start _
+      by (Some bad) = ended _
       by None = rounds_keep contents P roles (kept false) most_files (first_round contents roles)
-          (all_keep contents P true (kept true) (roles.web ∷ named_in roles.change) (so_far [] (Ok [])) (start (Ok [])))
+          (all_keep contents P true (kept true) (roles.web ∷ named_in roles.change) (so_far [] (Ok [])) start)
 
   pub load_once : AsksOnce contents (load_of contents roles)
   unfolding IsDistinct
-  load_once = load_keeps (AsksOnce contents) (once_more contents) (λ loaded. tt)
+  load_once = load_keeps (AsksOnce contents) (once_more contents) tt (λ ending. tt)
 
   -- a name that is still missing was asked for
   pub none_missing : (files : FileTable) → (load_of contents roles).loaded ≡ Ok files
@@ -142,7 +142,7 @@ module _ (contents : Contents) (roles : RolesRead) where
       let load = load_of contents roles in
       let there = load_keeps (AreThere contents (λ n. contents n ≡ None))
       (λ needed. there_more contents (λ n. contents n ≡ None) needed (λ n _ none. none))
-      (λ loaded table k n any. absurd (cc)) in
+      (λ table k n any. absurd (cc)) (λ ending table k n any. absurd (cc)) in
       let asked = All-from_recursion (IsAsked (round load).asked) (missing_in load.loaded roles)
       (become_asked contents false (missing_in load.loaded roles) load files (ap (λ l. l.loaded) one_more ∙ e)) in
       search (rules, one_more)

@@ -20,7 +20,7 @@ use Rattle.tangle_loading.specs.Loading.{Contents, Load, LoadEnd, Loaded, add_an
 use Rattle.tangle_loading.specs.Loading.LoadEnd.{CannotRead, NoMemory}
 use Rattle.tangle_loading.specs.Endings.{EndsEarly, HasContents, IsGiven, Knows, Step, after_asking, after_failing}
 use Rattle.tangle_loading.specs.Endings.EndsEarly.{HasFailed, IsItsEnd, IsShort}
-use Rattle.tangle_loading.proofs.AskLemmas.{Extends, IsFresh, all_extend, asked_is}
+use Rattle.tangle_loading.proofs.AskLemmas.{Extends, IsFresh, all_extend, asked_is, missed_next}
 
 -- what a folder reports, by each of its clauses
 pub folder_is : {new : FolderRead} {files created : Option (List File)} {asked failed : Option (List (List ℕ))}
@@ -55,16 +55,17 @@ its {start = start} {known = known} knows = by start.files refl
     by None e = (λ name. None, tt)
     by (Some files) e = (file_bytes files, knows.are_its files e)
 
--- nothing is asked for
-pub step_none : (needed : Bool) (names : List (List ℕ)) (old : FolderRead) (asked : List (List ℕ)) (files : FileTable)
-    → ((contents : Contents) → ask_all contents needed (so_far asked (Ok files)) names ≡ so_far asked (Ok files))
-    → Step needed names [] old (so_far asked (Ok files)) old (so_far asked (Ok files))
-step_none needed names old asked files same =
-    record { to = λ start known knows. (λ contents. contents, knows, λ contents. same (known contents)) }
+-- nothing more is asked for
+pub step_same : {needed : Bool} {names left : List (List ℕ)} {old : FolderRead} {asked : List (List ℕ)}
+    {files : FileTable}
+    → ((contents : Contents) → ask_all contents needed (so_far asked (Ok files)) names
+    ≡ ask_all contents needed (so_far asked (Ok files)) left)
+    → Step needed names left old (so_far asked (Ok files)) old (so_far asked (Ok files))
+step_same same = record { to = λ start known knows. (λ contents. contents, knows, λ contents. same (known contents)) }
 
 pub step_begins : {needed : Bool} {names : List (List ℕ)} {old : FolderRead} {asked : List (List ℕ)} {files : FileTable}
     → Step needed names names old (so_far asked (Ok files)) old (so_far asked (Ok files))
-step_begins = record { to = λ start known knows. (λ contents. contents, knows, λ contents. refl) }
+step_begins = step_same (λ contents. refl)
 
 pub step_short : (needed : Bool) (names : List (List ℕ)) (old : FolderRead) (before : Load) (new : FolderRead)
     (now : List (List ℕ)) → new ≡ old → Step needed names [] old before new (so_far now (Err NoMemory))
@@ -200,3 +201,7 @@ is_too_big None needed files name h =
     (Some (longer_than file_limit).0, tt, over_limit needed files name (Some _) (longer_than file_limit).1)
 is_too_big (Some all) needed files name h =
     (file_bytes all name, refl, over_limit needed files name (file_bytes all name) h)
+
+pub ruleset next_name = (step_begins, step_next, missed_next)
+
+pub ruleset once = (step_same, asked_is, step_short, folder_is, step_failed)

@@ -3,6 +3,7 @@ use Rattle.std.specs.Prelude.{◌≡◌, ◌⊎◌, ℕ, Bool, false, List, [], 
 use Rattle.std.specs.Prelude.{None, Some, IfSome, Result, Ok, Err}
 use Rattle.std.specs.List.{fold, list_any}
 use Rattle.std.specs.Str.{bytes_eq}
+use Rattle.std.specs.Result.{result_map_both}
 use Rattle.tangle_files.specs.declared.refusal.Refusal.{Refusal}
 use Rattle.tangle_files.specs.declared.refusal.Refusal.TheVariants.{NoMemory as RefusalMemory}
 use Rattle.tangle_files.specs.Lines.{FileTable, file_number, lines_at}
@@ -68,8 +69,7 @@ ending_of fault.NoMemory = NoMemory
 
 -- the files, or why there are none, after a call with this result
 abbrev pub given : {T : Type 0} → FileTable → Result T LoadFault → Loaded
-given files (Ok done) = Ok files
-given files (Err fault) = Err (ending_of fault)
+given files result = result_map_both (λ done. files) ending_of result
 
 -- The folder was asked for these names since loading began. `known` puts what it answered into any
 -- contents; it leaves other names as they are.

@@ -9,12 +9,14 @@ ghost use Rattle.tangle_files.specs.Roles.{RolesRead};
 ghost use Rattle.tangle_loading.specs.Loading.{Contents, load_of, missing_of, round_after};
 
 /// Loading goes on to its end: one more round asks for nothing.
+#[tactic(auto, using(crate::proofs::RoundLemmas::one_more))]
 pub fn one_more_round_changes_nothing()
     ensures { (contents : Contents) (roles : RolesRead)
         → round_after contents roles (load_of contents roles) ≡ load_of contents roles }
 {}
 
 /// No name is asked for twice.
+#[tactic(auto, using(crate::proofs::RoundLemmas::load_once))]
 pub fn each_name_is_asked_for_once()
     ensures { (contents : Contents) (roles : RolesRead)
         → IsDistinct bytes_eq (load_of contents roles).asked }
@@ -22,6 +24,7 @@ pub fn each_name_is_asked_for_once()
 
 /// If an included file is still missing after loading, and its name is a file name, the folder has
 /// no file of that name.
+#[tactic(auto, using(crate::proofs::RoundLemmas::none_missing))]
 pub fn missing_names_are_not_there()
     ensures { (contents : Contents) (roles : RolesRead) (files : FileTable)
         → (load_of contents roles).loaded ≡ Ok files

@@ -3,6 +3,7 @@ ghost use Rattle.std.specs.Prelude.{◌≡◌, ◌≤◌, ◌∷◌, ◌++◌, �
 ghost use Rattle.std.specs.Prelude.{false, Err, IfErr, IfOk, None, Ok, OnOk};
 ghost use Rattle.std.specs.List.{list_any};
 ghost use Rattle.std.specs.Option.{option_copied};
+ghost use Rattle.std.specs.Result.{result_map_both};
 ghost use Rattle.std.specs.Str.{bytes_eq};
 ghost use Rattle.tangle_folders.specs.Folder.{file_limit};
 ghost use Rattle.tangle_files.specs.Roles.{fits};
@@ -120,6 +121,7 @@ fn add_file(alloc: Global, files: &mut Files, name: &[u8], bytes: Vec<u8>) -> Re
 
 // Asks for a file, unless it was asked for before, and adds it to the table. Where the folder does
 // not have it, loading ends if it is needed.
+#[tactic(auto, using(crate::proofs::StepLemmas::once))]
 fn read_once<F: Folder>(
     alloc: Global,
     folder: &mut F,
@@ -172,6 +174,7 @@ fn is_missed(fault: &Fault) -> bool
 
 // Reads the missing files that these faults of reading name. A file stays missing where the folder
 // has none of that name, or the name is no file name.
+#[tactic(auto, using(crate::proofs::StepLemmas::next_name))]
 fn read_inclusions<F: Folder>(
     alloc: Global,
     folder: &mut F,
@@ -221,6 +224,7 @@ fn includes_no_missing(files: &Files) -> bool
 
 // The faults of reading these files, or none where each included file is in the table: only the
 // faults about missing files matter here, so the sources need not be read then.
+#[tactic(auto, using(crate::proofs::NoMissingLemmas::missing_is_empty), unfolding(crate::specs::Loading::missing_of))]
 fn faults_of(alloc: Global, files: &Files, roles: &Roles) -> Result<Vec<Fault>, NoMemory>
     requires { fits files.now roles.now ≡ true }
     ensures { IfOk result (λ faults. missed_in faults.items ≡ missing_of files.now roles.now) }
@@ -252,11 +256,9 @@ fn first_bad(names: &Words) -> Option<&[u8]>
 // Loads the files of roles whose three names are file names.
 fn load_files<F: Folder>(alloc: Global, roles: &Roles, folder: &mut F) -> Result<Files, LoadFault>
     requires { bad_name roles.now ≡ None }
-    ensures ok { IfOk result
-        (λ files. LoadGives roles.now (F.state folder.old) (F.state folder.new) (Ok files)) }
+    ensures gives { LoadGives roles.now (F.state folder.old) (F.state folder.new)
+        (result_map_both (λ files. files) ending_of result) }
     ensures fits { IfOk result (λ files. fits files roles.now ≡ true) }
-    ensures err { IfErr result (λ fault. LoadGives roles.now (F.state folder.old)
-        (F.state folder.new) (Err (ending_of fault))) }
 {
     let mut files = Files::new(alloc);
     let mut asked = Asked::new(alloc);
@@ -291,17 +293,16 @@ fn load_files<F: Folder>(alloc: Global, roles: &Roles, folder: &mut F) -> Result
 /// of one at which the folder failed. `Refused` with a name and `BadName` where one of the three
 /// names is no file name, and with `TooManyFiles`, `LineTooLong` or `TooManyLines` where the table
 /// of files refuses a file. `NoMemory` where an allocation failed.
+#[tactic(auto, using(crate::proofs::LoadLemmas::unused))]
 pub fn load<F: Folder>(
     alloc: Global,
     names: &Words,
     folder: &mut F,
 ) -> Result<(Files, Roles), LoadFault>
-    ensures ok { IfOk result
-        (λ r. LoadGives names.now (F.state folder.old) (F.state folder.new) (Ok r.0)) }
+    ensures gives { LoadGives names.now (F.state folder.old) (F.state folder.new)
+        (result_map_both (λ r. r.0) ending_of result) }
     ensures roles { IfOk result (λ r. r.1 ≡ names.now) }
     ensures fits { IfOk result (λ r. fits r.0 r.1 ≡ true) }
-    ensures err { IfErr result (λ fault. LoadGives names.now (F.state folder.old)
-        (F.state folder.new) (Err (ending_of fault))) }
 {
     if let Some(name) = first_bad(names) {
         return Err(refused(alloc, name, Refusal::BadName));

@@ -45,12 +45,12 @@ bare-alike : (old new : List OccurrenceRead) → AreWrittenAlike old new → map
 bare-alike old new alike =
     sym (map-map plain written_form old) ∙ (ap (map plain) alike ∙ map-map plain written_form new)
 
-pub table-alike : (old new : List OccurrenceRead) → AreWrittenAlike old new → table_over old ≡ table_over new
-table-alike old new alike = sym (table-bare old) ∙ (ap table_over (bare-alike old new alike) ∙ table-bare new)
+pub table_alike : (old new : List OccurrenceRead) → AreWrittenAlike old new → table_over old ≡ table_over new
+table_alike old new alike = sym (table-bare old) ∙ (ap table_over (bare-alike old new alike) ∙ table-bare new)
 
-pub alike-at : (old new : List OccurrenceRead) (i : ℕ) (o n : OccurrenceRead)
+pub alike_at : (old new : List OccurrenceRead) (i : ℕ) (o n : OccurrenceRead)
     → AreWrittenAlike old new → i < length old → i < length new → o ≡ get_or old i o → n ≡ get_or new i n
     → written_form o ≡ written_form n
-alike-at old new i o n alike h g at by =
+alike_at old new i o n alike h g at by =
     ap written_form at
     ∙ (sym (get_or-map written_form old i o (written_form o) h) ∙ (search (rules, get_or-map)))

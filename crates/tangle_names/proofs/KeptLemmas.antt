@@ -1,9 +1,8 @@
 -- The numbers that a resolution has beside the names, and the faults that are found from them.
 use Rattle.std.proofs.Common.{rules}
-use Rattle.std.proofs.Common.{◌≡◌, ◌<◌, ◌+◌, ◌∙◌, ℕ, Bool, false, cond, not, ◌&&◌, List, [], ◌++◌}
+use Rattle.std.proofs.Common.{◌≡◌, ◌<◌, ◌+◌, ◌∙◌, ℕ, Bool, cond, List, [], ◌++◌}
 use Rattle.std.proofs.Common.{length, map, flat_map, take, get_or, ap}
 use Rattle.std.proofs.Common.{append-nil, option_to_list}
-use Rattle.std.specs.Str.{bytes_eq}
 use Rattle.std.proofs.lemmas.List.{get_or-map, get_or_default, take_more}
 use Rattle.std.proofs.lemmas.List.Folds.{find_at}
 use Rattle.std.proofs.lemmas.List.Concat.{flat_map-append}
@@ -12,34 +11,32 @@ use Rattle.tangle_faults.specs.Faults.{fault_about}
 use Rattle.tangle_lexer.specs.Occurrences.{OccurrenceRead}
 use Rattle.tangle_scan.specs.Web.{WebRead}
 use Rattle.tangle_names.specs.Faults.{begins_another, prefix_fault, named_place_of}
-use Rattle.tangle_names.specs.Names.{NameText, begins_with, full_names}
-use Rattle.tangle_names.specs.Numbers.{begins_another_by_number, warning}
+use Rattle.tangle_names.specs.Names.{NameText, full_names}
+use Rattle.tangle_names.specs.Numbers.{warning}
 use Rattle.tangle_names.specs.NameTable.{TableRead}
 use Rattle.tangle_names.specs.Resolution.{IsResolutionOf}
 use Rattle.tangle_names.specs.declared.resolution.Resolution.{Resolution}
 use Rattle.tangle_names.specs.Resolving.{first_number, first_occurrence, names_in_order}
 use Rattle.tangle_names.specs.Sorted.{SameTexts}
 use Rattle.tangle_names.proofs.LawLemmas.{same}
-use Rattle.tangle_names.proofs.TableLemmas.{any-same, begins-known, by_numbers}
+use Rattle.tangle_names.proofs.MeaningLemmas.{begins-several, itself}
+use Rattle.std.proofs.lemmas.List.Elements.{Contains-get_or}
+use Rattle.std.proofs.Common.{Contains, sym}
 
--- the names that begin others
-same_names : (os : List OccurrenceRead) → SameTexts (names_in_order os) (full_names os)
-same_names os = record { over = λ t. (same os t).0; back = λ t. (same os t).1 }
+pub names_same : (os : List OccurrenceRead) (texts : List NameText) → SameTexts (full_names os) texts
+    → SameTexts (names_in_order os) texts
+names_same os texts same_texts = record {
+  over = λ t c. same_texts.over t ((same os t).0 c);
+  back = λ t c. (same os t).1 (same_texts.back t c);
+}
 
-begins_same : (os : List OccurrenceRead) (name : NameText)
+-- a name begins another full name if it begins another of the names
+begins_same : (os : List OccurrenceRead) (name : NameText) → Contains (names_in_order os) name
     → begins_another (full_names os) name ≡ begins_another (names_in_order os) name
-begins_same os name = any-same (λ (other : NameText). begins_with name other && not (bytes_eq name other))
-    (names_in_order os) (full_names os) (same_names os)
-
-pub begins_are : (os : List OccurrenceRead) (texts : List NameText) (flags : List Bool)
-    → SameTexts (full_names os) texts → length flags ≡ length (names_in_order os)
-    → ((id : ℕ) → id < length (names_in_order os)
-    → get_or flags id false ≡ begins_another_by_number (names_in_order os) texts id)
-    → flags ≡ map (begins_another (names_in_order os)) (names_in_order os)
-begins_are os texts flags same long known =
-    let names = names_in_order os in
-    by_numbers (begins_another names) names flags false long
-    (λ id h. known id h ∙ begins-known os texts id same h ∙ begins_same os (get_or names id []))
+begins_same os name c =
+    let full = itself (full_names os) in
+    begins-several (full_names os) (full_names os) name full ((same os name).0 c)
+    ∙ sym (begins-several (names_in_order os) (full_names os) name (names_same os (full_names os) full) c)
 
 warning-is : (web : WebRead) (name : NameText)
     → warning web (first_number web.occurrences name) name
@@ -60,6 +57,7 @@ warned web r id flag first name d h low flagged at is =
     ∙ get_or-map (begins_another names) names id [] flag inside in
     let number = at ∙ ap (λ (t : TableRead). get_or t.first_occurrences id first) h.table
     ∙ get_or-map (first_number web.occurrences) names id [] first inside in
+    let among = begins_same web.occurrences (get_or names id []) (Contains-get_or names id [] inside) in
     let text = is ∙ ap (λ l. get_or l id d) named ∙ get_or_default names id d [] inside in
     let more = take_more names id [] inside in
-    rw (begins, number, text) (search (rules, more, begins_same, warning-is, flat_map-append, append-nil))
+    rw (begins, number, text) (search (rules, more, among, warning-is, flat_map-append, append-nil))

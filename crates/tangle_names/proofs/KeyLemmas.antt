@@ -1,8 +1,7 @@
 -- Positions in a list, and the number of a name.
 use Rattle.std.proofs.Common.{rules}
-use Rattle.std.proofs.Common.{◌≡◌, ◌+◌, ℕ, Bool, cond, not, List, [], ◌∷◌}
-use Rattle.std.proofs.Common.{length, map, refl, ap, position, Option}
-use Rattle.std.specs.Prelude.{unwrap_or}
+use Rattle.std.proofs.Common.{◌≡◌, ◌+◌, Bool, cond, not, List, [], ◌∷◌}
+use Rattle.std.proofs.Common.{length, map, refl, ap, position, None}
 use Rattle.std.specs.List.{position_or_len}
 use Rattle.std.specs.Str.{bytes_eq}
 use Rattle.std.proofs.lemmas.List.{length-map}
@@ -18,7 +17,6 @@ pub position-map : {X Y : Type 0} (q : Y → Bool) (f : X → Y) (xs : List X)
     → position q (map f xs) ≡ position (λ x. q (f x)) xs
 position-map q f xs = cc (position_or_len-map q f xs, length-map xs f)
 
-pub number_is : (names : List NameText) (text : NameText) (found : Option ℕ) (len : ℕ)
-    → found ≡ position (bytes_eq text) names → len ≡ length names
-    → unwrap_or found len ≡ position_or_len (bytes_eq text) names
-number_is names text found len e l = search (rules, prefix_len-le-length)
+pub number_after : (names : List NameText) (text : NameText)
+    → None ≡ position (bytes_eq text) names → length names ≡ position_or_len (bytes_eq text) names
+number_after names text none = search (rules, prefix_len-le-length)

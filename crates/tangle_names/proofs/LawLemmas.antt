@@ -15,10 +15,10 @@ use Rattle.tangle_names.specs.Names.{NameText, Meaning, Nothing, One, Several, f
 use Rattle.tangle_names.specs.Names.{only_with, prefix}
 use Rattle.tangle_names.specs.Resolving.{first_occurrence, names_in_order, resolve, resolved_meaning}
 use Rattle.tangle_names.specs.Resolving.{resolves_to}
-use Rattle.tangle_names.specs.Laws.{IsNumberOf, ResolvesFull, ResolvesPrefix}
+use Rattle.tangle_names.specs.Laws.{Begins, IsNumberOf, ResolvesFull, ResolvesPrefix}
 use Rattle.tangle_names.proofs.ContainsLemmas.{out_of_filter}
 use Rattle.tangle_names.proofs.ContainsLemmas.{out_of_map}
-use Rattle.tangle_names.proofs.MeaningLemmas.{Fits, any_inside, contains-any, list_any-some, only_with-fits}
+use Rattle.tangle_names.proofs.MeaningLemmas.{Fits, any_inside, contains-any, itself, list_any-some, only_with-fits}
 use Rattle.tangle_names.proofs.ResolvingLemmas.{named_if_resolved}
 use Rattle.tangle_names.proofs.TableLemmas.{distinct_names, names_are_full}
 
@@ -61,7 +61,8 @@ full_law os o c is =
     (sym itself) (number-at o.text (names_in_order os) (among os o o.text c itself))
 
 prefix_law-by : (os : List OccurrenceRead) (p : NameText) (m : Meaning)
-    → Fits (full_names os) p m → ((t : NameText) → m ≡ One t → list_any (bytes_eq t) (names_in_order os) ≡ true)
+    → Fits (Begins (full_names os) p) m
+    → ((t : NameText) → m ≡ One t → list_any (bytes_eq t) (names_in_order os) ≡ true)
     → ResolvesPrefix (names_in_order os) (full_names os) p (resolved_meaning (names_in_order os) m)
 prefix_law-by os p Nothing f named = f
 prefix_law-by os p (One t) f named = (t, number-at t (names_in_order os) (named t refl), f)
@@ -72,7 +73,8 @@ pub prefix_law : (os : List OccurrenceRead) (o : OccurrenceRead) → Contains os
 prefix_law os o c is =
     let means = ap (λ b. cond b (only_with (full_names os) (prefix o.text)) (One o.text)) is in
     prefix_law-by os (prefix o.text) (meaning (full_names os) o)
-    (rw means (only_with-fits (full_names os) (prefix o.text))) (λ t e. among os o t c e)
+    (rw means (only_with-fits (full_names os) (full_names os) (prefix o.text) (itself (full_names os))))
+    (λ t e. among os o t c e)
 
 -- an occurrence resolves to each name
 found_first : (q : OccurrenceRead → Bool) (os : List OccurrenceRead) → list_any q os ≡ true → IsSome (find q os)

@@ -1,11 +1,11 @@
-mod AlikeLemmas
+pub mod AlikeLemmas
 pub mod ContainsLemmas
+pub mod BeginningLemmas
 pub mod FirstLemmas
 mod KeptLemmas
 mod KeyLemmas
 pub mod LawLemmas
 mod MeaningLemmas
-mod NumberLemmas
 mod OrderLemmas
 mod ResolvingLemmas
 mod SortedLemmas

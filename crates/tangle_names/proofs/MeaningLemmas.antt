@@ -1,6 +1,6 @@
 -- Whether a list has no text, one or several, and whether an item of it passes a test.
 use Rattle.std.proofs.lemmas.Bool.Decides.{nat_tests}
-use Rattle.std.proofs.Common.{◌≡◌, ◌∙◌, Bool, true, false, filter, List, [], ◌∷◌, refl, ap, sym}
+use Rattle.std.proofs.Common.{◌≡◌, ◌≢◌, ◌∙◌, ◌&&◌, not, Bool, true, false, filter, List, [], ◌∷◌, refl, ap, sym}
 use Rattle.std.proofs.Common.{inl, inr, Contains, map, ◌||◌, arith, get_or, length, ◌<◌, ◌≤◌}
 use Rattle.std.specs.List.{list_all, list_any, position_or_len}
 use Rattle.std.proofs.lemmas.List.Elements.{All-contains, Contains-get_or}
@@ -10,19 +10,20 @@ use Rattle.std.proofs.lemmas.Map.Views.{Contains-from_any}
 use Rattle.std.specs.Str.{bytes_eq}
 use Rattle.std.proofs.lemmas.Slice.Eq.{bytes_eq-Decides}
 use Rattle.tangle_names.specs.Names.{NameText, Meaning, Nothing, One, Several, begins_with, only, only_with}
-use Rattle.tangle_names.specs.Laws.{BothBegin, IsOnlyWith}
-use Rattle.tangle_names.specs.Sorted.{SameTexts}
-use Rattle.std.proofs.lemmas.Bool.{cases_Bool, cond_both, false_from_ne_true}
+use Rattle.tangle_names.specs.Laws.{Begins, HasSeveral, IsOnly}
+use Rattle.tangle_names.specs.Sorted.{SameTexts, is_several}
+use Rattle.std.proofs.lemmas.Bool.{and_parts, cases_Bool, cond_both, false_from_ne_true}
+use Rattle.tangle_names.specs.Faults.{begins_another}
 use Rattle.tangle_names.proofs.ContainsLemmas.{here, there, no_item, cons_cases, into_filter, out_of_filter}
 
 pub list_all-at : {X : Type 0} (q : X → Bool) (xs : List X) (u : X) → list_all q xs ≡ true → Contains xs u → q u ≡ true
 list_all-at q xs u h c = All-contains (λ v. q v ≡ true) xs u (AllPass-from_list_all q xs h) c
 
--- what the names that begin with a prefix mean
-abbrev pub Fits : List NameText → NameText → Meaning → Type 0
-Fits full p Nothing = (name : NameText) → Contains full name → begins_with p name ≡ false
-Fits full p (One name) = IsOnlyWith full p name
-Fits full p Several = (name : NameText) × (other : NameText) × BothBegin full p name other
+-- what the names mean of which this holds
+abbrev pub Fits : (NameText → Type 0) → Meaning → Type 0
+Fits P Nothing = (name : NameText) → P name → ⊥
+Fits P (One name) = IsOnly P name
+Fits P Several = HasSeveral P
 
 as_first : (x : NameText) (xs : List NameText)
     → list_all (bytes_eq x) xs ≡ true → (v : NameText) → Contains (x ∷ xs) v → v ≡ x
@@ -38,74 +39,47 @@ fails q (x ∷ xs) h = elim (cases_Bool (q x)) [
   | inr e ↦ (x, here x xs, e)
 ]
 
-pub only_with-fits : (full : List NameText) (p : NameText) → Fits full p (only_with full p)
-only_with-fits full p =
-    by (filter (begins_with p) full) (into_filter (begins_with p) full) (out_of_filter (begins_with p) full)
+-- of the names that begin with a prefix, by a list with the same texts
+pub only_with-fits : (full texts : List NameText) (p : NameText) → SameTexts full texts
+    → Fits (Begins full p) (only_with texts p)
+only_with-fits full texts p same =
+    by (filter (begins_with p) texts)
+    (λ t b. into_filter (begins_with p) texts t (same.over t b.is_full) b.begins)
+    (λ t c. let out = out_of_filter (begins_with p) texts t c in
+    record { is_full = same.back t out.0; begins = out.1 })
   where
-    by : (xs : List NameText)
-        → ((t : NameText) → Contains full t → begins_with p t ≡ true → Contains xs t)
-        → ((t : NameText) → Contains xs t → Contains full t × (begins_with p t ≡ true)) → Fits full p (only xs)
-    by [] into out = λ t c. false_from_ne_true _ (λ begun. no_item t (into t c begun))
+    by : (xs : List NameText) → ((t : NameText) → Begins full p t → Contains xs t)
+        → ((t : NameText) → Contains xs t → Begins full p t) → Fits (Begins full p) (only xs)
+    by [] into out = λ t b. no_item t (into t b)
     by (x ∷ xs) into out =
-        let first = out x (here x xs) in
-        cond_both (list_all (bytes_eq x) xs) (One x) Several (Fits full p)
-        (λ all. record {
-          is_full = first.0;
-          begins = first.1;
-          only = λ other c begun. as_first x xs all other (into other c begun);
-        })
+        cond_both (list_all (bytes_eq x) xs) (One x) Several (Fits (Begins full p))
+        (λ all. (out x (here x xs), λ other b. as_first x xs all other (into other b)))
         (λ some.
         let other = fails (bytes_eq x) xs some in
-        let second = out other.0 (there x xs other.0 other.1) in (
-          x,
-          other.0,
-          record {
-            first_is_full = first.0;
-            second_is_full = second.0;
-            first_begins = first.1;
-            second_begins = second.1;
-            differ = grind (arith, nat_tests, bytes_eq-Decides x other.0);
-          },
-        ))
+        let differ : x ≢ other.0 = grind (arith, nat_tests, bytes_eq-Decides x other.0) in
+        (x, other.0, out x (here x xs), out other.0 (there x xs other.0 other.1), differ))
 
-fits-same : (full : List NameText) (p : NameText) (m n : Meaning) → Fits full p m → Fits full p n → m ≡ n
-fits-same full p Nothing Nothing f g = refl
-fits-same full p Nothing (One u) f g = absurd (let clash = f u g.is_full in cc)
-fits-same full p Nothing Several f g = absurd (let clash = f g.0 g.2.first_is_full in cc)
-fits-same full p (One t) (One u) f g = ap One (g.only t f.is_full f.begins)
-fits-same full p (One t) Several f g =
-    absurd (g.2.differ (f.only g.0 g.2.first_is_full g.2.first_begins
-    ∙ sym (f.only g.1 g.2.second_is_full g.2.second_begins)))
-fits-same full p Several Several f g = refl
-fits-same full p (One t) Nothing f g = absurd (let clash = g t f.is_full in cc)
-fits-same full p Several Nothing f g = absurd (let clash = g f.0 f.2.first_is_full in cc)
-fits-same full p Several (One u) f g =
-    absurd (f.2.differ (g.only f.0 f.2.first_is_full f.2.first_begins
-    ∙ sym (g.only f.1 f.2.second_is_full f.2.second_begins)))
+fits-once : (P : NameText → Type 0) (m n : Meaning) → Fits P m → Fits P n → m ≡ n
+fits-once P Nothing Nothing f g = refl
+fits-once P Nothing (One u) f g = absurd (f u g.0)
+fits-once P Nothing Several f g = absurd (f g.0 g.2)
+fits-once P (One t) Nothing f g = absurd (g t f.0)
+fits-once P (One t) (One u) f g = ap One (g.1 t f.0)
+fits-once P (One t) Several f g = absurd (g.4 (f.1 g.0 g.2 ∙ sym (f.1 g.1 g.3)))
+fits-once P Several Nothing f g = absurd (g f.0 f.2)
+fits-once P Several (One u) f g = absurd (f.4 (g.1 f.0 f.2 ∙ sym (g.1 f.1 f.3)))
+fits-once P Several Several f g = refl
 
--- what names mean is what lists with the same texts mean
-pub meant : (full texts : List NameText) (p : NameText) (m : Meaning)
-    → SameTexts full texts → Fits texts p m → m ≡ only_with full p
-meant full texts p m same f = fits-same full p m _ (by m f) (only_with-fits full p)
-  where
-    by : (m : Meaning) → Fits texts p m → Fits full p m
-    by Nothing f = λ name c. f name (same.over name c)
-    by (One t) f = record {
-      is_full = same.back t f.is_full;
-      begins = f.begins;
-      only = λ other c begun. f.only other (same.over other c) begun;
-    }
-    by Several f = (
-      f.0,
-      f.1,
-      record {
-        first_is_full = same.back f.0 f.2.first_is_full;
-        second_is_full = same.back f.1 f.2.second_is_full;
-        first_begins = f.2.first_begins;
-        second_begins = f.2.second_begins;
-        differ = f.2.differ;
-      },
-    )
+pub itself : (texts : List NameText) → SameTexts texts texts
+itself texts = record { over = λ t c. c; back = λ t c. c }
+
+pub meant : (texts : List NameText) (p : NameText) (m : Meaning) → Fits (Begins texts p) m → m ≡ only_with texts p
+meant texts p m f = fits-once (Begins texts p) m _ f (only_with-fits texts texts p (itself texts))
+
+pub only_with-same : (full texts : List NameText) (p : NameText) → SameTexts full texts
+    → only_with texts p ≡ only_with full p
+only_with-same full texts p same =
+    meant full p (only_with texts p) (only_with-fits full texts p same)
 
 pub list_any-none : {X : Type 0} (q : X → Bool) (xs : List X)
     → ((v : X) → Contains xs v → q v ≡ false) → list_any q xs ≡ false
@@ -117,6 +91,30 @@ list_any-some q xs v c is = list_any-from_Any q xs (c.0, v, c.1, c.2, is)
 
 pub contains-any : (t : NameText) (ts : List NameText) → list_any (bytes_eq t) ts ≡ true → Contains ts t
 contains-any t ts h = Contains-from_any {eq = bytes_eq} (λ x y e. (bytes_eq-Decides x y).0 e) t ts h
+
+pub begins_itself : (t : NameText) → begins_with t t ≡ true
+begins_itself [] = refl
+begins_itself (b ∷ t) = grind (arith, nat_tests, begins_itself t)
+
+-- a name of these begins another exactly where several of them begin with it
+pub begins-several : (full texts : List NameText) (name : NameText) → SameTexts full texts → Contains full name
+    → begins_another full name ≡ is_several (only_with texts name)
+begins-several full texts name same c = by (only_with texts name) (only_with-fits full texts name same)
+  where
+    own : Begins full name name
+    own = record { is_full = c; begins = begins_itself name }
+
+    by : (m : Meaning) → Fits (Begins full name) m → begins_another full name ≡ is_several m
+    by Nothing f = absurd (f name own)
+    by (One t) f = list_any-none _ full (λ u d. false_from_ne_true _ (λ is.
+        let both = and_parts (begins_with name u) (not (bytes_eq name u)) is in
+        let same : u ≡ name = f.1 u (record { is_full = d; begins = both.0 }) ∙ sym (f.1 name own) in
+        grind (arith, nat_tests, bytes_eq-Decides name u)))
+    by Several f = elim (cases_Bool (bytes_eq name f.0)) [
+      | inl is ↦ list_any-some _ full f.1 f.3.is_full
+          (grind (arith, nat_tests, bytes_eq-Decides name f.0, bytes_eq-Decides name f.1))
+      | inr is ↦ list_any-some _ full f.0 f.2.is_full (λ i. f.2.begins i && not (is i))
+    ]
 
 pub any-map : {X Y : Type 0} (q : Y → Bool) (f : X → Y) (xs : List X)
     → list_any q (map f xs) ≡ list_any (λ x. q (f x)) xs

@@ -1,8 +1,8 @@
 -- The sorted full names: how a sort gives them, and where those are that begin with a prefix.
 use Rattle.std.proofs.Common.{rules}
 use Rattle.std.proofs.lemmas.Bool.Decides.{nat_tests}
-use Rattle.std.proofs.Common.{◌≡◌, ◌≢◌, ◌≤◌, ◌<◌, ◌+◌, ◌∙◌, ℕ, zero, suc, true, false, not, ◌&&◌, List, []}
-use Rattle.std.proofs.Common.{◌∷◌, length, get_or, refl, ap, sym, subst, inl, inr, arith, Contains}
+use Rattle.std.proofs.Common.{◌≡◌, ◌≤◌, ◌<◌, ◌+◌, ◌∙◌, ℕ, true, false, List, []}
+use Rattle.std.proofs.Common.{◌∷◌, length, get_or, refl, ap, sym, subst, arith, Contains}
 use Rattle.std.specs.Borrow.{Bor}
 use Rattle.std.specs.List.{dedup, dedup_from}
 use Rattle.std.specs.Ordering.{nat_cmp, is_lt, is_le, is_gt}
@@ -11,19 +11,19 @@ use Rattle.std.specs.declared.cmp.Ordering.TheVariants.{Less, Equal, Greater}
 use Rattle.std.specs.Cmp.Lexicographic.{slice_cmp, texts_ties}
 use Rattle.std.specs.List.Sorted.{IsPartitionedBy, IsPartitionPoint, IsSorted, IsPermutation}
 use Rattle.std.specs.Str.{bytes_eq}
-use Rattle.std.proofs.lemmas.Bool.{cases_lt, false_from_ne_true, and_parts}
 use Rattle.std.proofs.lemmas.Cmp.{nat_list_cmp_total, nat_list_eq_equiv}
 use Rattle.std.proofs.lemmas.List.{get_or-map, length-map, get_or_default}
-use Rattle.std.proofs.lemmas.List.Elements.{All-contains, Contains-get_or}
+use Rattle.std.proofs.lemmas.List.Elements.{Contains-get_or}
 use Rattle.std.proofs.lemmas.List.Kept.{Contains-dedup, Contains-from_dedup, IsStrictlySortedBy-dedup}
 use Rattle.std.proofs.lemmas.List.Sorted.{IsPermutation-map, IsPermutation-sym, Contains-permutation}
-use Rattle.std.proofs.lemmas.Map.Keys.{sorted_tail}
-use Rattle.std.proofs.lemmas.Map.Views.{All-after_first}
+use Rattle.std.proofs.lemmas.Map.Keys.{Less-from_sorted}
+use Rattle.std.proofs.lemmas.Bool.{cases_lt}
+use Rattle.std.proofs.Common.{inl, inr, ap}
 use Rattle.std.proofs.lemmas.Slice.Eq.{bytes_eq-Decides}
 use Rattle.tangle_names.specs.Names.{NameText, Nothing, One, Several, begins_with}
-use Rattle.tangle_names.specs.Faults.{begins_another}
+use Rattle.tangle_names.specs.Laws.{Begins}
 use Rattle.tangle_names.specs.Sorted.{BeginsAt, IsInOrder, SameTexts, borrowed_names}
-use Rattle.tangle_names.proofs.MeaningLemmas.{Fits, list_any-none, list_any-some}
+use Rattle.tangle_names.proofs.MeaningLemmas.{Fits}
 use Rattle.tangle_names.proofs.OrderLemmas.{begins-above, begins-between}
 
 pub size : (sorted : List (Bor NameText)) → length (borrowed_names sorted) ≡ length sorted
@@ -33,23 +33,16 @@ pub at_text : (sorted : List (Bor NameText)) (k : ℕ) (d : Bor NameText)
     → k < length sorted → get_or (borrowed_names sorted) k [] ≡ (get_or sorted k d).now
 at_text sorted k d h = get_or-map (λ (b : Bor NameText). b.now) sorted k d [] h
 
--- of two names the first is below the second
-pub rising : (texts : List NameText) → IsInOrder texts → (i j : ℕ)
-    → i < j → j < length texts → slice_cmp nat_cmp (get_or texts i []) (get_or texts j []) ≡ Less
-rising (t ∷ ts) up zero (suc j) low high =
-    let inside : j < length ts = omega arith in
-    All-contains (λ u. slice_cmp nat_cmp t u ≡ Less) ts (get_or ts j [])
-    (All-after_first (slice_cmp nat_cmp) t ts up) (Contains-get_or ts j [] inside)
-rising (t ∷ ts) up (suc i) (suc j) low high = grind (arith, nat_tests, rising ts, sorted_tail)
-rising texts up i j low high = absurd (omega arith)
-
 alike : (t : NameText) → slice_cmp nat_cmp t t ≡ Equal
 alike t = grind (arith, nat_tests, nat_list_cmp_total.antisymm t t)
 
 -- in an ordered list no text is above a later one, nor above itself
 pub no_higher : (texts : List NameText) → IsInOrder texts → (i j : ℕ)
     → i ≤ j → j < length texts → is_gt (slice_cmp nat_cmp (get_or texts i []) (get_or texts j [])) ≡ false
-no_higher texts up i j low high = search (rules, rising, alike)
+no_higher texts up i j low high = elim (cases_lt i j) [
+  | inl less ↦ ap is_gt (Less-from_sorted (slice_cmp nat_cmp) texts i j [] up less high)
+  | inr more ↦ (let same : i ≡ j = omega arith in rw same (ap is_gt (alike (get_or texts j []))))
+]
 
 -- the names that begin with a prefix are next to each other, from one position on
 pub record Gathers (texts : List NameText) (p : NameText) (first : ℕ) : Type 0 where
@@ -69,81 +62,36 @@ gathers texts p first up lower upper = record {
 
 -- a name of the table that begins with the prefix is at this position or later
 found_at : (texts : List NameText) (p : NameText) (first : ℕ)
-    → Gathers texts p first → (t : NameText) → Contains texts t → begins_with p t ≡ true
+    → Gathers texts p first → (t : NameText) → Begins texts p t
     → (k : ℕ) × (first ≤ k) × (k < length texts) × (get_or texts k [] ≡ t)
-found_at texts p first g t c begun = search (rules, get_or_default)
-
--- names at different positions differ
-pub apart : (texts : List NameText) → IsInOrder texts → (i j : ℕ)
-    → i < j → j < length texts → get_or texts i [] ≢ get_or texts j []
-apart texts up i j low high same =
-    let clash : Less ≡ Equal =
-    grind (arith, nat_tests, rising texts up i j low high, alike) in
-    cc
+found_at texts p first g t b =
+    let c = b.is_full in let begun = b.begins in search (rules, get_or_default)
 
 -- what the names from that position on mean
 pub nothing_found : (texts : List NameText) (p : NameText) (first : ℕ) → Gathers texts p first
-    → (BeginsAt texts p first → ⊥) → Fits texts p Nothing
-nothing_found texts p first g missing = λ t c. false_from_ne_true _ (λ begun. search (rules, found_at))
+    → (BeginsAt texts p first → ⊥) → Fits (Begins texts p) Nothing
+nothing_found texts p first g missing = λ t b. let begun = b.begins in search (rules, found_at)
 
 pub one_found : (texts : List NameText) (p : NameText) (first : ℕ) → Gathers texts p first
-    → BeginsAt texts p first → (BeginsAt texts p (first + 1) → ⊥) → Fits texts p (One (get_or texts first []))
-one_found texts p first g begun alone = record {
-  is_full = Contains-get_or texts first [] begun.0;
-  begins = begun.1;
-  only = λ other c begins. search (rules, found_at);
-}
+    → BeginsAt texts p first → (BeginsAt texts p (first + 1) → ⊥)
+    → Fits (Begins texts p) (One (get_or texts first []))
+one_found texts p first g begun alone = (
+  record { is_full = Contains-get_or texts first [] begun.0; begins = begun.1 },
+  λ other b. let begins = b.begins in search (rules, found_at),
+)
 
 pub several_found : (texts : List NameText) (p : NameText) (first : ℕ)
-    → IsInOrder texts → BeginsAt texts p first → BeginsAt texts p (first + 1) → Fits texts p Several
+    → IsInOrder texts → BeginsAt texts p first → BeginsAt texts p (first + 1) → Fits (Begins texts p) Several
 several_found texts p first up begun more = (
   get_or texts first [],
   get_or texts (first + 1) [],
-  record {
-    first_is_full = Contains-get_or texts first [] begun.0;
-    second_is_full = Contains-get_or texts (first + 1) [] more.0;
-    first_begins = begun.1;
-    second_begins = more.1;
-    differ = apart texts up first (first + 1) (omega arith) more.0;
-  },
+  record { is_full = Contains-get_or texts first [] begun.0; begins = begun.1 },
+  record { is_full = Contains-get_or texts (first + 1) [] more.0; begins = more.1 },
+  λ same.
+      let less = Less-from_sorted (slice_cmp nat_cmp) texts first (first + 1) [] up (omega arith) more.0 in
+      let clash : Less ≡ Equal = grind (arith, nat_tests, less, alike) in
+      cc,
 )
-
--- a name begins another if it begins the next one
-gathers_at : (texts : List NameText) (i : ℕ) → IsInOrder texts → i < length texts → Gathers texts (get_or texts i []) i
-gathers_at texts i up inside = gathers texts (get_or texts i []) i up
-    (λ k low h. ap is_lt (rising texts up k i low inside))
-    (λ k low h. grind (arith, nat_tests, nat_list_cmp_total.antisymm (get_or texts k []), no_higher texts up i k low h))
-
-pub begins-next : (texts : List NameText) (i : ℕ)
-    → IsInOrder texts → i < length texts → BeginsAt texts (get_or texts i []) (i + 1)
-    → begins_another texts (get_or texts i []) ≡ true
-begins-next texts i up inside next =
-    list_any-some (λ other. begins_with (get_or texts i []) other && not (bytes_eq (get_or texts i []) other))
-    texts (get_or texts (i + 1) []) (Contains-get_or texts (i + 1) [] next.0)
-    (λ j. next.1 j && not (differ j))
-  where
-    differ : bytes_eq (get_or texts i []) (get_or texts (i + 1) []) ≡ false
-    differ = false_from_ne_true _ (search (rules, apart))
-
-pub begins-none : (texts : List NameText) (i : ℕ)
-    → IsInOrder texts → i < length texts → (BeginsAt texts (get_or texts i []) (i + 1) → ⊥)
-    → begins_another texts (get_or texts i []) ≡ false
-begins-none texts i up inside alone =
-    list_any-none (λ other. begins_with (get_or texts i []) other && not (bytes_eq (get_or texts i []) other))
-    texts (λ v c. false_from_ne_true _ (λ passes.
-    let both = and_parts (begins_with (get_or texts i []) v) (not (bytes_eq (get_or texts i []) v)) passes in
-    let begun = both.0 in
-    let at = found_at texts (get_or texts i []) i (gathers_at texts i up inside) v c begun in
-    elim (cases_lt i at.0) [
-      | inl after ↦ (
-          let within : i + 1 < length texts = omega arith in
-          alone (
-            within,
-            (gathers_at texts i up inside).together (i + 1) at.0 (omega arith)
-                (omega arith) at.2 (ap (begins_with (get_or texts i [])) at.3 ∙ begun),
-          ))
-      | inr here ↦ search rules
-    ]))
 
 -- the texts after a sort and a `dedup`
 sorted_texts : (sorted : List (Bor NameText)) → IsSorted (λ (x y : Bor NameText). slice_cmp nat_cmp x.now y.now) sorted
@@ -221,10 +169,3 @@ gathers_from sorted p first d up point = gathers (borrowed_names sorted) p first
 pub at_begun : (sorted : List (Bor NameText)) (p : NameText) (k : ℕ) (d : Bor NameText)
     → BeginsAt (borrowed_names sorted) p k → (get_or sorted k d).now ≡ get_or (borrowed_names sorted) k []
 at_begun sorted p k d begun = search (rules, size, at_text)
-
--- whether a name begins another, by the names that the code reads
-pub begins_another-read : (sorted : List (Bor NameText)) (i : ℕ) (d : Bor NameText)
-    → IsInOrder (borrowed_names sorted) → i < length sorted
-    → BeginsAt (borrowed_names sorted) (get_or sorted i d).now (i + 1)
-    → begins_another (borrowed_names sorted) (get_or (borrowed_names sorted) i []) ≡ true
-begins_another-read sorted i d up inside next = search (rules, begins-next, at_text)

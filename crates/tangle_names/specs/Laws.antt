@@ -1,5 +1,5 @@
 -- Properties of the names of each web.
-use Rattle.std.specs.Prelude.{◌≡◌, ◌≢◌, ◌<◌, ℕ, true, false, List, [], length, slice_get}
+use Rattle.std.specs.Prelude.{◌≡◌, ◌≢◌, ◌<◌, ℕ, true, List, [], length, slice_get}
 use Rattle.std.specs.Prelude.{slice_index_or, Option, Some, None, Contains}
 use Rattle.tangle_names.specs.declared.Resolved.{Resolved}
 use Rattle.tangle_names.specs.declared.Resolved.TheVariants.{Name, NoFullName, Ambiguous}
@@ -12,19 +12,18 @@ pub record IsNumberOf (names : List NameText) (id : ℕ) (text : NameText) : Typ
   pub inside : id < length names
   pub at : slice_index_or names id [] ≡ text
 
--- this name begins with the prefix, and no other full name does
-pub record IsOnlyWith (full : List NameText) (p name : NameText) : Type 0 where
+-- this full name begins with the prefix
+pub record Begins (full : List NameText) (p name : NameText) : Type 0 where
   pub is_full : Contains full name
   pub begins : begins_with p name ≡ true
-  pub only : (other : NameText) → Contains full other → begins_with p other ≡ true → other ≡ name
 
--- these two full names begin with the prefix, and they differ
-pub record BothBegin (full : List NameText) (p name other : NameText) : Type 0 where
-  pub first_is_full : Contains full name
-  pub second_is_full : Contains full other
-  pub first_begins : begins_with p name ≡ true
-  pub second_begins : begins_with p other ≡ true
-  pub differ : name ≢ other
+-- this holds of the name, and of no other
+abbrev pub IsOnly : (NameText → Type 0) → NameText → Type 0
+IsOnly P name = P name × ((other : NameText) → P other → other ≡ name)
+
+-- this holds of two names that differ
+abbrev pub HasSeveral : (NameText → Type 0) → Type 0
+HasSeveral P = (name other : NameText) × P name × P other × (name ≢ other)
 
 -- a full name resolves to the number of its own text
 abbrev pub ResolvesFull : List NameText → NameText → Resolved → Type 0
@@ -35,32 +34,27 @@ ResolvesFull names text _ = ⊥
 -- if exactly one does
 abbrev pub ResolvesPrefix : List NameText → List NameText → NameText → Resolved → Type 0
 ResolvesPrefix names full p (Name id) =
-    (name : NameText) × IsNumberOf names id name × IsOnlyWith full p name
-ResolvesPrefix names full p NoFullName =
-    (name : NameText) → Contains full name → begins_with p name ≡ false
-ResolvesPrefix names full p Ambiguous =
-    (name : NameText) × (other : NameText) × BothBegin full p name other
+    (name : NameText) × IsNumberOf names id name × IsOnly (Begins full p) name
+ResolvesPrefix names full p NoFullName = (name : NameText) → Begins full p name → ⊥
+ResolvesPrefix names full p Ambiguous = HasSeveral (Begins full p)
 
--- the occurrence with this number resolves to the name, and no earlier one does
-pub record IsFirst (os : List OccurrenceRead) (id number : ℕ) : Type 0 where
+-- this holds of the occurrence with this number, and of no earlier one
+pub record IsFirst (P : OccurrenceRead → Type 0) (os : List OccurrenceRead) (number : ℕ)
+    : Type 0 where
   pub occurrence : OccurrenceRead
   pub at : slice_get os number ≡ Some occurrence
-  pub resolves : resolve os occurrence ≡ Name id
-  pub no_earlier : (n : ℕ) (o : OccurrenceRead)
-      → n < number → slice_get os n ≡ Some o → resolve os o ≢ Name id
+  pub holds : P occurrence
+  pub no_earlier : (n : ℕ) (o : OccurrenceRead) → n < number → slice_get os n ≡ Some o → P o → ⊥
 
--- the occurrence with this number has `@(` and resolves to the name; no earlier one with `@(` does
-pub record IsFirstAsFile (os : List OccurrenceRead) (id number : ℕ) : Type 0 where
-  pub occurrence : OccurrenceRead
-  pub at : slice_get os number ≡ Some occurrence
-  pub is_file : occurrence.is_file ≡ true
-  pub resolves : resolve os occurrence ≡ Name id
-  pub no_earlier : (n : ℕ) (o : OccurrenceRead)
-      → n < number → slice_get os n ≡ Some o → o.is_file ≡ true → resolve os o ≢ Name id
+-- this is the number of the first occurrence of which this holds; `None` only where there is none
+abbrev pub IsFirstIfAny : (OccurrenceRead → Type 0) → List OccurrenceRead → Option ℕ → Type 0
+IsFirstIfAny P os (Some number) = IsFirst P os number
+IsFirstIfAny P os None = (o : OccurrenceRead) → Contains os o → P o → ⊥
 
--- the number of a name's first occurrence as a file; `None` only where no occurrence with `@(`
--- resolves to the name
-abbrev pub IsFirstAsFileIfAny : List OccurrenceRead → ℕ → Option ℕ → Type 0
-IsFirstAsFileIfAny os id (Some number) = IsFirstAsFile os id number
-IsFirstAsFileIfAny os id None =
-    (o : OccurrenceRead) → Contains os o → o.is_file ≡ true → resolve os o ≢ Name id
+-- the occurrence resolves to the name with this number
+abbrev pub ResolvesTo : List OccurrenceRead → ℕ → OccurrenceRead → Type 0
+ResolvesTo os id o = resolve os o ≡ Name id
+
+-- it does, and has `@(`
+abbrev pub ResolvesToFile : List OccurrenceRead → ℕ → OccurrenceRead → Type 0
+ResolvesToFile os id o = (o.is_file ≡ true) × (resolve os o ≡ Name id)

@@ -1,9 +1,9 @@
 -- Names by their numbers, from which the table is built. Most of these definitions are cited only
 -- by private contracts.
-use Rattle.std.specs.Prelude.{◌≡◌, ◌<◌, ℕ, Bool, true, false, nat_lt, ◌==◌, ◌&&◌, ◌||◌, List}
+use Rattle.std.specs.Prelude.{◌≡◌, ◌<◌, ℕ, Bool, true, false, nat_lt, ◌==◌, ◌&&◌, List}
 use Rattle.std.specs.Prelude.{length, map, slice_get, slice_index_or, Option}
 use Rattle.std.specs.Prelude.{Some, None, option_to_list, if◌then◌else◌}
-use Rattle.std.specs.List.{list_any, position_or_len}
+use Rattle.std.specs.List.{position_or_len}
 use Rattle.tangle_lexer.specs.declared.occurrences.OccurrenceRole.{OccurrenceRole}
 use Rattle.tangle_lexer.specs.declared.occurrences.OccurrenceRole.TheVariants.{Use}
 use Rattle.tangle_names.specs.declared.first_numbers.Counted.{Counted}
@@ -15,9 +15,7 @@ use Rattle.tangle_faults.specs.Faults.{fault_about, FaultRead}
 use Rattle.tangle_scan.specs.Web.{WebRead}
 use Rattle.tangle_lexer.specs.Occurrences.{OccurrenceRead}
 use Rattle.tangle_names.specs.Faults.{named_place_of}
-use Rattle.tangle_names.specs.Names.{NameText, One}
-use Rattle.tangle_names.specs.Resolving.{resolved_meaning}
-use Rattle.tangle_names.specs.Faults.{begins_another}
+use Rattle.tangle_names.specs.Names.{NameText}
 
 -- an occurrence with this resolution resolves to the name with this number
 abbrev pub is_number : ℕ → Resolved → Bool
@@ -51,19 +49,8 @@ pub record SetsNumber (old new : List ℕ) (is_included : Bool)
 abbrev pub number_below : ℕ → ℕ → Option ℕ
 number_below count n = if nat_lt n count then Some n else None
 
--- the name to which an occurrence resolves is flagged, if `flagged` says so
-pub record Flags (old new : List Bool) (flagged : Bool) (resolved : Resolved) : Type 0 where
-  pub size : length new ≡ length old
-  pub flags : (id : ℕ) → id < length old → slice_index_or new id false
-      ≡ (slice_index_or old id false || (flagged && is_number id resolved))
-
 -- the warning for a name that begins another and whose first occurrence has this number
 abbrev pub warning : WebRead → ℕ → NameText → List FaultRead
 warning web first name =
     map (λ o. fault_about kind.PrefixName (named_place_of web.file_names o.origin) name)
     (option_to_list (slice_get web.occurrences first))
-
--- the name with this number begins another of the texts
-abbrev pub begins_another_by_number : List NameText → List NameText → ℕ → Bool
-begins_another_by_number names texts id =
-    list_any (λ t. begins_another texts t && is_number id (resolved_meaning names (One t))) texts

@@ -1,6 +1,6 @@
 -- The full names of a web in the order of their bytes. Only private contracts cite these
 -- definitions.
-use Rattle.std.specs.Prelude.{◌≡◌, ◌<◌, ℕ, true, List, [], length, map, slice_index_or, Contains}
+use Rattle.std.specs.Prelude.{◌≡◌, ◌<◌, ℕ, Bool, true, false, List, [], length, map, slice_index_or, Contains}
 use Rattle.std.specs.Ordering.{nat_cmp}
 use Rattle.std.specs.Cmp.Lexicographic.{slice_cmp}
 use Rattle.std.specs.List.Sorted.{IsStrictlySortedBy}
@@ -18,6 +18,10 @@ abbrev pub meaning_of : Found → Meaning
 meaning_of found.Nothing = Nothing
 meaning_of (found.One text) = One text.now
 meaning_of found.Several = Several
+
+abbrev pub is_several : Meaning → Bool
+is_several Several = true
+is_several _ = false
 
 -- each text is below the next one in the order of bytes
 abbrev pub IsInOrder : List NameText → Type 0

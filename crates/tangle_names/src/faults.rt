@@ -1,11 +1,9 @@
 //! The faults of names.
-ghost use Rattle.std.specs.Prelude.{◌≡◌, ◌++◌, ◌∷◌, [], IfOk, OnOk, flat_map, if◌then◌else◌, map};
+ghost use Rattle.std.specs.Prelude.{◌≡◌, ◌++◌, ◌∷◌, [], IfOk, OnOk, if◌then◌else◌};
 ghost use Rattle.tangle_faults.specs.Faults.{fault_about};
-ghost use Rattle.tangle_names.specs.Faults.{name_faults, named_place_of, prefix_fault};
-ghost use Rattle.tangle_names.specs.Faults.{resolution_fault, resolution_faults};
+ghost use Rattle.tangle_names.specs.Faults.{name_faults, named_place_of, resolution_fault};
 ghost use Rattle.tangle_names.specs.Numbers.{warning};
 ghost use Rattle.tangle_names.specs.Resolution.{IsResolutionOf};
-ghost use Rattle.tangle_names.specs.Resolving.{names_in_order, resolve};
 
 use crate::Resolved;
 use crate::resolution::Resolution;
@@ -50,24 +48,6 @@ fn add_resolution_fault(
     }
 }
 
-/// Adds the faults of the occurrences that resolve to no name.
-fn add_resolution_faults(
-    alloc: Global,
-    faults: &mut Vec<Fault>,
-    web: &Web,
-    resolved: &[Resolved],
-) -> Result<(), NoMemory>
-    requires { resolved.now ≡ map (resolve web.now.occurrences) web.now.occurrences }
-    ensures { OnOk result (faults.new.items ≡ faults.old.items ++ resolution_faults
-        web.now.file_names (resolve web.now.occurrences) web.now.occurrences) }
-{
-    let occurrences = web.occurrences();
-    for number in 0..occurrences.len() {
-        add_resolution_fault(alloc, faults, web, &occurrences[number], resolved[number])?;
-    }
-    Ok(())
-}
-
 /// Adds the warning that a name begins another, if it does, at the occurrence with this number.
 fn add_warning(
     alloc: Global,
@@ -90,27 +70,8 @@ fn add_warning(
     Ok(())
 }
 
-/// Adds the warnings for the names that begin others.
-fn add_warnings(
-    alloc: Global,
-    faults: &mut Vec<Fault>,
-    web: &Web,
-    resolution: &Resolution,
-) -> Result<(), NoMemory>
-    requires { IsResolutionOf web.now.occurrences resolution.now }
-    ensures { OnOk result (faults.new.items ≡ faults.old.items
-        ++ flat_map (prefix_fault web.now) (names_in_order web.now.occurrences)) }
-{
-    let names = resolution.names.as_slice();
-    for id in 0..names.len() {
-        let begins = resolution.begins[id];
-        let first = resolution.first_occurrences[id];
-        add_warning(alloc, faults, web, begins, first, names[id].bytes())?;
-    }
-    Ok(())
-}
-
-/// The faults of names of a web, by its resolution.
+/// The faults of names of a web, by its resolution: those of the occurrences, and then those of the
+/// names.
 pub(crate) fn faults(
     alloc: Global,
     web: &Web,
@@ -120,7 +81,16 @@ pub(crate) fn faults(
     ensures { IfOk result (λ v. v.items ≡ name_faults web.now) }
 {
     let mut faults = Vec::new(alloc);
-    add_resolution_faults(alloc, &mut faults, web, &resolution.resolved)?;
-    add_warnings(alloc, &mut faults, web, resolution)?;
+    let occurrences = web.occurrences();
+    for number in 0..occurrences.len() {
+        let resolved = resolution.resolved[number];
+        add_resolution_fault(alloc, &mut faults, web, &occurrences[number], resolved)?;
+    }
+    let names = resolution.names.as_slice();
+    for id in 0..names.len() {
+        let begins = resolution.begins[id];
+        let first = resolution.first_occurrences[id];
+        add_warning(alloc, &mut faults, web, begins, first, names[id].bytes())?;
+    }
     Ok(faults)
 }

@@ -7,8 +7,8 @@ ghost use Rattle.tangle_lexer.specs.Occurrences.{OccurrenceRead};
 ghost use Rattle.tangle_names.specs.Names.{full_names, prefix};
 ghost use Rattle.tangle_names.specs.Resolving.{first_file_number, first_number, first_occurrence};
 ghost use Rattle.tangle_names.specs.Resolving.{names_in_order, resolve};
-ghost use Rattle.tangle_names.specs.Laws.{IsFirst, IsFirstAsFileIfAny, ResolvesFull};
-ghost use Rattle.tangle_names.specs.Laws.{ResolvesPrefix};
+ghost use Rattle.tangle_names.specs.Laws.{IsFirst, IsFirstIfAny, ResolvesFull};
+ghost use Rattle.tangle_names.specs.Laws.{ResolvesPrefix, ResolvesTo, ResolvesToFile};
 
 /// The names of the table are the full names of the web, each once, and some occurrence resolves to
 /// each.
@@ -41,9 +41,11 @@ pub fn occurrences_resolve_by_the_whole_web()
 /// as a file is the first with `@(` that resolves to it, if there is one.
 pub fn first_occurrences_resolve_to_their_names()
     ensures first { (occurrences : List OccurrenceRead) (id : ℕ)
-        → id < length (names_in_order occurrences) → IsFirst occurrences id
+        → id < length (names_in_order occurrences)
+        → IsFirst (ResolvesTo occurrences id) occurrences
         (first_number occurrences (slice_index_or (names_in_order occurrences) id [])) }
     ensures file { (occurrences : List OccurrenceRead) (id : ℕ)
-        → id < length (names_in_order occurrences) → IsFirstAsFileIfAny occurrences id
+        → id < length (names_in_order occurrences)
+        → IsFirstIfAny (ResolvesToFile occurrences id) occurrences
         (first_file_number occurrences (slice_index_or (names_in_order occurrences) id [])) }
 {}

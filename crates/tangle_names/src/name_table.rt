@@ -65,6 +65,7 @@ impl NameTable {
     /// # Errors
     ///
     /// `NoMemory` where an allocation failed.
+    #[tactic(auto, using(crate::proofs::AlikeLemmas::table_alike))]
     pub fn rebuild(
         alloc: Global,
         web: &Web,

@@ -1,32 +1,12 @@
 //! Numbers the full names, and resolves the occurrences.
 ghost use Rattle.std.specs.Prelude.{◌≡◌, [], IfOk, OnOk, map};
-ghost use Rattle.std.specs.List.{position_or_len};
-ghost use Rattle.std.specs.Str.{bytes_eq};
-ghost use Rattle.tangle_names.specs.Names.{One, full_names};
-ghost use Rattle.tangle_names.specs.Resolving.{names_in_order, names_of, resolve, resolved_meaning};
-ghost use Rattle.tangle_names.specs.Resolving.{with_name};
-ghost use Rattle.tangle_names.specs.Sorted.{IsInOrder, SameTexts, meaning_of, borrowed_names};
+ghost use Rattle.tangle_names.specs.Resolving.{names_of, resolved_meaning, with_name};
+ghost use Rattle.tangle_names.specs.Sorted.{meaning_of};
 
 use crate::Resolved;
 use crate::keys::{KeyBytes, NameKey, NameSet, find};
-use crate::sorted::{Meaning, meanings};
+use crate::sorted::Meaning;
 use std::alloc::{AllocError, Global};
-use tangle_scan::Occurrence;
-
-/// The number of a full name; a new name is added.
-fn intern(alloc: Global, names: &mut NameSet, text: &[u8]) -> Result<usize, AllocError>
-    ensures names { OnOk result (names.new.keys
-        ≡ with_name names.old.keys (One text.now)) }
-    ensures number { IfOk result (λ id. id
-        ≡ position_or_len (bytes_eq text.now) names.old.keys) }
-{
-    if let Some(id) = find(names, text) {
-        return Ok(id);
-    }
-    let id = names.len();
-    names.insert(NameKey(KeyBytes::Own(Vec::from_slice(alloc, text)?)))?;
-    Ok(id)
-}
 
 /// The resolution of a meaning; a new name is added.
 fn resolve_meaning(
@@ -39,23 +19,28 @@ fn resolve_meaning(
     ensures number { IfOk result (λ resolved. resolved
         ≡ resolved_meaning names.old.keys (meaning_of meaning.entry)) }
 {
-    match meaning {
-        Meaning::One(text) => Ok(Resolved::Name(intern(alloc, names, text)?)),
-        Meaning::Nothing => Ok(Resolved::NoFullName),
-        Meaning::Several => Ok(Resolved::Ambiguous),
+    let text = match meaning {
+        Meaning::Nothing => return Ok(Resolved::NoFullName),
+        Meaning::Several => return Ok(Resolved::Ambiguous),
+        Meaning::One(text) => text,
+    };
+    if let Some(id) = find(names, text) {
+        return Ok(Resolved::Name(id));
     }
+    let id = names.len();
+    names.insert(NameKey(KeyBytes::Own(Vec::from_slice(alloc, text)?)))?;
+    Ok(Resolved::Name(id))
 }
 
-/// The resolution of each occurrence, from its meaning. The full names are added to `names`, in the
-/// order of the first occurrences that resolve to them.
-fn resolve_all(
+/// The resolution of each meaning. The full names are added to `names`, in the
+/// order of the first meanings that are them.
+pub(crate) fn resolve_all(
     alloc: Global,
     names: &mut NameSet,
     meanings: &[Meaning],
 ) -> Result<Vec<Resolved>, AllocError>
     requires { names.old.keys ≡ [] }
-    ensures names { OnOk result
-        (names.new.keys ≡ names_of (map meaning_of meanings.now)) }
+    ensures names { OnOk result (names.new.keys ≡ names_of (map meaning_of meanings.now)) }
     ensures resolved { let meant = map meaning_of meanings.now in
         IfOk result (λ resolved. resolved.items ≡ map (resolved_meaning (names_of meant)) meant) }
 {
@@ -64,29 +49,4 @@ fn resolve_all(
         resolved.push(resolve_meaning(alloc, names, *meaning)?)?;
     }
     Ok(resolved)
-}
-
-/// The resolution of each occurrence of a web. The full names are added to `names` in order.
-pub(crate) fn resolve_occurrences(
-    alloc: Global,
-    names: &mut NameSet,
-    sorted: &[&[u8]],
-    occurrences: &[Occurrence],
-) -> Result<Vec<Resolved>, AllocError>
-    requires empty { names.old.keys ≡ [] }
-    requires order { IsInOrder (borrowed_names sorted.now) }
-    requires same { SameTexts (full_names occurrences.now) (borrowed_names sorted.now) }
-    ensures names { OnOk result (names.new.keys ≡ names_in_order occurrences.now) }
-    ensures resolved { IfOk result (λ resolved. resolved.items
-        ≡ map (resolve occurrences.now) occurrences.now) }
-{
-    let meanings = meanings(alloc, sorted, occurrences)?;
-    resolve_all(alloc, names, &meanings)
-}
-
-/// The number of a full name, or the number of all names where it is none of them.
-pub(crate) fn number(names: &NameSet, text: &[u8]) -> usize
-    ensures { result ≡ position_or_len (bytes_eq text.now) names.now.keys }
-{
-    find(names, text).unwrap_or(names.len())
 }

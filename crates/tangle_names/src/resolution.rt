@@ -8,8 +8,8 @@ use crate::Resolved;
 use crate::beginnings::beginning_flags;
 use crate::first_numbers::{Counted, first_numbers};
 use crate::keys::NameSet;
-use crate::numbers::resolve_occurrences;
-use crate::sorted::sorted_names;
+use crate::numbers::resolve_all;
+use crate::sorted::{meanings, sorted_names};
 use indexmap::IndexSet;
 use std::alloc::{AllocError, Global};
 use tangle_scan::Occurrence;
@@ -37,7 +37,8 @@ impl Resolution {
     {
         let sorted = sorted_names(alloc, occurrences)?;
         let mut names: NameSet = IndexSet::new(alloc);
-        let resolved = resolve_occurrences(alloc, &mut names, &sorted, occurrences)?;
+        let meanings = meanings(alloc, &sorted, occurrences)?;
+        let resolved = resolve_all(alloc, &mut names, &meanings)?;
         let count = names.len();
         let first_occurrences = first_numbers(alloc, occurrences, &resolved, count, Counted::All)?;
         let first_file_occurrences = first_numbers(
@@ -70,6 +71,7 @@ fn is_written_alike(old: &Occurrence, new: &Occurrence) -> bool
 
 /// Whether the two lists of occurrences have the same length, and each old occurrence is written
 /// the same as the new one with its number.
+#[tactic(auto, using(crate::proofs::AlikeLemmas::alike_at))]
 pub(crate) fn are_written_alike(old: &[Occurrence], new: &[Occurrence]) -> bool
     ensures { IsTrue result ↔ AreWrittenAlike old.now new.now }
 {

@@ -1,6 +1,6 @@
 //! The full names of a web in the order of their bytes, and the meaning of an occurrence among
 //! them.
-ghost use Rattle.std.specs.Prelude.{◌≡◌, ◌↔◌, List, ℕ, IfOk, IsTrue, map};
+ghost use Rattle.std.specs.Prelude.{◌≡◌, ◌↔◌, IfOk, IsTrue, map};
 ghost use Rattle.std.specs.Ordering.{nat_cmp, is_lt};
 ghost use Rattle.std.specs.Cmp.Lexicographic.{slice_cmp};
 ghost use Rattle.tangle_names.specs.Names.{full_names, meaning, only_with, prefix};
@@ -27,22 +27,14 @@ pub(crate) fn sorted_names(
     ensures same { IfOk result
         (λ names. SameTexts (full_names occurrences.now) (borrowed_names names.items)) }
 {
-    let mut names = full_names(alloc, occurrences)?;
-    names.sort_unstable();
-    names.dedup();
-    Ok(names)
-}
-
-/// The full names, each as often as it occurs.
-fn full_names(alloc: Global, occurrences: &[Occurrence]) -> Result<Vec<&[u8]>, AllocError>
-    ensures { IfOk result (λ names. borrowed_names names.items ≡ full_names occurrences.now) }
-{
     let mut names = Vec::new(alloc);
     for occurrence in occurrences {
         if !occurrence.is_abbreviation() {
             names.push(occurrence.text())?;
         }
     }
+    names.sort_unstable();
+    names.dedup();
     Ok(names)
 }
 
@@ -65,8 +57,7 @@ pub(crate) fn begins_at(sorted: &[&[u8]], position: usize, prefix: &[u8]) -> boo
 // looked at.
 fn only_with<'a>(sorted: &[&'a [u8]], prefix: &[u8]) -> Meaning<'a>
     requires { IsInOrder (borrowed_names sorted.now) }
-    ensures { (full : List (List ℕ)) → SameTexts full (borrowed_names sorted.now)
-        → meaning_of result ≡ only_with full prefix.now }
+    ensures { meaning_of result ≡ only_with (borrowed_names sorted.now) prefix.now }
 {
     let first = sorted.partition_point(|text| is_below(text, prefix));
     if !begins_at(sorted, first, prefix) {
@@ -85,11 +76,10 @@ fn prefix(abbreviation: &[u8]) -> &[u8]
     &abbreviation[..abbreviation.len().saturating_sub(3)]
 }
 
-/// The meaning of the occurrence among the full names of the web.
+/// The meaning of the occurrence among these full names.
 fn meaning_among<'a>(sorted: &[&'a [u8]], occurrence: &'a Occurrence) -> Meaning<'a>
     requires { IsInOrder (borrowed_names sorted.now) }
-    ensures { (full : List (List ℕ)) → SameTexts full (borrowed_names sorted.now)
-        → meaning_of result ≡ meaning full occurrence.now }
+    ensures { meaning_of result ≡ meaning (borrowed_names sorted.now) occurrence.now }
 {
     if occurrence.is_abbreviation() {
         only_with(sorted, prefix(occurrence.text()))
@@ -105,8 +95,8 @@ pub(crate) fn meanings<'a>(
     occurrences: &'a [Occurrence],
 ) -> Result<Vec<Meaning<'a>>, AllocError>
     requires { IsInOrder (borrowed_names sorted.now) }
-    ensures { IfOk result (λ v. (full : List (List ℕ)) → SameTexts full (borrowed_names sorted.now)
-        → map meaning_of v.items ≡ map (meaning full) occurrences.now) }
+    ensures { IfOk result (λ v. map meaning_of v.items
+        ≡ map (meaning (borrowed_names sorted.now)) occurrences.now) }
 {
     let mut meanings = Vec::new(alloc);
     for occurrence in occurrences {

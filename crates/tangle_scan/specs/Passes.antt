@@ -249,11 +249,8 @@ from_gap lines kept at front es =
 -- The items so far, those of them that are before the current gap, and the state are those of the
 -- tokens so far, which end with the gap `gap`. `front` is the token before the gap, `before` the
 -- last token on the current line, and `prev` the last token.
-pub record IsPartRead (lines : List SourceLine) (items kept : List Item) (at : PartState) : Type 0 where
-  pub gap : List Token
-  pub front : Option Token
-  pub before : Option Token
-  pub prev : Token
+pub record IsPartRead (lines : List SourceLine) (items kept : List Item) (at : PartState)
+    (gap : List Token) (front before : Option Token) (prev : Token) : Type 0 where
   pub joined : has_join gap ≡ is_joined at.last
   pub made : (es : List Token) → from_gap lines kept at front (left_of_run gap ++ es)
       ≡ items
@@ -271,9 +268,13 @@ pub record IsPartRead (lines : List SourceLine) (items kept : List Item) (at : P
 -- were not read yet.
 pub record IsPassed (lines : List SourceLine) (whole items kept : List Item) (at : PartState)
     (es : List Token) : Type 0 where
-  pub read : IsPartRead lines items kept at
-  pub left : whole ≡ from_gap lines kept at read.front
-      (without_joins read.gap (spaced_after (texts_of lines) read.prev es))
+  pub gap : List Token
+  pub front : Option Token
+  pub before : Option Token
+  pub prev : Token
+  pub read : IsPartRead lines items kept at gap front before prev
+  pub left : whole ≡ from_gap lines kept at front
+      (without_joins gap (spaced_after (texts_of lines) prev es))
 
 -- a blank goes before an item or a run
 abbrev pub blank_before : List SourceLine → PartState → Token → Bool

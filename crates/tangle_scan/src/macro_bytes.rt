@@ -12,6 +12,7 @@ use tangle_lexer::{SpanKind, Token};
 use tangle_lines::{NoMemory, Source};
 
 /// Adds the bytes of a token of a macro. A line end gets a backslash before it.
+#[tactic(auto, using(crate::proofs::lemmas::MacroEndLemmas::run_bytes))]
 fn push_token(bytes: &mut Vec<u8>, source: &Source, token: Token) -> Result<(), NoMemory>
     ensures { OnOk result (let texts = texts_of source.now.lines in bytes.new.items ≡ bytes.old.items
         ++ flat_map (spec.macro_item_bytes texts) (written_items texts token)) }

@@ -137,3 +137,5 @@ module _ {State : Type 0} {answers : State → Request → List ℕ → State �
   pub under_last : {way : Command → Exchange State → Exchange State → Type 0}
       → HasLast answers way b c found → HasLast answers way a c (ended_commands bytes)
   under_last k = last_within (ended_commands next) all_done h.goes_on k
+
+pub ruleset line_answers = (goes_nowhere, line_quits, line_goes_on, one_last, found_one)

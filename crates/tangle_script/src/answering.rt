@@ -31,6 +31,7 @@ fn is_no_command(line: &[u8], text: Option<&[u8]>) -> bool
 }
 
 // Answers a line with its text. `Err` says that the run ends at it. An empty line is no command.
+#[tactic(auto, using(crate::proofs::ConversationLemmas::line_answers))]
 fn answer_line<P: Project, S: Sink>(
     alloc: Global,
     session: &mut P::Session,
@@ -86,6 +87,7 @@ pub fn answer_all<P: Project, S: Sink>(
 /// Answers the command at the end of a script: a line without a line feed, or one whose text is
 /// missing or has no line feed. Returns `End::Failed` where the sink failed before it took all of
 /// the answer.
+#[tactic(auto, using(crate::proofs::ConversationLemmas::last_ends))]
 pub fn answer_last<P: Project, S: Sink>(
     alloc: Global,
     session: &mut P::Session,

@@ -78,6 +78,7 @@ fn last_text(bytes: &[u8]) -> Option<&[u8]>
 
 /// The command at the end of a script: a line without a line feed, or one whose text is missing or
 /// has no line feed.
+#[tactic(auto, using(crate::proofs::CommandLemmas::last_with_text))]
 pub fn last_command(bytes: &[u8]) -> (&[u8], Option<&[u8]>)
     requires { OnlyWaits bytes.now }
     ensures { all_commands bytes.now ≡ found_commands result.0.now (option_copied result.1) }

@@ -179,6 +179,7 @@ pub fn parse<'a>(line: &'a [u8], text: Option<&'a [u8]>) -> Request<'a>
 
 /// A command gives the request of its row in the table of script lines, and no other. It is a bad
 /// command exactly if it is in no row.
+#[tactic(auto, using(crate::proofs::TableLemmas::asks_for_its_row))]
 pub fn each_command_asks_for_its_row()
     ensures { (command : Command) → AsksForItsRow command }
 {}

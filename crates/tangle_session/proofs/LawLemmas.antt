@@ -1,4 +1,4 @@
--- The laws of the headline: one tangling, no cycle below an output, and each cycle reported.
+-- The laws of the headline: no cycle below an output, and each cycle reported.
 use Rattle.std.proofs.Common.{rules}
 use Rattle.std.proofs.Common.{◌≡◌, ◌∙◌, ◌<◌, ℕ, zero, suc, true, List, [], ◌∷◌, length}
 use Rattle.std.proofs.Common.{flat_map, get_or, refl, sym, subst, arith}
@@ -20,17 +20,18 @@ use Rattle.tangle_expansion.specs.Outputs.{OutputRead}
 use Rattle.tangle_bodies.specs.WebShapes.{shapes}
 use Rattle.tangle_bodies.specs.Shapes.{Title, Named, Shapes, Uses}
 use Rattle.digraph.specs.Reach.{Reaches, here, on, ContainsItself}
-use Rattle.tangle_graph.specs.Faults.{AreGraphFaults, fault_of, fault_occurrence, faults_of_names}
+use Rattle.tangle_graph.specs.Cycles.{contains_itself}
+use Rattle.tangle_graph.specs.Faults.{fault_of_name, faults_of_names, graph_faults}
+use Rattle.tangle_graph.proofs.CycleLemmas.{contains_computed}
 use Rattle.tangle_bodies.specs.Nodes.{title_at}
 use Rattle.std.proofs.Common.{inl, inr}
 use Rattle.std.proofs.lemmas.Bool.{cases_Bool}
-use Rattle.tangle_graph.proofs.NodeLemmas.{title_inside}
 use Rattle.tangle_graph.proofs.NodeMeasureLemmas.{there}
 use Rattle.tangle_graph.proofs.OutputLemmas.{IsFit, outputs_fit}
 use Rattle.tangle_names.proofs.LawLemmas.{occur}
 use Rattle.tangle_bodies.proofs.InsideLemmas.{table_inside}
 use Rattle.tangle_expansion.proofs.Unaffected as unaffected
-use Rattle.tangle_session.specs.Headline.{EachCycleIsReported, IsPlainTangling, NoOutputReachesACycle}
+use Rattle.tangle_session.specs.Headline.{EachCycleIsReported, NoOutputReachesACycle, faults_at}
 use Rattle.tangle_session.specs.Headline.{source_at, web_at}
 use Rattle.tangle_session.specs.Sessions.{shapes_of}
 use Rattle.tangle_names.proofs.FirstLemmas.{some_of}
@@ -70,14 +71,10 @@ in_mapped g (n ∷ ns) k x (zero, h, e) d =
 in_mapped g (n ∷ ns) k x (suc i, h, e) d =
     Contains-append_right (g n) (flat_map g ns) x (in_mapped g ns k x (i, omega arith, e) d)
 
-module _ (web : WebRead) (out : List ℕ) (faults : List FaultRead)
-    (are : AreGraphFaults web (table_of web) out faults) (id : ℕ) (name : List ℕ) (o : OccurrenceRead)
+module _ (web : WebRead) (out : List ℕ) (id : ℕ) (name : List ℕ) (o : OccurrenceRead)
     (low : id < length (table_of web).names) (text : get_or (table_of web).names id [] ≡ name)
     (contains : ContainsItself (Uses (shapes_of web)) (Named name))
     (first : first_occurrence web.occurrences name ≡ Some o) where
-  flagged : are.contains_itself (suc id) ≡ true
-  flagged = search (rules, title_inside)
-
   number : get_or (table_of web).first_occurrences id 0 ≡ first_number web.occurrences name
   number = search (rules, get_or-map)
 
@@ -87,35 +84,29 @@ module _ (web : WebRead) (out : List ℕ) (faults : List FaultRead)
   abbrev fault : FaultRead
   fault = fault_about kind.SelfContaining (named_place_of web.file_names o.origin) name
 
-  one_fault : fault_of web (table_of web) kind.SelfContaining id
-      (fault_occurrence web (table_of web) out are.contains_itself are.reaches_cycle
-      kind.SelfContaining id) ≡ fault ∷ []
-  one_fault = cc (flagged, reached)
+  flagged : contains_itself (shapes_of web) (table_of web).names (Named (get_or (table_of web).names id [])) ≡ true
+  flagged = rw text ((contains_computed web (table_of web) refl (Named name)).1 contains)
 
-  among : Contains (faults_of_names web (table_of web) out are.contains_itself are.reaches_cycle
-      kind.SelfContaining) fault
-  among = in_mapped _ _ id fault (in_range _ id low)
-      (subst (λ l. Contains l fault) (sym one_fault) (0, omega arith, refl))
+  one_fault : fault_of_name web (table_of web) out kind.SelfContaining id ≡ fault ∷ []
+  one_fault = cc (flagged, reached, text)
 
-  pub reported : Contains faults fault
+  pub reported : Contains (graph_faults web (table_of web) out) fault
   reported =
-      let of = faults_of_names web (table_of web) out are.contains_itself are.reaches_cycle in
-      subst (λ l. Contains l fault) (sym are.list) (Contains-append_right (of kind.Undefined) _ fault
-      (Contains-append_right (of kind.Unused) _ fault (Contains-append_left (of kind.SelfContaining) _ fault among)))
+      let of = faults_of_names web (table_of web) out in
+      Contains-append_right (of kind.Undefined) _ fault (Contains-append_right (of kind.Unused) _ fault
+      (Contains-append_left (of kind.SelfContaining) _ fault (in_mapped _ _ id fault (in_range _ id low)
+      (subst (λ l. Contains l fault) (sym one_fault) (0, omega arith, refl)))))
 
-pub reported_in : (files : FileTable) (roles : RolesRead) (made : List (List ℕ × List ℕ)) (faults : List FaultRead)
-    → IsPlainTangling files roles made faults → EachCycleIsReported files roles faults
-reported_in files roles made faults are name c =
+pub reported_in : (files : FileTable) (roles : RolesRead) → EachCycleIsReported files roles
+unfolding faults_at
+reported_in files roles name c =
     let web = web_at files roles in
     let found = there (table_of web) (table_inside web) name web.pieces (search rules) in
     let o = some_of (first_occurrence web.occurrences name) (occur web.occurrences name (found.0, found.1, get_or_default (table_of web).names found.0 name [] found.1 ∙ found.2)) in
     record {
       occurrence = o.0;
       is_first = o.1;
-      reported =
-          subst (λ l. Contains l (fault_about kind.SelfContaining (named_place_of web.file_names o.0.origin) name))
-          (sym are.reporting)
-          (Contains-append_right (source_at files roles).faults _ _
+      reported = Contains-append_right (source_at files roles).faults _ _
           (Contains-append_right web.faults _ _ (Contains-append_right (name_faults web) _ _
-          (reported web roles.out are.of_graph are.are_of_graph found.0 name o.0 found.1 found.2 c o.1))));
+          (reported web roles.out found.0 name o.0 found.1 found.2 c o.1)));
     }

@@ -23,7 +23,6 @@ use Rattle.tangle_expansion.specs.Numbers.{numbers_of}
 use Rattle.tangle_expansion.specs.Outputs.{OutputRead, IsReady, kept_output_bytes}
 use Rattle.digraph.specs.Nodes.{Node}
 use Rattle.tangle_bodies.specs.Nodes.{title_at}
-use Rattle.tangle_graph.specs.Affected as affected
 use Rattle.tangle_graph.specs.Keeping as keeping
 use Rattle.tangle_graph.specs.Nodes.{IsNodeOf}
 use Rattle.tangle_graph.specs.Outputs.{outputs}

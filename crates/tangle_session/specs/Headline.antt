@@ -11,13 +11,14 @@
 -- - `Session::start` starts a session (`IsStarted`), and `apply` and `apply_all` make edits
 --   (`IsAnswered`). So whatever calls are made, they and their answers are a `History`.
 --   `start_and_edit` makes one in one call, which ends in `HasMade`.
--- - `Session::faults` has the faults of `IsPlainTangling`, for the session's files and roles.
---   `output_names`, `output_size` and `write_output` have the names, the sizes and the bytes of the
---   same output files. Each byte is at its line, where line marks are written in full
---   (`IsTrueFile`). `last_work` counts the nodes that were expanded last.
--- - `run_ctangle` of `ctangle_cli` writes the output files and the faults of `IsPlainTangling`.
--- - `run_retangle` of `ctangle_cli` answers a script: edits by `IsAnswered`, `show` and `faults` by
---   `IsPlainTangling`. Its answers are a `History`, by `the_answers_of_a_script_are_a_history`.
+-- - `Session::faults` gives the faults that plain tangling gives for the session's files and roles
+--   (`faults_at`). `output_names`, `output_size` and `write_output` have the names, the sizes and the
+--   bytes of its output files (`output_files`). Each byte is at its line, where line marks are
+--   written in full (`IsTrueFile`). `last_work` counts the nodes that were expanded last.
+-- - `run_ctangle` of `ctangle_cli` writes these output files and these faults.
+-- - `run_retangle` of `ctangle_cli` answers a script: edits by `IsAnswered`, `show` by `output_at`
+--   and `faults` by `faults_at`. Its answers are a `History`, by
+--   `the_answers_of_a_script_are_a_history`.
 --
 -- (3) holds of each history by the law `histories_end_in_plain_tangling`. Text that only moves
 -- affects no node: `moved_text_expands_nothing`, over `Moves.antt`.
@@ -44,7 +45,7 @@ use Rattle.tangle_bodies.specs.WebShapes.{shapes}
 use Rattle.tangle_bodies.specs.Shapes.{Title, Named, Uses}
 use Rattle.digraph.specs.Nodes.{Node}
 use Rattle.digraph.specs.Reach.{Reaches, ContainsItself}
-use Rattle.tangle_graph.specs.Faults.{AreGraphFaults}
+use Rattle.tangle_graph.specs.Faults.{graph_faults}
 use Rattle.tangle_bodies.specs.Nodes.{title_at}
 use Rattle.tangle_graph.specs.Outputs.{outputs}
 use Rattle.tangle_session.specs.Edits.{list_memory, list_refusal, session_refusal}
@@ -87,15 +88,11 @@ module _ (files : FileTable) (roles : RolesRead) where
   abbrev pub output_at : List ℕ → Option (List ℕ)
   output_at name = lookup (bytes_eq name) output_files
 
-  -- Plain tangling gives these output files, and these faults: those of reading, of scanning, of
-  -- names, and of the graph of names, in this order.
-  pub record IsPlainTangling (made_files : List (List ℕ × List ℕ))
-      (faults : List FaultRead) : Type 0 where
-    pub writing : made_files ≡ output_files
-    pub of_graph : List FaultRead
-    pub are_of_graph : AreGraphFaults web_at table_at roles.out of_graph
-    pub reporting : faults
-        ≡ source_at.faults ++ (web_at.faults ++ (name_faults web_at ++ of_graph))
+  -- the faults: those of reading, of scanning, of names, and of the graph of names
+  unfoldable pub faults_at : List FaultRead
+  faults_at =
+      source_at.faults
+      ++ (web_at.faults ++ (name_faults web_at ++ graph_faults web_at table_at roles.out))
 
 -- 2. A history: edits from a start on, each with its answer.
 
@@ -199,8 +196,8 @@ NoOutputReachesACycle files roles =
     → ¬ (ContainsItself (Uses (shapes (web_at files roles) (table_at files roles))) other)
 
 -- each name that contains itself has its fault, at its first occurrence
-abbrev pub EachCycleIsReported : FileTable → RolesRead → List FaultRead → Type 0
-EachCycleIsReported files roles faults =
+abbrev pub EachCycleIsReported : FileTable → RolesRead → Type 0
+EachCycleIsReported files roles =
     (name : List ℕ)
     → ContainsItself (Uses (shapes (web_at files roles) (table_at files roles))) (Named name)
-    → IsReportedSelfContaining (web_at files roles) name faults
+    → IsReportedSelfContaining (web_at files roles) name (faults_at files roles)

@@ -6,8 +6,7 @@ use Rattle.tangle_names.specs.NameTable.{table_over}
 use Rattle.tangle_expansion.specs.Numbers.{numbers_of}
 use Rattle.tangle_graph.specs.WebStores.{IsStoreOfWeb}
 use Rattle.tangle_graph.specs.Keeping.{KeepsJust}
-use Rattle.tangle_session.specs.Headline.{IsPlainTangling, output_files}
-use Rattle.tangle_session.specs.Headline.{table_at, web_at}
+use Rattle.tangle_session.specs.Headline.{faults_at, table_at, web_at}
 use Rattle.tangle_session.specs.Sessions.{shapes_of}
 use Rattle.tangle_session.specs.declared.analysis.Analysis.{Analysis}
 use Rattle.tangle_session.specs.declared.tangling.SessionState.{SessionState}
@@ -21,7 +20,7 @@ pub record IsAnalysisAt (files : FileTable) (roles : RolesRead)
   pub store : IsStoreOfWeb (web_at files roles) (table_at files roles) roles.out analysis.store
   pub numbers : analysis.numbers
       ≡ numbers_of (web_at files roles) (table_at files roles) roles.marks
-  pub plain : IsPlainTangling files roles (output_files files roles) analysis.faults.items
+  pub faults : analysis.faults.items ≡ faults_at files roles
 
 -- the table of the analysis is that of its occurrences
 abbrev pub HasItsTable : Analysis → Type 0

@@ -3,7 +3,6 @@ ghost use Rattle.std.specs.Prelude.{◌≡◌, ℕ, List, [], ◌∷◌, Contain
 ghost use Rattle.std.specs.List.{IsDistinct};
 ghost use Rattle.std.specs.Option.{option_map};
 ghost use Rattle.std.specs.Str.{bytes_eq};
-ghost use Rattle.tangle_faults.specs.Faults.{FaultRead};
 ghost use Rattle.tangle_files.specs.Edited.{edited, edited_all, edited_roles, roles_after};
 ghost use Rattle.tangle_files.specs.Lines.{FileTable};
 ghost use Rattle.tangle_files.specs.Roles.{RolesRead};
@@ -14,7 +13,7 @@ ghost use Rattle.digraph.specs.Nodes.{Node};
 ghost use Rattle.tangle_graph.specs.PlainForms.{plain_form};
 ghost use Rattle.tangle_session.specs.Edits.{list_refusal, of_first, session_refusal};
 ghost use Rattle.tangle_session.specs.Headline.{Call, EachCycleIsReported, HasMade, History};
-ghost use Rattle.tangle_session.specs.Headline.{IsPlainTangling, NoOutputReachesACycle, accepted};
+ghost use Rattle.tangle_session.specs.Headline.{NoOutputReachesACycle, accepted, faults_at};
 ghost use Rattle.tangle_session.specs.Headline.{files_after, output_at, output_files, roles_with};
 ghost use Rattle.tangle_session.specs.Headline.{web_at};
 ghost use Rattle.tangle_session.specs.Moves.{HaveSameShapes, IsMoved};
@@ -30,23 +29,13 @@ pub fn histories_end_in_plain_tangling()
         (session : SessionRead) → History files roles calls session
         → HasMade files roles (accepted calls) session }
     ensures shown { (files : FileTable) (roles : RolesRead) (calls : List Call)
-        (session : SessionRead) (made_files : List (List ℕ × List ℕ)) (faults : List FaultRead)
-        → History files roles calls session
-        → IsPlainTangling session.files session.roles made_files faults
-        → IsPlainTangling (files_after files (accepted calls))
-        (roles_with roles (accepted calls)) made_files faults }
+        (session : SessionRead) → History files roles calls session
+        → let then_files = files_after files (accepted calls) in
+        let then_roles = roles_with roles (accepted calls) in
+        (output_files session.files session.roles ≡ output_files then_files then_roles)
+        × (faults_at session.files session.roles ≡ faults_at then_files then_roles) }
     ensures no_cycle { (files : FileTable) (roles : RolesRead) → NoOutputReachesACycle files roles }
-    ensures cycles { (files : FileTable) (roles : RolesRead) (made_files : List (List ℕ × List ℕ))
-        (faults : List FaultRead) → IsPlainTangling files roles made_files faults
-        → EachCycleIsReported files roles faults }
-{}
-
-/// The files and the roles determine the output files and the faults: no two plain tanglings of
-/// them differ.
-pub fn tangling_is_one()
-    ensures { (files : FileTable) (roles : RolesRead) (one other : List (List ℕ × List ℕ))
-        (faults others : List FaultRead) → IsPlainTangling files roles one faults
-        → IsPlainTangling files roles other others → (one ≡ other) × (faults ≡ others) }
+    ensures cycles { (files : FileTable) (roles : RolesRead) → EachCycleIsReported files roles }
 {}
 
 /// No two output files have names of the same plain form, so none is written over another one; and

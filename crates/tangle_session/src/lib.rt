@@ -17,7 +17,7 @@ mod tangling;
 pub use histories::start_and_edit;
 pub use laws::{
     histories_end_in_plain_tangling, moved_text_expands_nothing, one_edit_is_a_list,
-    outputs_are_found_by_their_names, tangling_is_one, what_leaves_the_web_expands_nothing,
+    outputs_are_found_by_their_names, what_leaves_the_web_expands_nothing,
 };
 pub use outputs::OutputNames;
 pub use refusing::ListRefusal;

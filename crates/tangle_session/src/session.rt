@@ -4,8 +4,8 @@ ghost use Rattle.std.specs.Prelude.{IsOkUnless, Err};
 ghost use Rattle.std.specs.Option.{option_map};
 ghost use Rattle.tangle_files.specs.declared.refusal.Refusal.TheVariants.{NoMemory as no_memory};
 ghost use Rattle.tangle_files.specs.declared.marks.MarkMode.TheVariants.{Full};
-ghost use Rattle.tangle_session.specs.Headline.{Apply, ApplyAll, IsAnswered, IsPlainTangling};
-ghost use Rattle.tangle_session.specs.Headline.{IsStarted, output_at, output_files};
+ghost use Rattle.tangle_session.specs.Headline.{Apply, ApplyAll, IsAnswered, IsStarted, faults_at};
+ghost use Rattle.tangle_session.specs.Headline.{output_at, output_files};
 ghost use Rattle.tangle_session.specs.Sessions.{start_refusal};
 ghost use Rattle.tangle_session.specs.Writes.{IsTrueFile, WritesOutput};
 
@@ -208,8 +208,7 @@ impl Session {
     /// The faults: those of reading the web and the change file, then those of scanning, of names,
     /// and of the graph of names, each kind in its own order.
     pub fn faults(&self) -> &[Fault]
-        ensures { IsPlainTangling self.now.files self.now.roles
-            (output_files self.now.files self.now.roles) result.now }
+        ensures { result.now ≡ faults_at self.now.files self.now.roles }
     {
         self.state.analysis.faults.as_slice()
     }

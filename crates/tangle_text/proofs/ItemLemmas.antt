@@ -1,16 +1,17 @@
 -- The items that a run goes over. It ends before a word that a quoted text follows, and before a space in front of it.
+use Rattle.std.proofs.Common.{rules}
 use Rattle.std.proofs.lemmas.Bool.Decides.{nat_tests}
 use Rattle.std.proofs.Common.{◌≡◌, ℕ, ◌+◌, ◌<◌, ◌≤◌, ◌==◌, not, zero, suc, Bool, true, false, List, [], ◌∷◌, inl, inr}
-use Rattle.std.proofs.Common.{cond, if◌then◌else◌, ◌||◌, ◌&&◌, drop, get_or, length, refl, ap, sym, ◌∙◌, ◌-◌, arith}
+use Rattle.std.proofs.Common.{cond, if◌then◌else◌, ◌&&◌, drop, get_or, length, refl, ap, ◌∙◌, ◌-◌, arith}
 use Rattle.std.proofs.Common.{drop-drop, ◌⊎◌}
 use Rattle.std.proofs.lemmas.List.{get_or-drop, at_drop_more, drop_more}
 use Rattle.std.proofs.Math.Numerals.{one-add}
-use Rattle.std.proofs.lemmas.Bool.{cases_Bool, cond_both}
+use Rattle.std.proofs.lemmas.Bool.{cases_Bool}
 use Rattle.std.specs.List.{prefix_len}
 use Rattle.tangle_files.specs.Bytes.{space}
 use Rattle.tangle_text.specs.Bytes.{is_word_byte}
 use Rattle.tangle_text.specs.Runs.{is_plain, is_single, begins_single, is_run_byte, passing, is_quote, is_before_quote}
-use Rattle.tangle_text.specs.Runs.{part_more, quote_size, is_run_item, begins_item, goes_over, run_size}
+use Rattle.tangle_text.specs.Runs.{part_more, is_run_item, begins_item, goes_over, run_size}
 use Rattle.tangle_text.proofs.PartLemmas.{part-fits}
 
 -- the run after a part that was begun
@@ -52,13 +53,7 @@ item-first (b ∷ bs) h = item-single b bs h
 
 -- the run goes over a byte that it may go over, if it is free to
 over-byte : (b : ℕ) (bs : List ℕ) → is_run_byte b bs ≡ true → goes_over b bs ≡ is_free b bs
-over-byte b bs h =
-    by (b == space) (is_single b bs) (begins_single bs) _ _ _ _ h (λ s. (single-byte b bs s).1) (item-single b bs)
-    (item-first bs)
-  where
-    by : (s p q x y u v : Bool) → (p || s && q) ≡ true → (p ≡ true → s ≡ false) → (p ≡ true → y ≡ v)
-        → (q ≡ true → x ≡ u) → cond s x y ≡ cond s u v
-    by s p q x y u v h other same first = grind arith
+over-byte b bs h = grind (arith, nat_tests, single-byte b bs, item-single b bs, item-first bs)
 
 free-word : (b : ℕ) (bs : List ℕ) → is_free b bs ≡ true → is_word_byte b ≡ true → is_before_quote bs ≡ false
 free-word b bs h word = grind (arith, word-byte b word)
@@ -66,31 +61,18 @@ free-word b bs h word = grind (arith, word-byte b word)
 size-byte : (b : ℕ) (bs : List ℕ) → is_run_byte b bs ≡ true → is_free b bs ≡ true
     → run_size 0 (b ∷ bs) ≡ suc (run_size 0 bs)
 size-byte b bs h free =
-    rw (over-byte b bs h ∙ free) (one-add (run_size (part_more b bs) bs) ∙ ap suc (cond_both (is_word_byte b) _ _
-    (λ k. run_size k bs ≡ run_size 0 bs) (λ word. word-on bs (free-word b bs free word))
-    (λ other. ap (λ t. run_size (cond t (quote_size b false bs) 0) bs) (run-no_quote b bs h))))
+    let over : goes_over b bs ≡ true = over-byte b bs h ∙ free in
+    grind (arith, nat_tests, over, one-add (run_size (part_more b bs) bs), word-on bs, free-word b bs free, run-no_quote b bs h)
   where
     word-on : (cs : List ℕ) → is_before_quote cs ≡ false → run_size (prefix_len is_word_byte cs) cs ≡ run_size 0 cs
     word-on [] apart = refl
-    word-on (c ∷ cs) apart =
-        elim (cases_Bool (is_word_byte c)) [
-          | inl word ↦
-              let over : goes_over c cs ≡ true
-              = rw ((word-byte c word).1, word) (ap not (sym (rw word refl) ∙ apart)) in
-              rw (over, word, one-add (prefix_len is_word_byte cs)) refl
-          | inr other ↦
-              let none : prefix_len is_word_byte (c ∷ cs) ≡ 0 = rw other refl in
-              ap (λ k. run_size k (c ∷ cs)) none
-        ]
+    word-on (c ∷ cs) apart = grind (arith, nat_tests, word-byte c, one-add (prefix_len is_word_byte cs))
 
 -- `k` bytes that a run may go over, and it is free to go over the last of them
 
 run-byte : (b : ℕ) (bs : List ℕ) (k : ℕ) → suc k ≤ passing is_run_byte (b ∷ bs)
     → (is_run_byte b bs ≡ true) × (k ≤ passing is_run_byte bs)
-run-byte b bs k h = by (is_run_byte b bs) (passing is_run_byte bs) h
-  where
-    by : (t : Bool) (n : ℕ) → suc k ≤ cond t (1 + n) 0 → (t ≡ true) × (k ≤ n)
-    by t n h = grind arith
+run-byte b bs k h = grind (arith, nat_tests)
 
 free-back : (b c : ℕ) (cs : List ℕ) → is_run_byte c cs ≡ true → is_free c cs ≡ true → is_free b (c ∷ cs) ≡ true
 free-back b c cs h free =
@@ -116,8 +98,7 @@ space-size b bs is = grind (arith, nat_tests)
 
 item-size : (b : ℕ) (bs : List ℕ) → (b == space) ≡ false
     → run_size 0 (b ∷ bs) ≡ cond (begins_item (b ∷ bs)) (1 + run_size (part_more b bs) bs) 0
-item-size b bs other =
-    ap (λ t. cond (cond t (begins_item bs) (is_run_item b bs)) (1 + run_size (part_more b bs) bs) 0) other
+item-size b bs other = grind (arith, nat_tests)
 
 -- The same at columns of a line.
 
@@ -127,10 +108,7 @@ get-front bytes column = get_or-drop column bytes 0 0 ∙ ap (λ n. get_or bytes
 -- no byte that a run may go over is first
 stop-byte : (b : ℕ) (bs : List ℕ) → passing is_run_byte (b ∷ bs) ≡ 0
     → (is_single b bs ≡ false) × ((b == space) ≡ true → begins_single bs ≡ false)
-stop-byte b bs h = by (is_single b bs) (begins_single bs) (b == space) (passing is_run_byte bs) h
-  where
-    by : (p q s : Bool) (n : ℕ) → cond (p || s && q) (1 + n) 0 ≡ 0 → (p ≡ false) × (s ≡ true → q ≡ false)
-    by p q s n h = grind arith
+stop-byte b bs h = grind (arith, nat_tests)
 
 word-single : (b : ℕ) (bs : List ℕ) → is_word_byte b ≡ true → is_single b bs ≡ true
 word-single b bs word = rw (word-byte b word).0 refl
@@ -151,11 +129,7 @@ space-free b bs = grind arith
 
 passing-ends : (bs : List ℕ) → passing is_run_byte (drop (passing is_run_byte bs) bs) ≡ 0
 passing-ends [] = refl
-passing-ends (b ∷ bs) =
-    elim (cases_Bool (is_run_byte b bs)) [
-      | inl h ↦ rw (h, one-add (passing is_run_byte bs)) (passing-ends bs)
-      | inr h ↦ rw h (rw h refl)
-    ]
+passing-ends (b ∷ bs) = grind (arith, nat_tests, one-add (passing is_run_byte bs), passing-ends bs)
 
 module _ (bytes : List ℕ) (from end : ℕ) (single : end ≡ from + passing is_run_byte (drop from bytes)) where
   -- the run goes over the bytes up to a column, if it is free to go over the last of them
@@ -167,29 +141,22 @@ module _ (bytes : List ℕ) (from end : ℕ) (single : end ≡ from + passing is
       by : (k : ℕ) → from + k ≡ column → column + run_size 0 (drop column bytes) ≡ from + run_size 0 (drop from bytes)
       by zero at = let same : column ≡ from = omega arith in rw same refl
       by (suc k) at =
-          let last : from + k ≡ column - 1 = omega arith in
           let bs : List ℕ = drop from bytes in
-          let byte : get_or bs k 0 ≡ get_or bytes (column - 1) 0
-          = get_or-drop from bytes k 0 ∙ ap (λ n. get_or bytes n 0) last in
-          let after : drop (suc k) bs ≡ drop column bytes
-          = drop-drop (suc k) from bytes ∙ ap (λ n. drop n bytes) at in
-          let over = run-to 0 bs (suc k) (omega arith) (ap (λ b. is_free b (drop (suc k) bs)) byte
-          ∙ ap (is_free (get_or bytes (column - 1) 0)) after ∙ free (omega arith)) in
+          let byte : get_or bs k 0 ≡ get_or bytes (column - 1) 0 = grind (arith, get_or-drop from bytes k 0) in
+          let after : drop (suc k) bs ≡ drop column bytes = grind (arith, drop-drop (suc k) from bytes) in
+          let over = run-to 0 bs (suc k) (omega arith) (rw (byte, after) (free (omega arith))) in
           omega (arith, ap (run_size 0) after, over.1)
 
   -- no more of them come after these
   pub column-ends : passing is_run_byte (drop end bytes) ≡ 0
-  column-ends =
-      let after = drop-drop (passing is_run_byte (drop from bytes)) from bytes ∙ ap (λ n. drop n bytes) (sym single) in
-      ap (passing is_run_byte) (sym after) ∙ passing-ends (drop from bytes)
+  column-ends = grind (arith, drop-drop (passing is_run_byte (drop from bytes)) from bytes, passing-ends (drop from bytes))
 
   -- the bytes end before no quoted text, or after no word
   pub column-plain : (from < end → is_word_byte (get_or bytes (end - 1) 0) ≡ true → is_quote (get_or bytes end 0) ≡ false)
       → end + run_size 0 (drop end bytes) ≡ from + run_size 0 (drop from bytes)
   column-plain apart =
       column-to end (omega arith) (omega arith)
-      (λ more. end-free (get_or bytes (end - 1) 0) (drop end bytes) column-ends
-      (λ word. ap is_quote (get-front bytes end) ∙ apart more word))
+      (search (rules, end-free, column-ends, get-front))
 
   -- a word at `start` that a quoted text follows, and the byte before it
   pub column-word : (start : ℕ) → from ≤ start → start < end → end ≤ length bytes
@@ -201,14 +168,11 @@ module _ (bytes : List ℕ) (from end : ℕ) (single : end ≡ from + passing is
   column-word start low high inside word before =
       let b : ℕ = get_or bytes start 0 in
       let bs : List ℕ = drop (start + 1) bytes in
-      let item : is_run_item b bs ≡ false = rw (word, before) refl in
-      let none : begins_item (drop start bytes) ≡ false = at_drop_more begins_item bytes start 0 (omega arith) ∙ item in
-      let ends : run_size 0 (drop start bytes) ≡ 0 = at_drop_more (run_size 0) bytes start 0 (omega arith)
-      ∙ item-size b bs (word-byte b word).1 ∙ ap (λ t. cond t (1 + run_size (part_more b bs) bs) 0) item in (
+      let ends : run_size 0 (drop start bytes) ≡ 0 = grind (arith, nat_tests, at_drop_more (run_size 0) bytes start 0 (omega arith), item-size b bs, word-byte b word) in (
         λ some is.
-            let next : start - 1 + 1 ≡ start = omega arith in
             let blank : drop (start - 1) bytes ≡ space ∷ drop start bytes
-            = at_drop_more (λ l. l) bytes (start - 1) 0 (omega arith) ∙ rw (is, next) refl in
+            = grind (arith, at_drop_more (λ l. l) bytes (start - 1) 0 (omega arith)) in
+            let none : begins_item (drop start bytes) ≡ false = grind (arith, nat_tests, at_drop_more begins_item bytes start 0 (omega arith)) in
             let here : run_size 0 (drop (start - 1) bytes) ≡ 0 = rw (blank, none) refl in
             omega (
               arith,
@@ -237,11 +201,7 @@ pub no-quote : (bytes : List ℕ) (from start : ℕ) → passing is_run_byte (dr
     → start ≡ from + (if get_or bytes from 0 == space then 1 else 0) → is_quote (get_or bytes start 0) ≡ false
     → (run_size 0 (drop from bytes) ≡ 0) × (is_quote (get_or bytes from 0) ≡ false)
 no-quote bytes from start stops at other =
-    let front = get-front bytes from in
-    let same = ap (λ b. from + (if b == space then 1 else 0)) front ∙ sym at in
-    let none = no-run (drop from bytes) stops
-    (ap is_quote (get_or-drop from bytes _ 0 ∙ ap (λ n. get_or bytes n 0) same) ∙ other) in
-    (none.0, ap is_quote (sym front) ∙ none.1)
+    search (rules, get-front, no-run, nat_tests, get_or-drop)
 
 -- there is one, up to `end`
 pub quote-over : (bytes : List ℕ) (from start end : ℕ) → start ≡ from + (if get_or bytes from 0 == space then 1 else 0)
@@ -255,23 +215,23 @@ quote-over bytes from start end at inside is ends =
     let m : ℕ = part_more b bs in
     let front : drop start bytes ≡ b ∷ bs = drop_more bytes start 0 inside in
     let item : is_run_item b bs ≡ not (m == 0) = rw ((quote-byte b is).0, is) refl in
-    let more : run_size m bs ≡ m + run_size 0 (drop end bytes) = run-after m bs (part-fits b bs)
-    ∙ ap (λ l. m + run_size 0 l) (drop-drop m (start + 1) bytes ∙ ap (λ n. drop n bytes) (sym ends)) in
+    let more : run_size m bs ≡ m + run_size 0 (drop end bytes) = grind (arith, run-after m bs (part-fits b bs), drop-drop m (start + 1) bytes) in
     let first : (run_size 0 (drop from bytes) ≡ cond (is_run_item b bs) (1 + run_size 0 (b ∷ bs)) 0)
     × (start ≡ from + 1)
     ⊎ (run_size 0 (drop from bytes) ≡ run_size 0 (b ∷ bs)) × (start ≡ from)
     = elim (cases_Bool (get_or bytes from 0 == space)) [
       | inl blank ↦
-          let next : from + 1 ≡ start = sym (rw blank at at) in
+          let next : start ≡ from + 1 = rw blank at at in
           inl (
-            at_drop_more (run_size 0) bytes from 0 (omega arith)
-                ∙ space-size (get_or bytes from 0) (drop (from + 1) bytes) blank
-                ∙ ap (λ l. cond (begins_item l) (1 + run_size 0 l) 0) (ap (λ n. drop n bytes) next ∙ front),
-            sym next,
+            grind (
+              arith,
+              at_drop_more (run_size 0) bytes from 0 (omega arith),
+              space-size (get_or bytes from 0) (drop (from + 1) bytes) blank,
+              front,
+            ),
+            next,
           )
-      | inr other ↦
-          let here : start ≡ from = omega (arith, rw other at at) in
-          inr (ap (λ n. run_size 0 (drop n bytes)) (sym here) ∙ ap (run_size 0) front, here)
+      | inr other ↦ let here : start ≡ from = omega (arith, rw other at at) in inr (grind (arith, front), here)
     ] in
     finish m _ _ _ _ from start end (is_run_item b bs) item (item-size b bs (quote-byte b is).1) more first ends
   where

@@ -1,8 +1,8 @@
 -- Ordinary bytes, which have no meaning, are skipped one by one.
 use Rattle.std.proofs.lemmas.Bool.Decides.{nat_tests}
+use Rattle.std.proofs.Math.Numerals.{one-add}
 use Rattle.std.proofs.Common.{◌≡◌, ℕ, ◌+◌, zero, suc, true, List, [], ◌∷◌, ◌++◌}
-use Rattle.std.proofs.Common.{drop, refl, arith, inl, inr}
-use Rattle.std.proofs.lemmas.Bool.{cases_Bool}
+use Rattle.std.proofs.Common.{drop, refl, arith}
 use Rattle.std.specs.List.{prefix_len}
 use Rattle.tangle_text.specs.declared.regions.Region.{Region}
 use Rattle.tangle_text.specs.Text.{Cell, line_text}
@@ -21,9 +21,4 @@ pub run-ordinary : (line column : ℕ) (bytes : List ℕ) (rest : List Cell)
     → AreOrdinary (prefix_len is_ordinary bytes) (line_text line column bytes ++ rest)
 run-ordinary line column [] rest = tt
 run-ordinary line column (b ∷ bs) rest =
-    elim (cases_Bool (is_ordinary b)) [
-      | inl h ↦
-          let n : prefix_len is_ordinary (b ∷ bs) ≡ suc (prefix_len is_ordinary bs) = rw h (omega arith) in
-          rw n (h, run-ordinary line (column + 1) bs rest)
-      | inr h ↦ rw h tt
-    ]
+    grind (arith, nat_tests, one-add (prefix_len is_ordinary bs), run-ordinary line (column + 1) bs rest)

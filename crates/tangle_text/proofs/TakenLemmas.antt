@@ -1,7 +1,7 @@
 -- A reader goes over bytes of its line.
 use Rattle.std.proofs.lemmas.Bool.Decides.{nat_tests}
 use Rattle.std.proofs.Common.{◌≡◌, ℕ, ◌+◌, ◌-◌, ◌<◌, ◌≤◌, List, None, Some}
-use Rattle.std.proofs.Common.{IsSome, length, take, drop, refl, arith}
+use Rattle.std.proofs.Common.{IsSome, length, take, drop, arith}
 use Rattle.tangle_text.specs.declared.reader.Reader.TheInside.{Inside}
 use Rattle.tangle_text.specs.declared.spans.Span.{Span}
 use Rattle.tangle_text.specs.Text.{Cell, byte_at, bytes_of, span_at}
@@ -23,12 +23,9 @@ pub takes : (r : Inside) (text : List Cell) (n end : ℕ)
 takes r text n end is some ends fits =
     let at = at-byte r text is some in
     let inside : r.column + n ≤ length r.bytes.now = omega arith in
-    let size : end - r.column ≡ n = omega arith in
-    record {
-      span = rw (ends, at.ahead) refl;
-      ahead = rw (ends, ← is) (rest_of-further r.source.now.lines r.bytes.now r.line r.column n r.is_done inside);
-      bytes = rw (size, ← is, at.done) (run-bytes r.source.now.lines r.bytes.now r.line r.column n inside);
-    }
+    let ahead = rest_of-further r.source.now.lines r.bytes.now r.line r.column n r.is_done inside in
+    let bytes = run-bytes r.source.now.lines r.bytes.now r.line r.column n inside in
+    grind (arith, at, ahead, bytes)
 
 -- a reader goes over the run at its position
 

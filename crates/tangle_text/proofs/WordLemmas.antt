@@ -1,4 +1,5 @@
 -- Words, which end in their line. Numbers go on over separators.
+use Rattle.std.proofs.Common.{rules}
 use Rattle.std.proofs.lemmas.Bool.Decides.{nat_tests}
 use Rattle.std.proofs.Common.{◌≡◌, ℕ, ◌+◌, ◌<◌, ◌≤◌, Bool, true, false, List, [], ◌∷◌, ◌++◌, ◌||◌, not}
 use Rattle.std.proofs.Common.{Some, IsSome, cond}
@@ -42,8 +43,7 @@ counted-number line column (b ∷ c ∷ bs) rest =
 word_more-line : (line column b : ℕ) (bs : List ℕ) (rest : List Cell)
     → word_more (line_text line column (b ∷ bs) ++ rest) ≡ word_size b bs
 word_more-line line column b bs rest =
-    let word = counted-run region.Word is_word_byte word-run line (column + 1) bs rest in
-    grind (arith, count-is, counted-number line (column + 1) bs rest, word)
+    search (rules, counted-run, word-run, count-is, counted-number)
 
 -- before no quoted text, a number is its word bytes
 number-word : (bs : List ℕ) → is_before_quote bs ≡ false → passing is_number_byte bs ≡ prefix_len is_word_byte bs

@@ -9,8 +9,6 @@ use Rattle.tangle_faults.specs.declared.faults.FaultKind.TheVariants as fault
 use Rattle.tangle_lines.specs.Bytes.{at_sign, double_quote}
 use Rattle.tangle_text.specs.declared.regions.Region.{Region}
 use Rattle.tangle_text.specs.declared.regions.Region.TheVariants as region
-use Rattle.tangle_text.specs.declared.regions.Unit.{Unit as Unit-of}
-use Rattle.tangle_text.specs.declared.regions.Unit.TheVariants as unit
 use Rattle.tangle_text.specs.Bytes.{holds, is_line_end, holds_word_byte}
 use Rattle.tangle_text.specs.Bytes.{apostrophe}
 use Rattle.tangle_text.specs.Bytes.{less_sign}
@@ -25,15 +23,13 @@ use Rattle.tangle_lexer.specs.declared.lexeme_kinds.ControlCode.{ControlCode}
 use Rattle.tangle_lexer.specs.declared.lexeme_kinds.ControlCode.TheVariants as code
 use Rattle.tangle_lexer.specs.declared.lexeme_kinds.LexemeKind.{LexemeKind}
 use Rattle.tangle_lexer.specs.declared.lexeme_kinds.LexemeKind.TheVariants as lexeme_kind
-use Rattle.tangle_lexer.specs.declared.constants.AsciiConstant.{AsciiConstant}
 use Rattle.tangle_lexer.specs.declared.tokens.Token.{Token}
 use Rattle.tangle_lexer.specs.declared.tokens.Token.TheVariants as token
 use Rattle.tangle_lexer.specs.declared.tokens.SpanKind.TheVariants as span_kind
 use Rattle.tangle_lexer.specs.LinesOfC.{inner_end_in}
 use Rattle.tangle_lexer.specs.Lexemes.{Lexeme, fault_if}
 use Rattle.tangle_lexer.specs.Comments.{line_ends, starts_section}
-use Rattle.tangle_lexer.specs.Quoted.{at_stop, next_start, cut_tokens, verbatim_end}
-use Rattle.tangle_lexer.specs.Constants.{constant_lexeme}
+use Rattle.tangle_lexer.specs.Quoted.{next_start, cut_tokens, verbatim_end}
 use Rattle.tangle_lexer.specs.Names.{name_in_documentation, definition_or_mention, definition_count}
 use Rattle.tangle_lexer.specs.CText.{code_at, kind_by, kind_at}
 use Rattle.tangle_lexer.specs.Steps.{documentation_code, c_code, c_lexeme, macro_lexeme, lexeme_in, lexeme, lexemes}
@@ -76,11 +72,6 @@ no-white b ends faults h k = grind (arith, nat_tests, none-append, no-inner)
 
 -- verbatim texts have no breaks
 
-no-empty : (u : Unit-of) (text : List Cell)
-    → HasNoSource (at_stop u (token.Span span_kind.Verbatim (span_at 0 text) ∷ []) [])
-no-empty unit.Stop text = seen _ refl
-no-empty u text = seen _ refl
-
 no-verbatim_end : (start : ℕ) (text : List Cell) → HasNoSource (verbatim_end start text)
 no-verbatim_end start text = search rules
 
@@ -101,10 +92,6 @@ no-name s text = by (definition_count text)
     by : (count : Option ℕ) → HasNoSource (definition_or_mention count s text).tokens
     by None = search (rules, no-append, no-fault)
     by (Some count) = seen _ refl
-
-no-constant : (constant : Option AsciiConstant) (s : LexerState) (text : List Cell)
-    → HasNoSource (constant_lexeme constant s text).tokens
-no-constant constant s text = search rules
 
 -- what the first byte of a lexeme of this kind is
 abbrev Shows : LexemeKind → Option ℕ → Type 0
@@ -151,10 +138,10 @@ module _ (texts : List (List ℕ)) (clear : AreClear texts) where
       → IsTextAt texts at (c ∷ cs)
       → holds at_sign c.byte ≡ true → AreWhole (c_code kind s (c ∷ cs)).tokens
   code-whole code.DoubleAt s at c cs is sign = grind (arith, nat_tests, sign-whole at c cs is c.byte)
-  code-whole code.Verbatim s at c cs is sign = others-whole _ (search (rules, no-append, no-empty, no-cut))
+  code-whole code.Verbatim s at c cs is sign = others-whole _ (search (rules, no-append, no-cut, seen))
   code-whole code.Name s at c cs is sign = others-whole _ (search (rules, no-append, no-fault))
   code-whole code s at c cs is sign =
-      others-whole _ (search (rules, seen, no-white, no-line_ends, no-fault, no-constant))
+      others-whole _ (search (rules, seen, no-white, no-line_ends, no-fault))
 
   kind-whole : (kind : LexemeKind) (s : LexerState) (at : Point) (c : Cell) (cs : List Cell)
       → IsTextAt texts at (c ∷ cs)

@@ -32,8 +32,8 @@ raw-have : (bytes : List ℕ) → AllByRecursion TextHasNoLineFeed (raw_lines by
 raw-have [] = tt
 raw-have (b ∷ bs) = grind (arith, nat_tests, raw-have bs)
 
-pub cut-have : (bytes : List ℕ) → AllByRecursion TextHasNoLineFeed (cut bytes)
-cut-have bytes =
+pub cut_have : (bytes : List ℕ) → AllByRecursion TextHasNoLineFeed (cut bytes)
+cut_have bytes =
     all-map TextHasNoLineFeed trimmed (raw_lines bytes)
     (all-each TextHasNoLineFeed (λ l. TextHasNoLineFeed (trimmed l)) (raw_lines bytes) trimmed-has (raw-have bytes))
 
@@ -119,9 +119,9 @@ module _ (P : ℕ → List ℕ → Type 0) where
 abbrev AreClear : ℕ → List (List ℕ) → Type 0
 AreClear n ls = AreNumbered (λ n l. TextHasNoLineFeed l) n ls
 
-pub source-clear : (files : FileTable) (roles : RolesRead) → FileLinesHaveNoLineFeed files
+pub source_clear : (files : FileTable) (roles : RolesRead) → FileLinesHaveNoLineFeed files
     → SourceLinesHaveNoLineFeed (source_of files roles).lines
-source-clear files roles clear = source-lines (λ n l. TextHasNoLineFeed l) files roles (at files clear)
+source_clear files roles clear = source-lines (λ n l. TextHasNoLineFeed l) files roles (at files clear)
   where
     all : (n : ℕ) (ls : List (List ℕ)) → AllByRecursion TextHasNoLineFeed ls → AreClear n ls
     all n [] h = tt

@@ -45,11 +45,7 @@ module _ (texts : List (List ℕ)) where
 module _ (texts : List (List ℕ)) (clear : AreClear texts) where
   no-feed : (at : Point) (text : List Cell) → IsTextAt texts at text → holds line_feed (byte_at 0 text) ≡ false
   no-feed at [] is = refl
-  no-feed at (c ∷ cs) is = by c.byte refl
-    where
-      by : (b : Option ℕ) → c.byte ≡ b → holds line_feed b ≡ false
-      by None e = refl
-      by (Some b) e = subst (λ b. (b == line_feed) ≡ false) (source-is texts at c b e is.0) (clear c.line c.column)
+  no-feed at (c ∷ cs) is = grind (arith, nat_tests, source-is texts at c, clear c.line c.column)
 
   -- a byte of a text, and the text after it
   pub record IsByteAt (c : Cell) (cs : List Cell) (b : ℕ) : Type 0 where

@@ -37,19 +37,14 @@ after-gaps [] t ts gaps none h = range-by (λ u. first_is_range (u ∷ ts) ≡ t
 after-gaps (u ∷ run) t ts gaps none h = search (rules, after-gaps run t ts)
 
 module _ (texts : List (List ℕ)) where
-  -- of a range and what is after it
-  range-left : (t : Token) (ts run : List Token) → AreNameGaps run → is_range t ≡ true
-      → first_is_range (map_runs left_of_run run (t ∷ ts)) ≡ true
-  range-left t ts run gaps h = search (rules, after-gaps)
-
   name-left : (ts run : List Token) → AreNameGaps run → name_is_range ts ≡ true
       → first_is_range (map_runs left_of_run run (with_name_space texts ts)) ≡ true
   name-left [] run gaps h = cc
   name-left (token.White ∷ ts) run gaps h = grind (arith, nat_tests, name-left ts, gaps-last run token.White gaps)
   name-left (token.LineEnd line ∷ ts) run gaps h = grind (arith, nat_tests, name-left ts, gaps-last run)
   name-left (token.Join ∷ ts) run gaps h = name-left ts (run ++ token.Join ∷ []) (gaps-last run token.Join gaps refl) h
-  name-left (t ∷ []) run gaps h = search (rules, range-left)
-  name-left (t ∷ f ∷ ts) run gaps h = search (rules, range-left)
+  name-left (t ∷ []) run gaps h = search (rules, after-gaps)
+  name-left (t ∷ f ∷ ts) run gaps h = search (rules, after-gaps)
 
   backslashes-left : (ts : List Token) → first_is_range ts ≡ true → first_is_range (without_backslashes texts ts) ≡ true
   backslashes-left [] h = cc

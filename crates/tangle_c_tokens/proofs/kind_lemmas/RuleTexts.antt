@@ -2,9 +2,9 @@
 use Rattle.tangle_c_tokens.proofs.ListLemmas.{all-append}
 use Rattle.std.proofs.Common.{rules}
 use Rattle.std.proofs.Common.{arith}
-use Rattle.std.proofs.Common.{◌≡◌, ℕ, Bool, true, false, List, [], ◌∷◌, ◌++◌, refl, ap, sym, ◌∙◌, subst, map}
+use Rattle.std.proofs.Common.{◌≡◌, ℕ, Bool, true, false, List, [], ◌∷◌, ◌++◌, refl, sym, subst, map}
 use Rattle.std.specs.List.{AllByRecursion, list_all}
-use Rattle.std.proofs.lemmas.Bool.{and_parts, cond_both}
+use Rattle.std.proofs.lemmas.Bool.{cond_both}
 use Rattle.tangle_text.specs.declared.spans.Span.{Span}
 use Rattle.tangle_lexer.specs.declared.tokens.Token.{Token}
 use Rattle.tangle_lexer.specs.declared.tokens.Token.TheVariants as token
@@ -12,12 +12,11 @@ use Rattle.tangle_lexer.specs.declared.tokens.SpanKind.TheVariants as span_kind
 use Rattle.tangle_scan.specs.Rules.{without_faults, white_inner_end, clean_tokens, would_merge, with_spaces}
 use Rattle.tangle_scan.specs.Rules.{may_follow_name}
 use Rattle.tangle_scan.specs.Rules.{with_space_after, with_name_space, is_gap, map_runs, left_of_run}
-use Rattle.tangle_scan.specs.Rules.{without_joins}
 use Rattle.tangle_scan.specs.Rules.{is_line_backslash, without_backslashes, without_front_gaps}
 use Rattle.tangle_scan.specs.Rules.{part_tokens}
 use Rattle.tangle_scan.specs.Rules.{macro_tokens}
 use Rattle.tangle_lexer.specs.LinesOfParts.{body}
-use Rattle.tangle_c_tokens.specs.Kinds.{HasItsKind, is_range, IsQuotedText, AreTexts}
+use Rattle.tangle_c_tokens.specs.Kinds.{HasItsKind, is_range, AreTexts}
 use Rattle.tangle_c_tokens.proofs.kind_lemmas.Texts.{texts-none, texts-alone, texts-part, texts-by, texts-append}
 use Rattle.std.proofs.lemmas.Bool.Decides.{nat_tests}
 
@@ -50,8 +49,8 @@ module _ (texts : List (List ℕ)) where
       → AreTexts texts (f (t ∷ ts))) → (ts : List Token) → AreTexts texts ts → AreTexts texts (f ts)
   edited-texts f none keeps others =
       texts-by texts (λ ts. AreTexts texts (f ts)) none (λ t ts alone kind all made. others t ts alone kind made)
-      (λ part ts quoted all made.
-      subst (AreTexts texts) (sym (keeps-part f keeps part ts quoted.ranges)) (search (rules, texts-part)))
+      (λ t part ts quoted all made.
+      subst (AreTexts texts) (sym (keeps-part f keeps (t ∷ part) ts quoted.ranges)) (search (rules, texts-part)))
 
   white : (ts : List Token) → AreTexts texts ts → AreTexts texts (token.White ∷ ts)
   white ts all = texts-alone texts token.White ts refl tt all
@@ -64,11 +63,7 @@ module _ (texts : List (List ℕ)) where
 
   inner-texts : (ts : List Token) → AreTexts texts ts → AreTexts texts (map white_inner_end ts)
   inner-texts = edited-texts (map white_inner_end) (texts-none texts) (search rules)
-      (λ t ts alone kind made. one t (map white_inner_end ts) alone kind made)
-    where
-      one : (t : Token) (ts : List Token) → is_range t ≡ false → HasItsKind texts t → AreTexts texts ts
-          → AreTexts texts (white_inner_end t ∷ ts)
-      one t ts alone kind made = search (rules, texts-alone)
+      (λ t ts alone kind made. search (rules, texts-alone))
 
   spaces-texts : (ts : List Token) → AreTexts texts ts → AreTexts texts (with_spaces texts ts)
   spaces-texts = edited-texts (with_spaces texts) (texts-none texts) (search rules) one
@@ -107,25 +102,17 @@ module _ (texts : List (List ℕ)) where
       cond_both (is_gap t) (map_runs left_of_run (run ++ t ∷ []) ts) (left_of_run run ++ t ∷ map_runs left_of_run [] ts)
       (AreTexts texts) (λ e. made (run ++ t ∷ []) (all-append (λ t. (is_range t ≡ false) × HasItsKind texts t) run (t ∷ []) is ((alone, kind), tt)))
       (search (rules, texts-append, left-texts, texts-alone)))
-      (λ part ts quoted all made run is. by part ts quoted run is (made run is) (made [] tt))
-    where
-      by : (part ts : List Token) → IsQuotedText texts part → (run : List Token) → AreAlone run
-          → AreTexts texts (map_runs left_of_run run ts) → AreTexts texts (map_runs left_of_run [] ts)
-          → AreTexts texts (map_runs left_of_run run (part ++ ts))
-      by [] ts quoted run is after made = after
-      by (t ∷ part) ts quoted run is after made =
-          let first : map_runs left_of_run run (t ∷ part ++ ts)
-          ≡ left_of_run run ++ t ∷ map_runs left_of_run [] (part ++ ts)
-          = search rules in
-          subst (AreTexts texts) (sym (first ∙ (ap (λ us. left_of_run run ++ t ∷ us) (cc (keeps-part (map_runs left_of_run []) (λ t ts h. grind (arith, nat_tests)) part ts (and_parts (is_range t) (list_all is_range part) quoted.ranges).1)))))
-          (texts-append texts (left_of_run run) _ (left-texts run is)
-          (texts-part texts (t ∷ part) (map_runs left_of_run [] ts) quoted made))
-
-  pub joins-texts : (ts : List Token) → AreTexts texts ts → AreTexts texts (without_joins [] ts)
-  joins-texts ts all = runs-texts ts all [] tt
+      (λ t part ts quoted all made run is.
+      grind (
+        arith,
+        nat_tests,
+        keeps-part (map_runs left_of_run []) (λ t ts h. grind (arith, nat_tests)) part ts,
+        texts-append texts (left_of_run run) (t ∷ part ++ map_runs left_of_run [] ts) (left-texts run is)
+            (texts-part texts (t ∷ part) (map_runs left_of_run [] ts) quoted (made [] tt)),
+      ))
 
   pub part-texts : (ts : List Token) → AreTexts texts (without_faults ts) → AreTexts texts (part_tokens texts ts)
-  part-texts ts all = search (rules, joins-texts, spaces-texts, inner-texts)
+  part-texts ts all = search (rules, runs-texts, spaces-texts, inner-texts)
 
   -- macros
 
@@ -134,19 +121,14 @@ module _ (texts : List (List ℕ)) where
       texts-by texts (λ ts. AreTexts texts (without_front_gaps ts)) (texts-none texts)
       (λ t ts alone kind all made.
       grind (arith, nat_tests, texts-alone texts t ts alone kind all))
-      (λ part ts quoted all made. by part ts quoted all made)
-    where
-      by : (part ts : List Token) → IsQuotedText texts part → AreTexts texts ts → AreTexts texts (without_front_gaps ts)
-          → AreTexts texts (without_front_gaps (part ++ ts))
-      by [] ts quoted all made = made
-      by (t ∷ part) ts quoted all made = grind (arith, nat_tests, texts-part texts (t ∷ part) ts quoted all)
+      (λ t part ts quoted all made. grind (arith, nat_tests, texts-part texts (t ∷ part) ts quoted all))
 
   name_space-texts : (ts : List Token) → AreTexts texts ts → name_is_range ts ≡ false
       → AreTexts texts (with_name_space texts ts)
   name_space-texts =
       texts-by texts (λ ts. name_is_range ts ≡ false → AreTexts texts (with_name_space texts ts))
       (λ h. texts-none texts) (λ t ts alone kind all made h. one t ts alone kind all made h)
-      (λ part ts quoted all made h. by part ts quoted made h)
+      (λ t part ts quoted all made h. grind (arith, nat_tests))
     where
       name : (t : Token) (ts : List Token) → is_range t ≡ false → HasItsKind texts t → AreTexts texts ts
           → AreTexts texts (with_space_after texts t ts)
@@ -164,16 +146,10 @@ module _ (texts : List (List ℕ)) where
       one token.Join ts alone kind all made h = texts-alone texts token.Join _ alone kind (made h)
       one t ts alone kind all made h = name t ts alone kind all
 
-      by : (part ts : List Token) → IsQuotedText texts part
-          → (name_is_range ts ≡ false → AreTexts texts (with_name_space texts ts)) → name_is_range (part ++ ts) ≡ false
-          → AreTexts texts (with_name_space texts (part ++ ts))
-      by [] ts quoted made h = made h
-      by (t ∷ part) ts quoted made h = grind (arith, nat_tests)
-
   -- the tokens of a macro before its name is looked for
   abbrev pub front_tokens : List Token → List Token
   front_tokens ts = with_spaces texts (without_front_gaps (clean_tokens ts))
 
   pub macro-texts : (ts : List Token) → AreTexts texts (without_faults ts) → name_is_range (front_tokens ts) ≡ false
       → AreTexts texts (macro_tokens texts ts)
-  macro-texts ts all h = search (rules, joins-texts, name_space-texts, spaces-texts, front_gaps-texts, inner-texts)
+  macro-texts ts all h = search (rules, runs-texts, name_space-texts, spaces-texts, front_gaps-texts, inner-texts)

@@ -8,7 +8,7 @@ use Rattle.std.proofs.lemmas.Bool.{and_parts, and_from, or_left, eqb-true}
 use Rattle.tangle_text.specs.declared.regions.Region.TheVariants as region
 use Rattle.tangle_text.specs.declared.regions.Unit.TheVariants as unit
 use Rattle.tangle_text.specs.Bytes.{apostrophe, is_word_byte, is_digit}
-use Rattle.tangle_text.specs.Text.{Cell, byte_at, bytes_by, line_bytes, span_at, span_text}
+use Rattle.tangle_text.specs.Text.{Cell, bytes_by, line_bytes, span_at, span_text}
 use Rattle.tangle_text.specs.Regions.{unit_by, unit_of, is_separator, count_before}
 use Rattle.tangle_text.specs.Words.{word_region, word_more}
 use Rattle.tangle_lexer.specs.declared.tokens.SpanKind.TheVariants as span_kind
@@ -29,13 +29,7 @@ use Rattle.std.proofs.lemmas.Bool.Decides.{nat_tests}
 word-bytes : (text : List Cell) → list_all is_word_byte (take (count_before region.Word text) (line_bytes text)) ≡ true
 word-bytes =
     units-by region.Word (λ n text. list_all is_word_byte (take n (line_bytes text)) ≡ true) (λ text e. refl) refl
-    (λ n c cs e h. one n cs h (byte_at 0 cs) c.byte e) (λ n c d cs e h. grind (arith, nat_tests)) (λ c e. grind (arith, nat_tests))
-  where
-    one : (n : ℕ) (cs : List Cell) → list_all is_word_byte (take n (line_bytes cs)) ≡ true → (next b : Option ℕ)
-        → unit_of region.Word b next ≡ unit.One
-        → list_all is_word_byte (take (suc n) (bytes_by b (line_bytes cs))) ≡ true
-    one n cs h next None e = cc
-    one n cs h next (Some b) e = grind (arith, nat_tests)
+    (λ n c cs e h. grind (arith, nat_tests)) (λ n c d cs e h. grind (arith, nat_tests)) (λ c e. grind (arith, nat_tests))
 
 -- the cells of a number after its first have word bytes, and apostrophes that separate them
 
@@ -51,14 +45,9 @@ more-separated b a word h = search (rules, and_from, is_separated_byte, or_left,
 number-bytes : (text : List Cell) → IsSeparated (take (count_before region.Number text) (line_bytes text))
 number-bytes =
     units-by region.Number (λ n text. IsSeparated (take n (line_bytes text))) (λ text e. (refl, refl)) (refl, refl)
-    (λ n c cs e h. one n cs h (byte_at 0 cs) c.byte e) (λ n c d cs e h. two n cs h c.byte d.byte e)
+    (λ n c cs e h. grind (arith, nat_tests, λ (b : ℕ). more-separated b (take n (line_bytes cs)))) (λ n c d cs e h. two n cs h c.byte d.byte e)
     (λ c e. grind (arith, nat_tests))
   where
-    one : (n : ℕ) (cs : List Cell) → IsSeparated (take n (line_bytes cs)) → (next b : Option ℕ)
-        → unit_of region.Number b next ≡ unit.One → IsSeparated (take (suc n) (bytes_by b (line_bytes cs)))
-    one n cs h next None e = grind (arith, nat_tests)
-    one n cs h next (Some b) e = grind (arith, nat_tests, more-separated b)
-
     two : (n : ℕ) (cs : List Cell) → IsSeparated (take n (line_bytes cs)) → (b next : Option ℕ)
         → unit_of region.Number b next ≡ unit.Two
         → IsSeparated (take (suc (suc n)) (bytes_by b (bytes_by next (line_bytes cs))))

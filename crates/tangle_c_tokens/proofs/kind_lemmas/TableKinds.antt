@@ -23,5 +23,5 @@ sample Other = token.White
 sample-kind : (texts : List (List ℕ)) (e : Token) → touch_kind texts e ≡ touch_kind samples (sample (item_kind texts e))
 sample-kind texts e = search rules
 
-pub same-table : (texts : List (List ℕ)) (e f : Token) → may_touch texts e f ≡ kinds_may_touch (item_kind texts e) (item_kind texts f)
-same-table texts e f = search (rules, sample-kind)
+pub same_table : (texts : List (List ℕ)) (e f : Token) → may_touch texts e f ≡ kinds_may_touch (item_kind texts e) (item_kind texts f)
+same_table texts e f = search (rules, sample-kind)

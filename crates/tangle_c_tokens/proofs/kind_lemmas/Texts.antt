@@ -40,11 +40,13 @@ module _ (texts : List (List ℕ)) where
   module _ (P : List Token → Type 0) (none : P [])
       (alone : (t : Token) (ts : List Token) → is_range t ≡ false → HasItsKind texts t → AreTexts texts ts → P ts
       → P (t ∷ ts))
-      (quoted : (part ts : List Token) → IsQuotedText texts part → AreTexts texts ts → P ts → P (part ++ ts)) where
+      (quoted : (t : Token) (part ts : List Token) → IsQuotedText texts (t ∷ part) → AreTexts texts ts → P ts
+      → P (t ∷ part ++ ts)) where
     parts-by : (parts : List (List Token))
         → AllByRecursion (λ part. IsAlone texts part ⊎ IsQuotedText texts part) parts → P (flat_map (λ part. part) parts)
     parts-by [] all = none
-    parts-by (part ∷ parts) all = search (rules, alone, quoted, parts-by parts)
+    parts-by ([] ∷ parts) all = parts-by parts all.1
+    parts-by ((t ∷ part) ∷ parts) all = search (rules, alone, quoted, parts-by parts)
 
     pub texts-by : (ts : List Token) → AreTexts texts ts → P ts
     texts-by ts all = subst P (sym all.1) (parts-by all.0 all.2)
@@ -53,8 +55,8 @@ module _ (texts : List (List ℕ)) where
   texts-append xs ys first rest =
       texts-by (λ ts. AreTexts texts (ts ++ ys)) rest
       (λ t ts alone kind all made. texts-alone t (ts ++ ys) alone kind made)
-      (λ part ts text all made.
-      subst (AreTexts texts) (sym (append_assoc part ts ys)) (texts-part part (ts ++ ys) text made))
+      (λ t part ts text all made.
+      subst (AreTexts texts) (sym (append_assoc (t ∷ part) ts ys)) (texts-part (t ∷ part) (ts ++ ys) text made))
       xs first
 
   -- tokens without bytes of words, signs and quoted texts

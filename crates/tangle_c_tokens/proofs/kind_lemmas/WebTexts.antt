@@ -1,4 +1,5 @@
 -- The tokens of a source, of its pieces and of its macros are texts, one after another.
+use Rattle.tangle_c_tokens.proofs.kind_lemmas.TableKinds.{same_table}
 use Rattle.std.proofs.Common.{rules}
 use Rattle.std.proofs.Common.{arith}
 use Rattle.std.proofs.Common.{◌≡◌, ℕ, true, List, [], ◌∷◌, ◌++◌, refl, map, flat_map, Option}
@@ -33,10 +34,10 @@ use Rattle.tangle_c_tokens.proofs.kind_lemmas.RuleTexts.{backslashes-texts}
 use Rattle.tangle_c_tokens.proofs.kind_lemmas.MacroNames.{kept-name}
 use Rattle.std.proofs.lemmas.Bool.Decides.{nat_tests}
 
-pub source-texts : (lines : List SourceLine) → SourceLinesHaveNoLineFeed lines
+pub source_texts : (lines : List SourceLine) → SourceLinesHaveNoLineFeed lines
     → AreTexts (texts_of lines) (without_faults (all_tokens lines))
 unfolding tokens_from
-source-texts lines none =
+source_texts lines none =
     lexemes-whole (texts_of lines) (lines-clear lines none) 0 _ (point_at 0 0) (text_from 0 lines) (text-is lines)
 
 body-faults : (ts : List Token) → body (without_faults ts) ≡ without_faults (body ts)
@@ -55,13 +56,9 @@ module _ (texts : List (List ℕ)) where
   bodies-texts : (ts : List Token) → AreTexts texts ts → (n : ℕ) → HaveBodies n ts
   bodies-texts =
       texts-by texts (λ ts. (n : ℕ) → HaveBodies n ts) (λ n. tt)
-      (λ t ts alone kind all made n. one t ts (body-texts texts ts all) n (made (section_after n t)))
-      (λ part ts quoted all made n. by part ts n quoted.ranges (made n))
+      (λ t ts alone kind all made n. let own = body-texts texts ts all in search (rules, made))
+      (λ t part ts quoted all made n. by (t ∷ part) ts n quoted.ranges (made n))
     where
-      one : (t : Token) (ts : List Token) → AreTexts texts (body ts) → (n : ℕ) → HaveBodies (section_after n t) ts
-          → HaveBodies n (t ∷ ts)
-      one t ts all n made = search rules
-
       by : (part ts : List Token) (n : ℕ) → list_all is_range part ≡ true → HaveBodies n ts → HaveBodies n (part ++ ts)
       by [] ts n ranges made = made
       by (t ∷ part) ts n ranges made = grind (arith, nat_tests, by part ts n)
@@ -76,7 +73,7 @@ module _ (lines : List SourceLine) where
   texts = texts_of lines
 
   pub blocks-have : SourceLinesHaveNoLineFeed lines → HaveTexts texts (blocks 0 (all_tokens lines))
-  blocks-have none = search (rules, blocks-texts, bodies-texts, source-texts)
+  blocks-have none = search (rules, blocks-texts, bodies-texts, source_texts)
 
   abbrev pub macro_tokens_of : Block → List Token
   macro_tokens_of b = without_backslashes texts (macro_tokens texts b.tokens)
@@ -140,12 +137,14 @@ module _ (lines : List SourceLine) where
       ))
       (blocks 0 (all_tokens lines)) (blocks-have clear)
 
-  pub pieces-texts : SourceLinesHaveNoLineFeed lines → AllByRecursion (AreTexts texts) (all_piece_tokens lines)
-  pieces-texts none =
+  pub pieces_texts : SourceLinesHaveNoLineFeed lines → AllByRecursion (AreTexts texts) (all_piece_tokens lines)
+  pieces_texts none =
       pieces-by (λ pieces tokens. AllByRecursion (AreTexts texts) tokens) tt
       (λ b occurrence line pieces tokens are all. (are, all)) (blocks 0 (all_tokens lines)) (blocks-have none)
 
-  pub macros-texts : SourceLinesHaveNoLineFeed lines → AllByRecursion (AreTexts texts) (all_macro_tokens lines)
-  macros-texts none =
+  pub macros_texts : SourceLinesHaveNoLineFeed lines → AllByRecursion (AreTexts texts) (all_macro_tokens lines)
+  macros_texts none =
       macros-by (λ macros tokens. AllByRecursion (AreTexts texts) tokens) tt
       (λ b macros tokens are all. (are, all)) (blocks 0 (all_tokens lines)) (blocks-have none)
+
+pub ruleset are_of_kinds = (same_table, source_texts, pieces_texts, macros_texts)

@@ -1,4 +1,5 @@
 -- An ASCII constant is on one line, and has no apostrophe before its last byte, except for one that a backslash escapes.
+use Rattle.std.proofs.lemmas.List.{drop-drop}
 use Rattle.std.proofs.Common.{rules}
 use Rattle.std.proofs.lemmas.Bool.Decides.{nat_tests}
 use Rattle.std.proofs.Common.{◌≡◌, ◌<◌, ◌≤◌, ℕ, ◌+◌, ◌-◌, Bool, true, ◌==◌, List, ◌∷◌, drop}
@@ -60,14 +61,9 @@ pub ascii_constant-quotes : (s : LexerState) (text : List Cell) (k : ℕ)
     → 2 ≤ k → k + 1 < 1 + (ascii_constant s text).more → holds apostrophe (byte_at k text) ≡ true
     → (k ≡ 3) × (holds backslash (byte_at 2 text) ≡ true)
 ascii_constant-quotes s text k first last quote =
-    let sum : k ≡ 2 + (k - 2) = omega arith in
-    let here : holds apostrophe (byte_at (k - 2) (drop 2 text)) ≡ true = sym (there k sum) ∙ quote in
-    by (constant_at (drop 2 text)) (constant-closed (byte_at 0 (drop 2 text)) (drop 2 text) refl) last here
+    let here : byte_at k text ≡ byte_at (k - 2) (drop 2 text) = grind (arith, byte_at-drop k text, byte_at-drop (k - 2) (drop 2 text), drop-drop (k - 2) 2 text) in
+    by (constant_at (drop 2 text)) (constant-closed (byte_at 0 (drop 2 text)) (drop 2 text) refl) last (ap (holds apostrophe) (sym here) ∙ quote)
   where
-    there : (k : ℕ)
-        → k ≡ 2 + (k - 2) → holds apostrophe (byte_at k text) ≡ holds apostrophe (byte_at (k - 2) (drop 2 text))
-    there k sum = search rules
-
     by : (c : Option AsciiConstant) → IsClosed (drop 2 text) c → k + 1 < 1 + (constant_lexeme c s text).more
         → holds apostrophe (byte_at (k - 2) (drop 2 text)) ≡ true
         → (k ≡ 3) × (holds backslash (byte_at 2 text) ≡ true)

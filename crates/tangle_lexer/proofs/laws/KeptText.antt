@@ -1,25 +1,21 @@
 -- The ranges of quoted and verbatim texts have all bytes of these texts but the second @ of each @@.
 use Rattle.std.proofs.Common.{rules}
 use Rattle.std.proofs.lemmas.Bool.Decides.{nat_tests}
-use Rattle.std.proofs.Common.{◌≡◌, ℕ, suc, ◌+◌, ◌≤◌, Bool, true, false, not, List, [], ◌∷◌, ◌++◌, take, drop}
-use Rattle.std.proofs.Common.{Option, refl, ap, ◌∙◌, arith, cond, ◌==◌, ◌&&◌}
+use Rattle.std.proofs.Common.{◌≡◌, ℕ, ◌+◌, ◌≤◌, Bool, true, false, not, List, [], ◌∷◌, ◌++◌, take, drop}
+use Rattle.std.proofs.Common.{Option, arith, ◌==◌, ◌&&◌}
 use Rattle.std.proofs.Common.{append_assoc, append-nil, flat_map}
 use Rattle.std.proofs.Math.Seq.{take-add}
-use Rattle.tangle_faults.specs.declared.faults.FaultKind.TheVariants as fault
 use Rattle.tangle_lexer.specs.declared.tokens.Token.{Token}
-use Rattle.tangle_lexer.specs.declared.tokens.Token.TheVariants as token
 use Rattle.tangle_lexer.specs.declared.modes.LexerState.{LexerState}
 use Rattle.tangle_text.specs.declared.regions.Region.{Region}
 use Rattle.tangle_text.specs.declared.regions.Region.TheVariants as region
 use Rattle.tangle_lines.specs.Bytes.{at_sign}
-use Rattle.tangle_text.specs.Bytes.{holds, is_line_end}
-use Rattle.tangle_text.specs.Text.{Cell, byte_at, front_column}
+use Rattle.tangle_text.specs.Bytes.{holds}
+use Rattle.tangle_text.specs.Text.{Cell, byte_at}
 use Rattle.tangle_text.specs.Regions.{count_before}
-use Rattle.tangle_lexer.specs.Lexemes.{fault_if}
 use Rattle.tangle_lexer.specs.Quoted.{cut_tokens, quote_end, one_if, quoted_text}
 use Rattle.tangle_lexer.specs.Quoted.{verbatim_end, empty_text, verbatim_tokens}
-use Rattle.tangle_lexer.specs.Segments.{points_by, kept_points, byte_points, cell_kind, text_segments}
-use Rattle.tangle_lexer.specs.Segments.SegmentKind.{Kept, SecondAtSign, LineEnd}
+use Rattle.tangle_lexer.specs.Segments.{kept_points, byte_points, text_segments}
 use Rattle.tangle_lexer.proofs.laws.Points.{Point, point_at, IsByte, IsTextAt, text-next, text-column}
 use Rattle.tangle_lexer.proofs.laws.CutTexts.{IsCut, verbatim-cut, cut-by}
 use Rattle.tangle_lexer.proofs.laws.SegmentPoints.{columns_to, columns-next, columns-nothing, token_points}
@@ -28,10 +24,6 @@ use Rattle.tangle_lexer.proofs.laws.SegmentPoints.{cut-points, points-append}
 -- the points of the bytes that are kept of such a text
 abbrev pub text_points : Bool → List Cell → List (ℕ × ℕ)
 text_points after_at_sign cells = flat_map kept_points (text_segments after_at_sign cells)
-
-kept-byte : (after_at_sign : Bool) (c : Cell) → IsByte c.byte → (after_at_sign && holds at_sign c.byte) ≡ false
-    → points_by (cell_kind after_at_sign c) (c ∷ []) ≡ (c.line, c.column) ∷ []
-kept-byte after_at_sign c h k = grind arith
 
 -- the points of a text before cells whose points do not depend on the cell before them
 points-before : (after_at_sign : Bool) (xs ys : List Cell) (ps : List (ℕ × ℕ))
@@ -57,57 +49,14 @@ module _ (texts : List (List ℕ)) where
         → columns_to line start (column + 1) ++ ps ≡ columns_to line start column ++ ((line, column) ∷ ps)
     after-range line start column ps h = grind (arith, nat_tests, columns-next, append_assoc)
 
-    one-points : (c : Cell) (cs : List Cell) (n : ℕ)
-        → IsByte c.byte → (holds at_sign c.byte ≡ true → holds at_sign (byte_at 0 cs) ≡ false)
-        → kept_of (suc n) (c ∷ cs) ≡ (c.line, c.column) ∷ kept_of n cs
-    one-points c cs n byte alone = grind arith
-
-    -- a unit of two cells that begins with a byte: the second cell is kept if it is a byte and the first is not @
-    abbrev second_points : Bool → Cell → List (ℕ × ℕ)
-    second_points sign d = points_by (cell_kind (sign && true) d) (d ∷ [])
-
-    two-points : (c d : Cell) (cs : List Cell) (n : ℕ) (sign : Bool)
-        → IsByte c.byte → holds at_sign c.byte ≡ sign → holds at_sign d.byte ≡ sign
-        → kept_of (suc (suc n)) (c ∷ d ∷ cs) ≡ (c.line, c.column) ∷ second_points sign d ++ kept_of n cs
-    two-points c d cs n sign byte first second = grind (arith, nat_tests)
-
     pub cut-keeps : (at : Point) (start : ℕ) (text : List Cell) → start ≤ at.column → IsTextAt texts at text
         → Keeps at start (cut_tokens ends r 0 start text) (count_before r text) text
     cut-keeps =
         cut-by texts r cut ends Keeps stop
-        (λ at start c cs ts n h is byte alone kept.
-        rw (one-points c cs n byte alone, ← is.line, ← is.column)
-        (no-points (holds at_sign c.byte) c.line ts ∙ kept
-        ∙ after-range c.line start c.column (kept_of n cs) (omega arith)))
-        (λ at start c d cs ts n h is cell byte second sign same kept.
-        let column : d.column + 1 ≡ c.column + 2 = omega arith in
-        let none : second_points true d ≡ [] = second-sign (d ∷ []) d.byte second same in
-        rw (two-points c d cs n true byte sign same, none, ← is.line, ← is.column)
-        (cut-points r c.line start (c.column + 1) ts
-        ∙ ap (λ ps. columns_to c.line start (c.column + 1) ++ ps)
-        (kept ∙ ap (λ ps. ps ++ kept_of n cs)
-        (ap (columns_to d.line (c.column + 2)) column ∙ columns-nothing d.line (c.column + 2)))
-        ∙ after-range c.line start c.column (kept_of n cs) (omega arith)))
-        (λ at start c d cs ts n h is cell byte second other same kept.
-        let low : start ≤ c.column = omega arith in
-        rw (two-points c d cs n false byte other same, ← is.line, ← is.column)
-        (kept ∙ after-range d.line start d.column (kept_of n cs) (omega arith)
-        ∙ rw (kept-byte false d second refl, cell.line, cell.column)
-        (after-range c.line start c.column ((c.line, c.column + 1) ∷ kept_of n cs) low)))
-        (λ at start c d cs ts n h is cell byte none other kept.
-        let gone : second_points false d ≡ [] = rw none refl in
-        rw (two-points c d cs n false byte other (rw none refl), gone, ← is.line, ← is.column)
-        (cut-points r c.line start (c.column + 1) (token.QuoteBreak c.line ∷ ts)
-        ∙ ap (λ ps. columns_to c.line start (c.column + 1) ++ ps) kept
-        ∙ after-range c.line start c.column (kept_of n cs) (omega arith)))
-      where
-        no-points : (b : Bool) (line : ℕ) (ts : List Token)
-            → token_points (fault_if b fault.StringAt line ++ ts) ≡ token_points ts
-        no-points b line ts = grind arith
-
-        second-sign : (cells : List Cell) (b : Option ℕ) → IsByte b → holds at_sign b ≡ true
-            → points_by (cond (is_line_end b) LineEnd (cond (holds at_sign b) SecondAtSign Kept)) cells ≡ []
-        second-sign cells x byte same = grind arith
+        (λ at start c cs ts n h is byte alone kept. grind (arith, nat_tests, after-range c.line start c.column (kept_of n cs)))
+        (λ at start c d cs ts n h is cell byte second sign same kept. grind (arith, nat_tests, cut-points, columns-nothing, after-range c.line start c.column (kept_of n cs)))
+        (λ at start c d cs ts n h is cell byte second other same kept. grind (arith, nat_tests, after-range))
+        (λ at start c d cs ts n h is cell byte none other kept. grind (arith, nat_tests, cut-points, after-range))
 
   -- quoted texts
 
@@ -146,9 +95,13 @@ module _ (texts : List (List ℕ)) where
   pub verbatim-keeps : (at : Point) (text : List Cell) → IsTextAt texts at text
       → token_points (verbatim_tokens text) ≡ text_points false (take (count_before region.Verbatim text) text)
   verbatim-keeps at text is =
-      let cut : List Token = cut_tokens verbatim_end region.Verbatim 0 (front_column text) text in
-      let kept : List (ℕ × ℕ) = text_points false (take (count_before region.Verbatim text) text) in
-      points-append (empty_text text) cut ∙ (ap (λ ps. ps ++ token_points cut) (empty-points text)
-      ∙ (ap (λ column. token_points (cut_tokens verbatim_end region.Verbatim 0 column text)) (text-column texts at text is)
-      ∙ (cut-keeps region.Verbatim verbatim-cut verbatim_end (λ t. []) verbatim-stop at at.column text (omega arith) is
-      ∙ (ap (λ ps. ps ++ (kept ++ [])) (columns-nothing at.line at.column) ∙ append-nil kept))))
+      grind (
+        arith,
+        nat_tests,
+        points-append,
+        empty-points,
+        text-column texts at text,
+        append-nil,
+        columns-nothing,
+        cut-keeps region.Verbatim verbatim-cut verbatim_end (λ t. []) verbatim-stop at at.column text,
+      )

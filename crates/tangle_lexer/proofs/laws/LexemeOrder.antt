@@ -1,5 +1,4 @@
 -- The tokens of a source are in order. `texts` are the bytes of the source lines.
-use Rattle.tangle_lexer.proofs.laws.WhiteOrder.{line_comment-bytes}
 use Rattle.std.proofs.Common.{rules}
 use Rattle.std.proofs.Common.{arith}
 use Rattle.std.proofs.Common.{◌≡◌, ℕ, ◌+◌, zero, suc, true, false, List, [], ◌∷◌, flat_map, drop}
@@ -20,9 +19,9 @@ use Rattle.tangle_lexer.specs.Steps.{c_lexeme, lexeme, lexemes}
 use Rattle.tangle_lexer.proofs.lemmas.LexemeCases.{OpensLexeme, IsPlainKind, lexeme-by}
 use Rattle.tangle_lexer.proofs.laws.Points.{Point, after_cell, HoldsBytes, IsTextAt}
 use Rattle.tangle_lexer.proofs.laws.TokenOrder.{IsAtLine, AreInOrder, AreFromLine, in_order-append, in_order-weaker, faults-in_order}
-use Rattle.tangle_lexer.proofs.laws.RegionOrder.{some-byte, are_bytes-hold, code-bytes, more-bytes}
+use Rattle.tangle_lexer.proofs.laws.RegionOrder.{some-byte, are_bytes-hold, code-bytes, more-bytes, region-bytes}
 use Rattle.tangle_lexer.proofs.laws.RegionOrder.{lexeme-line, end-line}
-use Rattle.tangle_lexer.proofs.laws.WhiteOrder.{word-bytes, white-bytes, LexemeIsInOrder}
+use Rattle.tangle_lexer.proofs.laws.WhiteOrder.{word-bytes, LexemeIsInOrder}
 use Rattle.tangle_lexer.proofs.laws.WhiteOrder.{region-in_order, span-is}
 use Rattle.tangle_lexer.proofs.laws.CutTexts.{double_quote-cut, apostrophe-cut, header_name-cut}
 use Rattle.tangle_lexer.proofs.laws.QuotedOrder.{quoted-in_order, verbatim_text-in_order}
@@ -58,7 +57,7 @@ module _ (texts : List (List ℕ)) where
   kind-in_order _ s at c cs plain o is = first_of (
     search rules,
     search (rules, ascii_constant-in_order, quoted-in_order, double_quote-cut, apostrophe-cut, header_name-cut),
-    search (rules, faults-in_order, lexeme-line, more-bytes, line_comment-bytes, white-bytes),
+    search (rules, faults-in_order, lexeme-line, more-bytes, region-bytes),
   )
 
   -- the tokens of a lexeme are in order from a line on, on which the lexeme is if it is in C text

@@ -1,8 +1,8 @@
 -- The tokens of a use, a mention and a definition are in order. `texts` are the bytes of the source lines.
-use Rattle.std.proofs.Common.{rules}
+use Rattle.std.proofs.Common.{◌-◌, ◌<◌, rules}
 use Rattle.std.proofs.lemmas.Bool.Decides.{nat_tests}
 use Rattle.std.proofs.Common.{◌≡◌, ℕ, ◌+◌, Bool, true, not, List, ◌∷◌, ◌++◌, drop, Option}
-use Rattle.std.proofs.Common.{Some, None, refl, ap, sym, ◌∙◌, arith, subst, cond}
+use Rattle.std.proofs.Common.{Some, None, refl, sym, arith, subst, cond}
 use Rattle.std.proofs.lemmas.List.{drop-drop}
 use Rattle.tangle_faults.specs.declared.faults.FaultKind.{FaultKind}
 use Rattle.tangle_faults.specs.declared.faults.FaultKind.TheVariants as fault
@@ -22,16 +22,23 @@ use Rattle.tangle_lexer.proofs.laws.WhiteOrder.{LexemeIsInOrder, after-end}
 use Rattle.tangle_text.proofs.AheadLemmas.{byte_at-drop}
 
 -- the last cell of an equals sign is a byte
-equals-last : (text : List Cell) (k : ℕ)
-    → equals_count text ≡ Some k → (j : ℕ) × ((k ≡ j + 1) × IsByte (byte_at j text))
-equals-last text k e = grind (arith, nat_tests)
+equals-last : (text : List Cell) (k : ℕ) → equals_count text ≡ Some k → (0 < k) × IsByte (byte_at 0 (drop (k - 1) text))
+equals-last text k e = grind (arith, nat_tests, byte_at-drop)
 
-definition-last : (text : List Cell) (k : ℕ)
-    → definition_count text ≡ Some k → (j : ℕ) × ((k ≡ j + 1) × IsByte (byte_at j (after_name text)))
-definition-last text k e = by (is_ended text) e
+definition-byte : (text : List Cell) (k : ℕ)
+    → definition_count text ≡ Some k → IsByte (byte_at 0 (drop (name_more text + k) text))
+definition-byte text k e =
+    let h = by (is_ended text) e in
+    let same : drop (name_more text + k) text ≡ drop (k - 1) (after_name text) = grind (
+      arith,
+      h.0,
+      drop-drop (k - 1) (name_more text) (drop 1 text),
+      drop-drop (name_more text + (k - 1)) 1 text,
+    ) in
+    rw same h.1
   where
     by : (b : Bool) → cond b (equals_count (after_name text)) None ≡ Some k
-        → (j : ℕ) × ((k ≡ j + 1) × IsByte (byte_at j (after_name text)))
+        → (0 < k) × IsByte (byte_at 0 (drop (k - 1) (after_name text)))
     by b e = search (rules, equals-last)
 
 -- the front of a text is on its own line
@@ -69,27 +76,17 @@ module _ (texts : List (List ℕ)) where
   pub name-in_order : (s : LexerState) (line : ℕ) (at : Point) (c : Cell) (cs : List Cell) → IsTextAt texts at (c ∷ cs)
       → let here : Lexeme = name_in_documentation s (c ∷ cs) in
       AreInOrder texts (λ l. is_c_text here.after.mode ≡ true → IsAtLine l (drop here.more cs)) line here.tokens
-  name-in_order s line at c cs is = by (definition_count (c ∷ cs)) (definition-last (c ∷ cs))
+  name-in_order s line at c cs is = by (definition_count (c ∷ cs)) (definition-byte (c ∷ cs))
     where
-      by : (o : Option ℕ) → ((k : ℕ) → o ≡ Some k → (j : ℕ) × ((k ≡ j + 1) × IsByte (byte_at j (after_name (c ∷ cs)))))
+      by : (o : Option ℕ) → ((k : ℕ) → o ≡ Some k → IsByte (byte_at 0 (drop (name_more (c ∷ cs) + k) (c ∷ cs))))
           → let here : Lexeme = definition_or_mention o s (c ∷ cs) in
           AreInOrder texts (λ l. is_c_text here.after.mode ≡ true → IsAtLine l (drop here.more cs)) line here.tokens
       by None last = search (rules, two-faults)
-      by (Some k) last =
-          let text : List Cell = c ∷ cs in
-          let m : ℕ = name_more text in
-          let j = last k refl in
-          let rest : List Cell = drop (m + k) text in
-          let sum : m + k ≡ 1 + (m + j.0) = omega arith in
-          let same : rest ≡ drop j.0 (after_name text) =
-          ap (λ n. drop n text) sum ∙ sym (drop-drop (m + j.0) 1 text) ∙ sym (drop-drop j.0 m cs) in
-          let byte : IsByte (byte_at 0 rest) =
-          subst IsByte (byte_at-drop j.0 (after_name text) ∙ ap (byte_at 0) (sym same)) j.1.1 in
-          let sum2 : 1 + (m + k) ≡ (m + k) + 1 = omega arith in
-          let next : drop (m + k) cs ≡ drop 1 rest =
-          drop-drop (m + k) 1 text ∙ ap (λ n. drop n text) sum2 ∙ sym (drop-drop 1 (m + k) text) in
-          let p = text-somewhere texts (m + k) at text is in
-          (tt, λ inside. rw next (part rest p.0 p.1 byte))
+      by (Some k) byte =
+          let n : ℕ = name_more (c ∷ cs) + k in
+          let p = text-somewhere texts n at (c ∷ cs) is in
+          let next : drop n cs ≡ drop 1 (drop n (c ∷ cs)) = grind (arith, drop-drop 1 n (c ∷ cs)) in
+          (tt, λ inside. rw next (part (drop n (c ∷ cs)) p.0 p.1 (byte k refl)))
         where
           -- a C part begins after the byte at the front
           part : (rest : List Cell) (p : Point) → IsTextAt texts p rest → IsByte (byte_at 0 rest)

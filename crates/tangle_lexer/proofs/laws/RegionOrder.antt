@@ -2,9 +2,9 @@
 use Rattle.std.proofs.Common.{rules}
 use Rattle.std.proofs.lemmas.Bool.Decides.{nat_tests}
 use Rattle.std.proofs.Common.{◌≡◌, ℕ, zero, suc, ◌+◌, Bool, true, false, List, [], ◌∷◌, drop, Option, None}
-use Rattle.std.proofs.Common.{ap, ◌∙◌, ◌++◌, sym, arith, subst, zero-add, ◌==◌}
+use Rattle.std.proofs.Common.{◌++◌, arith, zero-add, ◌==◌}
 use Rattle.tangle_text.specs.declared.regions.Region.{Region}
-use Rattle.tangle_text.specs.declared.regions.Unit.{Unit as Unit-of}
+use Rattle.tangle_text.specs.declared.regions.Region.TheVariants as region
 use Rattle.tangle_text.specs.declared.regions.Unit.TheVariants as unit
 use Rattle.tangle_text.specs.Bytes.{holds, are_bytes, is_line_end}
 use Rattle.tangle_text.specs.Text.{Cell, byte_at}
@@ -44,23 +44,23 @@ pub more-bytes : (m n : ℕ) (text : List Cell) → HoldsBytes m text → HoldsB
 more-bytes zero n text h k = rw (zero-add n) k
 more-bytes (suc m) n [] h k = absurd h
 more-bytes (suc m) n (c ∷ cs) h k =
-    let e : suc m + n ≡ suc (m + n) = omega arith in
-    subst (λ i. HoldsBytes i (c ∷ cs)) (sym e) (h.0, more-bytes m n cs h.1 k)
+    let e : suc m + n ≡ suc (m + n) = omega arith in rw e (h.0, more-bytes m n cs h.1 k)
 
--- if a region ends at each line end, each of its units begins with a byte
-pub goes-byte : (r : Region) → ((n : Option ℕ) → unit_of r None n ≡ unit.Stop) → (b n : Option ℕ) (u : Unit-of)
-    → unit_of r b n ≡ u → (u ≡ unit.Stop → ⊥) → IsByte b
-goes-byte r stops b n u e go = grind arith
+-- regions that are on one line
+abbrev pub is_on_one_line : Region → Bool
+is_on_one_line region.LineComment = true
+is_on_one_line region.Word = true
+is_on_one_line region.White = true
+is_on_one_line region.Number = true
+is_on_one_line region.BadConstant = true
+is_on_one_line _ = false
 
--- a region that ends at each line end is on one line
-pub region-bytes : (r : Region)
-    → ((n : Option ℕ) → unit_of r None n ≡ unit.Stop) → ((b n : Option ℕ) → unit_of r b n ≡ unit.Two → IsByte n)
-    → (text : List Cell) → HoldsBytes (count_before r text) text
-region-bytes r stops stays =
-    units-by r HoldsBytes (λ text e. tt) tt
-    (λ n c cs e bytes. (goes-byte r stops c.byte (byte_at 0 cs) unit.One e (λ k. cc), bytes))
-    (λ n c d cs e bytes. (goes-byte r stops c.byte d.byte unit.Two e (λ k. cc), (stays c.byte d.byte e, bytes)))
-    (λ c e. absurd (stays c.byte None e))
+unit-bytes : (r : Region) (b next : Option ℕ) → is_on_one_line r ≡ true → (unit_of r b next ≡ unit.Stop → ⊥)
+    → IsByte b × (unit_of r b next ≡ unit.Two → IsByte next)
+unit-bytes x b next is go = grind arith
+
+pub region-bytes : (r : Region) → is_on_one_line r ≡ true → (text : List Cell) → HoldsBytes (count_before r text) text
+region-bytes r is = grind (arith, nat_tests, units-by r HoldsBytes, unit-bytes r)
 
 module _ (texts : List (List ℕ)) where
   -- the text after the bytes of a lexeme is on their line
@@ -84,9 +84,7 @@ module _ (texts : List (List ℕ)) where
       → AreBefore texts (drop (count_before r text) text) at.line (line_ends r text)
   line_ends-in_order r stays =
       units-by r Ordered (λ text e at is. rw (line_ends-stop r text e) (grind arith)) (λ at is. tt) (search rules)
-      (λ n c d cs e next at is. rw (line_ends-go r 0 (c ∷ d ∷ cs) unit.Two (omega arith) e (λ k. cc))
-      (cell-in_order _ at c c.byte _ is.0.line (subst (λ l. AreBefore texts (drop n cs) l (line_ends r cs))
-      (ap (λ (p : Point). p.line) (after-byte d (stays c.byte d.byte e)) ∙ is.1.0.line) (next (after_cell d) is.1.1))))
+      (λ n c d cs e next at is. grind (arith, nat_tests, line_ends-go r 0 (c ∷ d ∷ cs) unit.Two, cell-in_order, after-byte d (stays c.byte d.byte e), next (after_cell d)))
       (λ c e. absurd (stays c.byte None e))
     where
       Ordered : ℕ → List Cell → Type 0

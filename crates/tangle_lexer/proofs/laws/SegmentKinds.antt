@@ -5,105 +5,53 @@ use Rattle.std.proofs.lemmas.Bool.Decides.{nat_tests}
 use Rattle.std.proofs.Common.{◌≡◌, ◌<◌, ◌≤◌, ℕ, zero, suc, ◌+◌, Bool, true, false, not, ◌&&◌, List, [], ◌∷◌, ◌++◌}
 use Rattle.std.proofs.Common.{take, drop, flat_map, Option, None, inl, inr, refl, ap, sym, ◌∙◌, arith, append-nil}
 use Rattle.std.proofs.Common.{if◌then◌else◌, subst}
-use Rattle.std.proofs.Math.Seq.{take-add}
 use Rattle.std.proofs.lemmas.Grind.{flat_map-append}
-use Rattle.std.proofs.lemmas.List.{take-append-drop, drop-drop, length-take}
+use Rattle.std.proofs.lemmas.List.{drop-drop, length-take}
 use Rattle.std.specs.List.{AllByRecursion}
 use Rattle.tangle_lines.specs.Bytes.{at_sign}
-use Rattle.tangle_lexer.specs.declared.modes.Mode.{Mode}
-use Rattle.tangle_lexer.specs.declared.modes.Mode.TheVariants as mode
 use Rattle.tangle_lexer.specs.declared.modes.LexerState.{LexerState}
 use Rattle.tangle_lexer.specs.declared.lexeme_kinds.ControlCode.{ControlCode}
 use Rattle.tangle_lexer.specs.declared.lexeme_kinds.ControlCode.TheVariants as code
-use Rattle.tangle_lexer.specs.declared.lexeme_kinds.LexemeKind.{LexemeKind}
-use Rattle.tangle_lexer.specs.declared.lexeme_kinds.LexemeKind.TheVariants as lexeme_kind
 use Rattle.tangle_text.specs.declared.regions.Region.TheVariants as region
 use Rattle.tangle_text.specs.declared.regions.Unit.TheVariants as unit
 use Rattle.tangle_text.specs.Bytes.{asterisk, slash}
 use Rattle.tangle_text.specs.Bytes.{holds, are_bytes}
 use Rattle.tangle_text.specs.Text.{Cell, byte_at}
 use Rattle.tangle_text.specs.Regions.{count_before, unit_of}
-use Rattle.tangle_text.specs.Words.{word_more}
-use Rattle.tangle_lexer.specs.Lexemes.{Lexeme}
 use Rattle.tangle_lexer.specs.Comments.{has_end_code, two_if, ends_comment, block_comment, line_comment, control_text}
 use Rattle.tangle_lexer.specs.Constants.{ascii_constant}
-use Rattle.tangle_lexer.specs.Names.{name_count, is_ended, name_more}
-use Rattle.tangle_lexer.specs.Steps.{c_lexeme, lexeme_in}
-use Rattle.tangle_lexer.specs.Steps.{lexeme}
+use Rattle.tangle_lexer.specs.Names.{name_more}
 use Rattle.tangle_lexer.specs.Segments.{Segment, segment, ShowsKind, OpensWith, text_segments, verbatim_segments}
-use Rattle.tangle_lexer.specs.Segments.{c_segments, segments_in, segments, HasNoSection, IsBlockComment}
-use Rattle.tangle_lexer.specs.Segments.{IsLineComment, IsControlText, IsSectionName, IsAsciiConstant}
-use Rattle.tangle_lexer.specs.Segments.SegmentKind.{Kept, WhiteSpace, ControlBytes}
+use Rattle.tangle_lexer.specs.Segments.{HasNoSection}
+use Rattle.tangle_lexer.specs.Segments.{IsControlText, IsSectionName, IsAsciiConstant}
+use Rattle.tangle_lexer.specs.Segments.SegmentKind.{Kept, WhiteSpace, Comment, ControlBytes}
 use Rattle.tangle_text.proofs.AheadLemmas.{byte_at-drop}
 use Rattle.tangle_lexer.proofs.laws.Points.{HoldsBytes}
-use Rattle.tangle_lexer.proofs.laws.RegionOrder.{some-byte, are_bytes-hold, more-bytes}
+use Rattle.tangle_lexer.proofs.laws.RegionOrder.{are_bytes-hold, more-bytes, region-bytes}
 use Rattle.tangle_lexer.proofs.laws.RegionUnits.{units-by}
-use Rattle.tangle_lexer.proofs.laws.WhiteOrder.{word-bytes, line_comment-bytes}
-use Rattle.tangle_lexer.proofs.laws.CodesInside.{control_text-codes, name-codes, block_comment-codes}
-use Rattle.tangle_lexer.proofs.laws.CodesInside.{line_comment-codes, codes-opened}
+use Rattle.tangle_lexer.proofs.laws.KeptText.{text_points}
+use Rattle.tangle_lexer.specs.Segments.{SegmentKind, kept_points, points_by}
+use Rattle.tangle_lexer.proofs.laws.CodesInside.{taken, codes-region, end-shows, comment-end}
+use Rattle.tangle_lexer.specs.Comments.{starts_section}
 use Rattle.tangle_lexer.proofs.laws.ConstantCells.{ascii_constant-bytes, ascii_constant-quotes}
-use Rattle.tangle_lexer.proofs.lemmas.LexemeCases.{OpensLexeme, kind-opens}
 
--- the segments of a text are side by side and fill it
+-- These segments are these cells, each is as its kind says, and they keep these points.
+pub record AreSegments (ss : List Segment) (cells : List Cell) (points : List (ℕ × ℕ)) : Type 0 where
+  pub filled : flat_map (λ s. s.cells) ss ≡ cells
+  pub shown : AllByRecursion (λ s. ShowsKind s.kind s.cells) ss
+  pub kept : points ≡ flat_map kept_points ss
 
-abbrev cells_of : List Segment → List Cell
-cells_of ss = flat_map (λ s. s.cells) ss
+pub segments-append : (ss us : List Segment) (xs ys : List Cell) (ps qs : List (ℕ × ℕ))
+    → AreSegments ss xs ps → AreSegments us ys qs → AreSegments (ss ++ us) (xs ++ ys) (ps ++ qs)
+segments-append ss us xs ys ps qs h k = search (rules, flat_map-append, all-append)
 
-text-fills : (after_at_sign : Bool) (cells : List Cell) → cells_of (text_segments after_at_sign cells) ≡ cells
-text-fills after_at_sign [] = refl
-text-fills after_at_sign (c ∷ cs) = ap (λ xs. c ∷ xs) (text-fills (holds at_sign c.byte && not after_at_sign) cs)
+pub same-points : (ss : List Segment) (cells : List Cell) (ps qs : List (ℕ × ℕ))
+    → AreSegments ss cells qs → ps ≡ qs → AreSegments ss cells ps
+same-points ss cells ps qs h e = rw e h
 
-verbatim-fills : (text : List Cell) → let inside : ℕ = count_before region.Verbatim (drop 2 text) in
-    cells_of (verbatim_segments text) ≡ take (1 + (1 + inside + two_if (has_end_code (drop inside (drop 2 text))))) text
-verbatim-fills text =
-    let inside : ℕ = count_before region.Verbatim (drop 2 text) in
-    let after : List Cell = drop inside (drop 2 text) in
-    let last : ℕ = two_if (has_end_code after) in
-    let sum : 1 + (1 + inside + last) ≡ 2 + (inside + last) = omega arith in
-    ap (λ xs. take 2 text ++ xs)
-    (flat_map-append (λ s. s.cells) (text_segments false (take inside (drop 2 text)))
-    (if has_end_code after then segment ControlBytes (take 2 after) ∷ [] else [])
-    ∙ ap (λ xs. xs ++ cells_of (if has_end_code after then segment ControlBytes (take 2 after) ∷ [] else []))
-    (text-fills false (take inside (drop 2 text)))
-    ∙ ap (λ xs. take inside (drop 2 text) ++ xs) (by (has_end_code after) after)
-    ∙ sym (take-add inside last (drop 2 text)))
-    ∙ sym (take-add 2 (inside + last) text) ∙ sym (ap (λ n. take n text) sum)
-  where
-    by : (b : Bool) (cells : List Cell)
-        → cells_of (if b then segment ControlBytes (take 2 cells) ∷ [] else []) ≡ take (two_if b) cells
-    by x cells = search rules
-
-kind-fills : (kind : LexemeKind) (s : LexerState) (text : List Cell)
-    → cells_of (c_segments kind (1 + (c_lexeme kind s text).more) text) ≡ take (1 + (c_lexeme kind s text).more) text
-kind-fills kind s text = grind (arith, nat_tests, append-nil, verbatim-fills, text-fills)
-
-lexeme-fills : (s : LexerState) (text : List Cell)
-    → cells_of (segments_in s.mode s (1 + (lexeme s text).more) text) ≡ take (1 + (lexeme s text).more) text
-unfolding lexeme
-lexeme-fills s text = by s.mode
-  where
-    by : (m : Mode)
-        → cells_of (segments_in m s (1 + (lexeme_in m s text).more) text) ≡ take (1 + (lexeme_in m s text).more) text
-    by mode.CPart = search (rules, kind-fills)
-    by m = search rules
-
-pub segments-fill : (k : ℕ) (s : LexerState) (text : List Cell) → cells_of (segments k s text) ≡ drop k text
-segments-fill zero s [] = refl
-segments-fill (suc k) s [] = refl
-segments-fill (suc k) s (c ∷ cs) = segments-fill k s cs
-segments-fill zero s (c ∷ cs) =
-    let here : Lexeme = lexeme s (c ∷ cs) in
-    let e : 1 + here.more ≡ suc here.more = omega arith in
-    flat_map-append (λ s. s.cells) (segments_in s.mode s (1 + here.more) (c ∷ cs)) (segments here.more here.after cs)
-    ∙ ap (λ xs. xs ++ cells_of (segments here.more here.after cs))
-    (lexeme-fills s (c ∷ cs) ∙ ap (λ n. take n (c ∷ cs)) e)
-    ∙ ap (λ xs. c ∷ take here.more cs ++ xs) (segments-fill here.more here.after cs)
-    ∙ ap (λ xs. c ∷ xs) (take-append-drop here.more cs)
-
--- the cells of each segment are such as its kind has
-
-abbrev AllShow : List Segment → Type 0
-AllShow ss = AllByRecursion (λ s. ShowsKind s.kind s.cells) ss
+pub one-segment : (kind : SegmentKind) (cells : List Cell) → ShowsKind kind cells
+    → AreSegments (segment kind cells ∷ []) cells (points_by kind cells ++ [])
+one-segment kind cells h = record { filled = append-nil cells; shown = (h, tt); kept = refl }
 
 -- the first cells of a text are the same after the cells from the n-th on are dropped
 
@@ -119,7 +67,7 @@ opens-taken kind n text h o = rw (byte-take 0 n text (omega (arith, h)), byte-ta
 
 -- cells that are bytes are such as a Kept segment has
 
-bytes-shows : (n : ℕ) (text : List Cell) → HoldsBytes n text → ShowsKind Kept (take n text)
+pub bytes-shows : (n : ℕ) (text : List Cell) → HoldsBytes n text → ShowsKind Kept (take n text)
 bytes-shows zero text h = tt
 bytes-shows (suc n) [] h = tt
 bytes-shows (suc n) (c ∷ cs) h = grind (arith, nat_tests, bytes-shows n cs h.1)
@@ -146,9 +94,8 @@ cell-open n c cs here next x h = grind arith
 comment-open : (text : List Cell) → IsOpen (count_before region.BlockComment text) text
 comment-open =
     units-by region.BlockComment IsOpen (λ text e k h. absurd (omega arith)) (λ k h. absurd (omega arith))
-    (λ n c cs e next. cell-open n c cs (comment-goes c.byte (byte_at 0 cs) (λ q. cc)) next)
-    (λ n c d cs e next.
-    cell-open (suc n) c (d ∷ cs) (comment-goes c.byte d.byte (λ q. cc))
+    (λ n c cs e. cell-open n c cs (comment-goes c.byte (byte_at 0 cs) (λ q. cc)))
+    (λ n c d cs e next. cell-open (suc n) c (d ∷ cs) (comment-goes c.byte d.byte (λ q. cc))
     (cell-open n d cs (rw (comment-second c.byte d.byte e) refl) next))
     (λ c e. cell-open 0 c [] (comment-goes c.byte None (λ q. cc)) (λ k h. absurd (omega arith)))
 
@@ -161,113 +108,88 @@ cells-there : (k : ℕ) (text : List Cell)
 cells-there k text =
     rw (byte_at-drop k text, byte_at-drop (k + 1) text, ← drop-drop 1 k text, byte_at-drop 1 (drop k text)) refl
 
-block_comment-shows : (s : LexerState) (text : List Cell)
+pub block_comment-shows : (s : LexerState) (text : List Cell)
     → are_bytes slash asterisk (byte_at 0 text) (byte_at 1 text) ≡ true
-    → IsBlockComment (take (1 + (block_comment s text).more) text)
+    → ShowsKind Comment (take (1 + (block_comment s text).more) text)
 block_comment-shows s text o =
     let inside : ℕ = count_before region.BlockComment (drop 2 text) in
     let closed : Bool = ends_comment (drop inside (drop 2 text)) in
     let n : ℕ = 1 + (1 + inside + two_if closed) in
     let few = two_if-few closed in
-    let long = length-take n text in (
+    let long = length-take n text in inl (
       rw (byte-take 0 n text (omega arith), byte-take 1 n text (omega arith)) o,
       search (rules, byte-take, cells-there, comment-open),
-      codes-opened _ inside (two_if closed) text (block_comment-codes (drop 2 text)),
+      codes-region region.BlockComment (λ cells. starts_section cells ≡ false) ends_comment (λ b next e. grind arith)
+          (λ cells e. (grind arith, grind arith)) comment-end text,
     )
 
-line_comment-shows : (s : LexerState) (text : List Cell)
+pub line_comment-shows : (s : LexerState) (text : List Cell)
     → are_bytes slash slash (byte_at 0 text) (byte_at 1 text) ≡ true
-    → IsLineComment (take (1 + (line_comment s text).more) text)
+    → ShowsKind Comment (take (1 + (line_comment s text).more) text)
 line_comment-shows s text o =
     let inside : ℕ = count_before region.LineComment (drop 2 text) in
     let n : ℕ = 1 + (1 + inside) in
     let sum : 2 + inside ≡ n = omega arith in
-    let all : 1 + (1 + inside + 0) ≡ n = omega arith in (
+    let all : 1 + (1 + inside + 0) ≡ n = omega arith in inr (
       rw (byte-take 0 n text (omega arith), byte-take 1 n text (omega arith)) o,
       bytes-shows n text
-          (subst (λ k. HoldsBytes k text) sum (more-bytes 2 inside text (are_bytes-hold slash slash text o) (line_comment-bytes (drop 2 text)))),
+          (subst (λ k. HoldsBytes k text) sum (more-bytes 2 inside text (are_bytes-hold slash slash text o) (region-bytes region.LineComment refl (drop 2 text)))),
       subst (λ k. HasNoSection (drop 2 (take k text))) all
-          (codes-opened _ inside 0 text (line_comment-codes (drop 2 text))),
+          (codes-region region.LineComment (λ cells. starts_section cells ≡ false) (λ cells. false)
+          (λ b next e. grind arith) (λ cells e. (grind arith, grind arith)) (λ b cells e. grind arith) text),
     )
 
 -- white space and texts
 
-white-shows : (text : List Cell) → ShowsKind WhiteSpace (take (count_before region.White text) text)
-white-shows =
-    units-by region.White (λ n text. ShowsKind WhiteSpace (take n text)) (λ text e. tt) tt
-    (λ n c cs e rest. (grind arith, rest)) (λ n c d cs e rest. grind arith) (λ c e. grind arith)
+pub white-shows : (text : List Cell) → ShowsKind WhiteSpace (take (count_before region.White text) text)
+white-shows = grind (arith, nat_tests, units-by region.White (λ n text. ShowsKind WhiteSpace (take n text)))
 
-text-shows : (after_at_sign : Bool) (cells : List Cell) → AllShow (text_segments after_at_sign cells)
-text-shows after_at_sign [] = tt
-text-shows after_at_sign (c ∷ cs) =
-    grind (arith, nat_tests, text-shows (holds at_sign c.byte && not after_at_sign) cs)
+pub text-are : (after_at_sign : Bool) (cells : List Cell)
+    → AreSegments (text_segments after_at_sign cells) cells (text_points after_at_sign cells)
+text-are after_at_sign [] = record { filled = refl; shown = tt; kept = refl }
+text-are after_at_sign (c ∷ cs) =
+    let more = text-are (holds at_sign c.byte && not after_at_sign) cs in
+    record { filled = ap (λ xs. c ∷ xs) more.filled; shown = grind (arith, nat_tests, more.shown); kept = refl }
 
-verbatim-shows : (text : List Cell) → holds at_sign (byte_at 0 text) ≡ true → AllShow (verbatim_segments text)
-verbatim-shows text sign =
+pub verbatim-are : (text : List Cell) → holds at_sign (byte_at 0 text) ≡ true
+    → let inside : ℕ = count_before region.Verbatim (drop 2 text) in
+    AreSegments (verbatim_segments text)
+    (take (1 + (1 + inside + two_if (has_end_code (drop inside (drop 2 text))))) text)
+    (text_points false (take inside (drop 2 text)))
+verbatim-are text sign =
     let inside : ℕ = count_before region.Verbatim (drop 2 text) in
-    let after : List Cell = drop inside (drop 2 text) in (
-      (grind (arith, nat_tests, length-take)),
-      all-append (λ s. ShowsKind s.kind s.cells) (text_segments false (take inside (drop 2 text)))
-          (if has_end_code after then segment ControlBytes (take 2 after) ∷ [] else [])
-          (text-shows false (take inside (drop 2 text))) (by (has_end_code after) after refl),
-    )
+    let after : List Cell = drop inside (drop 2 text) in
+    let all = segments-append (segment ControlBytes (take 2 text) ∷ []) _ _ _ _ _
+    (one-segment ControlBytes (take 2 text) (grind (arith, nat_tests, length-take)))
+    (segments-append (text_segments false (take inside (drop 2 text))) _ _ _ _ _
+    (text-are false (take inside (drop 2 text))) (end (has_end_code after) after refl)) in
+    record {
+      filled = all.filled ∙ sym (taken inside (two_if (has_end_code after)) text);
+      shown = all.shown;
+      kept = sym (append-nil (text_points false (take inside (drop 2 text)))) ∙ all.kept;
+    }
   where
-    by : (b : Bool) (cells : List Cell)
-        → has_end_code cells ≡ b → AllShow (if b then segment ControlBytes (take 2 cells) ∷ [] else [])
-    by x cells e = search rules
+    end : (b : Bool) (cells : List Cell) → has_end_code cells ≡ b
+        → AreSegments (if b then segment ControlBytes (take 2 cells) ∷ [] else []) (take (two_if b) cells) []
+    end x cells e = search (rules, append-nil)
 
-control_text-shows : (s : LexerState) (text : List Cell)
+pub control_text-shows : (s : LexerState) (text : List Cell)
     → OpensWith code.ControlText text → IsControlText (take (1 + (control_text s text).more) text)
-control_text-shows s text o =
-    let inside : ℕ = count_before region.ControlText (drop 2 text) in
-    let last : ℕ = two_if (has_end_code (drop inside (drop 2 text))) in (
-      opens-taken code.ControlText (1 + (1 + inside + last)) text (omega arith) o,
-      codes-opened _ inside last text (control_text-codes (drop 2 text)),
-    )
+control_text-shows s text o = (
+  opens-taken code.ControlText _ text (omega arith) o,
+  codes-region region.ControlText _ has_end_code (λ b next e. grind arith)
+      (λ cells e. (grind arith, inr (grind arith))) (end-shows _ (λ end h. inl h)) text,
+)
 
-name-shows : (s : LexerState) (text : List Cell)
+pub name-shows : (s : LexerState) (text : List Cell)
     → OpensWith code.Name text → IsSectionName (take (1 + name_more text) text)
-name-shows s text o =
-    let last : ℕ = two_if (is_ended text) in (
-      opens-taken code.Name (1 + name_more text) text (omega arith) o,
-      codes-opened _ (name_count text) last text (name-codes (drop 2 text)),
-    )
+name-shows s text o = (
+  opens-taken code.Name _ text (omega arith) o,
+  codes-region region.Name _ has_end_code (λ b next e. grind arith) (λ cells e. (grind arith, inr (grind arith)))
+      (end-shows _ (λ end h. inl h)) text,
+)
 
-constant-shows : (s : LexerState) (c : Cell) (cs : List Cell)
+pub constant-shows : (s : LexerState) (c : Cell) (cs : List Cell)
     → OpensWith code.AsciiConstant (c ∷ cs) → IsAsciiConstant (take (1 + (ascii_constant s (c ∷ cs)).more) (c ∷ cs))
 constant-shows s c cs o =
     grind (arith, length-take, bytes-shows, ascii_constant-bytes s (c ∷ cs), byte-take, ascii_constant-quotes s (c ∷ cs))
-
-kind-shows : (kind : LexemeKind) (s : LexerState) (c : Cell) (cs : List Cell)
-    → OpensLexeme kind (c ∷ cs) → AllShow (c_segments kind (1 + (c_lexeme kind s (c ∷ cs)).more) (c ∷ cs))
-kind-shows (lexeme_kind.Control code.Verbatim) s c cs o = verbatim-shows (c ∷ cs) o.0
-kind-shows (lexeme_kind.Control kind) s c cs o =
-    first_of (grind (arith, nat_tests), search (rules, control_text-shows, name-shows, constant-shows))
-kind-shows lexeme_kind.BlockComment s c cs o = (inl (block_comment-shows s (c ∷ cs) o), tt)
-kind-shows lexeme_kind.LineComment s c cs o = (inr (line_comment-shows s (c ∷ cs) o), tt)
-kind-shows lexeme_kind.LineEnd s c cs o = ((o, tt), tt)
-kind-shows lexeme_kind.White s c cs o =
-    let n : ℕ = count_before region.White cs in
-    let more : 1 + n ≡ suc n = omega arith in
-    (rw more (o, white-shows cs), tt)
-kind-shows lexeme_kind.Word s c cs o =
-    (bytes-shows (1 + word_more (c ∷ cs)) (c ∷ cs) (word-bytes c cs (some-byte c.byte o.0)), tt)
-kind-shows lexeme_kind.Other s c cs o = (bytes-shows 1 (c ∷ cs) (some-byte c.byte o.0, tt), tt)
-kind-shows kind s c cs o = text-shows false (take (1 + (c_lexeme kind s (c ∷ cs)).more) (c ∷ cs))
-
-lexeme-shows : (s : LexerState) (c : Cell) (cs : List Cell)
-    → AllShow (segments_in s.mode s (1 + (lexeme s (c ∷ cs)).more) (c ∷ cs))
-unfolding lexeme
-lexeme-shows s c cs = by s.mode
-  where
-    by : (m : Mode) → AllShow (segments_in m s (1 + (lexeme_in m s (c ∷ cs)).more) (c ∷ cs))
-    by mode.CPart = search (rules, kind-shows, kind-opens)
-    by _ = search rules
-
-pub segments-shows : (k : ℕ) (s : LexerState) (text : List Cell) → AllShow (segments k s text)
-segments-shows k s [] = tt
-segments-shows (suc k) s (c ∷ cs) = segments-shows k s cs
-segments-shows zero s (c ∷ cs) =
-    let here : Lexeme = lexeme s (c ∷ cs) in
-    all-append (λ s. ShowsKind s.kind s.cells) (segments_in s.mode s (1 + here.more) (c ∷ cs)) _
-    (lexeme-shows s c cs) (segments-shows here.more here.after cs)

@@ -1,20 +1,18 @@
 -- The tokens of comments, control texts, other white space, words and signs are in order. `texts` are the bytes of the
 -- source lines.
-use Rattle.std.proofs.lemmas.Bool.{cases_Bool}
-use Rattle.std.proofs.Common.{inl, inr}
 use Rattle.std.proofs.Common.{rules}
 use Rattle.std.proofs.lemmas.Bool.Decides.{nat_tests}
-use Rattle.std.proofs.Common.{◌≡◌, ℕ, ◌+◌, Bool, true, false, not, ◌&&◌, ◌||◌, List, ◌∷◌, drop, Option, Some, None}
-use Rattle.std.proofs.Common.{refl, ap, sym, ◌∙◌, arith, subst, if◌then◌else◌}
+use Rattle.std.proofs.Common.{◌≡◌, ℕ, ◌+◌, Bool, true, not, List, ◌∷◌, drop, Option}
+use Rattle.std.proofs.Common.{ap, sym, ◌∙◌, arith, subst, if◌then◌else◌}
 use Rattle.tangle_faults.specs.declared.faults.FaultKind.{FaultKind}
 use Rattle.tangle_lexer.specs.declared.modes.LexerState.{LexerState}
 use Rattle.tangle_text.specs.declared.regions.Region.{Region}
 use Rattle.tangle_text.specs.declared.regions.Region.TheVariants as region
 use Rattle.tangle_text.specs.declared.regions.Unit.TheVariants as unit
-use Rattle.tangle_text.specs.Bytes.{apostrophe, is_digit, holds, holds_word_byte}
+use Rattle.tangle_text.specs.Bytes.{apostrophe, holds}
 use Rattle.std.proofs.lemmas.List.{drop-drop}
 use Rattle.tangle_text.specs.Text.{Cell, byte_at, front_line, span_at, IsSpan}
-use Rattle.tangle_text.specs.Regions.{unit_by, unit_of, count_before}
+use Rattle.tangle_text.specs.Regions.{unit_of, count_before}
 use Rattle.tangle_text.specs.Words.{word_region, word_more}
 use Rattle.tangle_lexer.specs.Lexemes.{Lexeme, is_in_directive}
 use Rattle.tangle_lexer.specs.Comments.{line_ends, two_if, ends_region, comment_or_control_text}
@@ -23,37 +21,14 @@ use Rattle.tangle_lexer.proofs.laws.Points.{Point, point_at, IsByte, HoldsBytes,
 use Rattle.tangle_lexer.proofs.laws.Points.{text-somewhere}
 use Rattle.tangle_lexer.proofs.laws.TokenOrder.{IsAtLine, in_order-append, faults-in_order, inner-in_order}
 use Rattle.tangle_lexer.proofs.laws.TokenOrder.{in_order-weaker, AreBefore}
-use Rattle.tangle_lexer.proofs.laws.RegionOrder.{more-bytes, region-bytes}
+use Rattle.tangle_lexer.proofs.laws.RegionOrder.{more-bytes, is_on_one_line, region-bytes}
 use Rattle.tangle_lexer.proofs.laws.RegionOrder.{end-line, line_ends-in_order}
 
--- a number goes on over an apostrophe only before a byte
-number-stays : (b n : Option ℕ) → unit_of region.Number b n ≡ unit.Two → IsByte n
-number-stays b None h = absurd (none (holds_word_byte b) (holds apostrophe b) h)
-  where
-    none : (word separates : Bool) → unit_by (not (word || separates && false)) (separates && false) ≡ unit.Two → ⊥
-    none word separates e = grind arith
-number-stays b (Some c) h = tt
-
--- the cells of a word after its first, which has the byte `b`
-word-cells : (b : Option ℕ) (text : List Cell) → HoldsBytes (count_before (word_region b) text) text
-word-cells None text = region-bytes region.Word (λ n. refl) (λ b n h. grind arith) text
-word-cells (Some b) text =
-    elim (cases_Bool (is_digit b)) [
-      | inl h ↦ rw h (region-bytes region.Number (λ n. refl) number-stays text)
-      | inr h ↦ rw h (region-bytes region.Word (λ n. refl) (λ b n h. grind arith) text)
-    ]
-
 pub word-bytes : (c : Cell) (cs : List Cell) → IsByte c.byte → HoldsBytes (1 + word_more (c ∷ cs)) (c ∷ cs)
-word-bytes c cs byte = more-bytes 1 (word_more (c ∷ cs)) (c ∷ cs) (byte, tt) (word-cells c.byte cs)
-
-pub white-bytes : (text : List Cell) → HoldsBytes (count_before region.White text) text
-white-bytes text = region-bytes region.White (λ n. refl) (λ b n h. grind arith) text
-
-constant-bytes : (text : List Cell) → HoldsBytes (count_before region.BadConstant text) text
-constant-bytes text = region-bytes region.BadConstant (λ n. refl) (λ b n h. grind arith) text
-
-pub line_comment-bytes : (text : List Cell) → HoldsBytes (count_before region.LineComment text) text
-line_comment-bytes text = region-bytes region.LineComment (λ n. refl) (λ b n h. grind arith) text
+word-bytes c cs byte = more-bytes 1 (word_more (c ∷ cs)) (c ∷ cs) (byte, tt) (region-bytes _ (one c.byte) cs)
+  where
+    one : (b : Option ℕ) → is_on_one_line (word_region b) ≡ true
+    one x = grind arith
 
 -- a closing byte, if it is there
 one-byte : (expected : ℕ) (text : List Cell) → HoldsBytes (if holds expected (byte_at 0 text) then 1 else 0) text
@@ -67,7 +42,7 @@ bad_constant-bytes s text h =
     let inside : ℕ = count_before region.BadConstant rest in
     let last : ℕ = if holds apostrophe (byte_at 0 (drop inside rest)) then 1 else 0 in
     let sum : 2 + (inside + last) ≡ 1 + (1 + inside + last) = omega arith in
-    search (rules, more-bytes, constant-bytes, one-byte)
+    search (rules, more-bytes, region-bytes, one-byte)
 
 -- the two bytes that end a region, if they are there
 ends-bytes : (r : Region) (text : List Cell) → ends_region r text ≡ true → HoldsBytes 2 text

@@ -1,6 +1,4 @@
 -- The ends of names, and the equals signs after them.
-use Rattle.std.proofs.Common.{rules}
-use Rattle.std.specs.Prelude.{Result, OnOk}
 use Rattle.tangle_lexer.proofs.lemmas.RegionSteps.{unit_steps}
 use Rattle.tangle_lexer.proofs.lemmas.NameWords.{form-white, form-other, form-none, form-end}
 use Rattle.std.proofs.lemmas.Bool.Decides.{nat_tests}
@@ -18,14 +16,12 @@ use Rattle.tangle_lexer.specs.Names.{equals_in, equals_last, count_to_last, coun
 use Rattle.tangle_lexer.proofs.lemmas.RegionSteps.{after-two}
 use Rattle.tangle_text.proofs.AheadLemmas.{byte_at-drop}
 
-pub byte_at-next : (n : ℕ) (text : List Cell) → byte_at (n + 1) text ≡ byte_at 1 (drop n text)
-byte_at-next n text = grind (arith, nat_tests, byte_at-drop (n + 1) text, drop-drop 1 n text)
-
 -- the equals sign, by the text after the cells before it
 pub equals-further : (text : List Cell)
     → equals_by (byte_at 0 (drop (count_before_equals text) text)) (byte_at 1 (drop (count_before_equals text) text))
     ≡ equals_in text
-equals-further text = grind (arith, nat_tests, byte_at-drop, byte_at-next)
+equals-further text =
+    let n : ℕ = count_before_equals text in grind (arith, nat_tests, byte_at-drop, drop-drop 1 n text)
 
 pub equals-here : (text mid : List Cell) (e : Equals) → mid ≡ drop (count_before_equals text) text
     → e ≡ equals_by (byte_at 0 mid) (byte_at 1 mid) → equals_in text ≡ e
@@ -84,13 +80,10 @@ pub definition-found : (last line : ℕ) (text rest : List Cell) → PassesAfter
 definition-found last line text rest takes =
     let n : ℕ = equals_last (after_name text) in
     let m : ℕ = name_more text in
-    let h = passed (is_ended text) _ n last line (after_name text) rest takes in (
-      n + 1,
-      h.0,
-      h.1 ∙ drop-drop (n + 1) m (drop 1 text),
-      h.2 ∙ ap (front_line last) (drop-drop n m (drop 1 text) ∙ (drop-drop (m + n) 1 text
-          ∙ ap (λ k. drop k text) (omega arith))),
-    )
+    let h = passed (is_ended text) _ n last line (after_name text) rest takes in
+    let at : drop n (after_name text) ≡ drop (m + (n + 1)) text =
+    grind (arith, drop-drop n m (drop 1 text), drop-drop (m + n) 1 text) in
+    (n + 1, h.0, h.1 ∙ drop-drop (n + 1) m (drop 1 text), h.2 ∙ ap (front_line last) at)
 
 pub definition-not-found : (last : ℕ) (text rest : List Cell) → PassesAfter last text rest None
     → (definition_count text ≡ None) × (rest ≡ drop (name_more text) (drop 1 text))
@@ -106,9 +99,5 @@ pub equals-absent : (text : List Cell) → is_white_alone (next_but_name text).t
     → equals_in text ≡ equals.Absent
 equals-absent text dark plus sign = grind (arith, nat_tests, no_white)
 
--- a fact is true of a call that succeeds if it is true
-pub on_ok : {T E P : Type 0} (r : Result T E) → P → OnOk r P
-on_ok r p = search rules
-
 -- what the functions that read names take from here
-pub ruleset name_steps = (unit_steps, on_ok, form-white, form-other, form-none, form-end, after-is, plus-further, no_plus-further, definition-found)
+pub ruleset name_steps = (unit_steps, form-white, form-other, form-none, form-end, after-is, plus-further, no_plus-further, definition-found)

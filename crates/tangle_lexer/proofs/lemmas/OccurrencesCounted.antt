@@ -1,6 +1,5 @@
 -- Occurrences are numbered one after another, so their numbers in tokens are below their count.
 use Rattle.std.proofs.Common.{rules}
-use Rattle.std.proofs.lemmas.Bool.Decides.{nat_tests}
 use Rattle.std.proofs.Common.{◌≡◌, ◌≤◌, ◌<◌, ℕ, zero, suc, ◌+◌, false, List, [], ◌∷◌, ◌++◌, length}
 use Rattle.std.proofs.Common.{flat_map, refl, ap, arith, Option, None, Some, option_to_list}
 use Rattle.std.proofs.Common.{length-append}
@@ -50,10 +49,6 @@ plain-keeps s l none same q = record {
 lexeme-plain : (s : LexerState) (l : Lexeme) → IsPlainLexeme s l → Keeps s l
 lexeme-plain s l h = plain-keeps s l h.none h.count h.tokens
 
-head-keeps : (s : LexerState) (l : Lexeme) (h : Token) → l.occurrence ≡ None → l.after.occurrences ≡ s.occurrences
-    → l.tokens ≡ h ∷ [] → IsBelow (s.occurrences + length (option_to_list l.occurrence)) h → Keeps s l
-head-keeps s l h none same is below = grind (arith, nat_tests)
-
 name-keeps : (count : Option ℕ) (s : LexerState) (text : List Cell) → Keeps s (definition_or_mention count s text)
 name-keeps None s text =
     record { count = refl; below = plain-below (s.occurrences + 1) _ (mention-plain s text).none }
@@ -65,7 +60,7 @@ used-keeps s text = record { count = refl; below = (omega arith, plain-below (s.
 pub lexeme-keeps : (s : LexerState) (text : List Cell) → Keeps s (lexeme s text)
 lexeme-keeps s text =
     lexeme-by (Keeps s) s text
-    (search (rules, head-keeps, used-keeps, name-keeps, plain-keeps, fault_if-plain, lexeme-plain, fault-plain, kind-plain))
+    (search (rules, used-keeps, name-keeps, plain-keeps, fault_if-plain, lexeme-plain, fault-plain, kind-plain))
 
 -- all lexemes of a text
 

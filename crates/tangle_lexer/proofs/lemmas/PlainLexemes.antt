@@ -1,4 +1,4 @@
--- Lexemes whose tokens are plain, and which leave the mode, the count of occurrences and the last line unchanged.
+-- Lexemes whose tokens are plain, and which leave the mode and the count of occurrences unchanged.
 use Rattle.std.proofs.Common.{rules}
 use Rattle.std.proofs.lemmas.Bool.Decides.{nat_tests}
 use Rattle.std.proofs.Common.{arith}
@@ -28,7 +28,6 @@ pub record IsPlainLexeme (s : LexerState) (here : Lexeme) : Type 0 where
   pub mode : here.after.mode ≡ s.mode
   pub none : here.occurrence ≡ None
   pub count : here.after.occurrences ≡ s.occurrences
-  pub last : here.after.last_line ≡ s.last_line
 
 -- the faults of a name that is used
 pub use-plain : (s : LexerState) (text : List Cell)

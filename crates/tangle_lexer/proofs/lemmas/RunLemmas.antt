@@ -9,7 +9,6 @@ use Rattle.std.proofs.Common.{length}
 use Rattle.std.proofs.Common.{take, drop, map, get_or, slice_get, Option, refl, ap}
 use Rattle.std.proofs.Common.{sym, ◌∙◌, subst, arith, append_assoc, append-nil, length-drop}
 use Rattle.std.proofs.lemmas.Option.{slice_get-get_or, slice_get_cases}
-use Rattle.std.specs.List.{All}
 use Rattle.std.proofs.lemmas.Bool.{and_parts}
 use Rattle.std.proofs.lemmas.List.Elements.{All-push}
 use Rattle.tangle_lines.specs.Reading.{SourceLine}
@@ -29,7 +28,7 @@ use Rattle.tangle_lexer.specs.declared.tokens.Token.TheVariants as token
 use Rattle.tangle_lexer.specs.LinesOfC.{with_item}
 use Rattle.tangle_lexer.specs.Lexemes.{elsewhere}
 use Rattle.tangle_lexer.specs.Reads.{ReadsOn}
-use Rattle.tangle_lexer.specs.Runs.{part_token, unfolded, IsRunOf, IsRunIn}
+use Rattle.tangle_lexer.specs.Runs.{part_token, IsRunOf, IsRunIn}
 use Rattle.tangle_lexer.specs.Simple.{IsSimple, simple_kind, is_c_text, is_word_or_sign, begins_run, is_apart}
 use Rattle.tangle_lexer.specs.Steps.{c_lexeme, lexeme, tokens_from}
 use Rattle.tangle_lexer.specs.Steps.{occurrences_from}
@@ -150,15 +149,15 @@ pub run-reads-on : (lines : List SourceLine) (old new : List Token)
 run-reads-on lines old new s text rest span added is ahead ours run =
     let texts = texts_of lines in
     let run_is : IsRunOf texts span = subst (IsRunOf texts) (sym is) run.run in
-    let parts = map part_token (run_parts texts span) in
-    let after = tokens_from (elsewhere s) rest in
-    let from : tokens_from s text ≡ parts ++ after = search rules in
-    let tokens_are : unfolded texts new ≡ unfolded texts old ++ parts
-    = grind (arith, nat_tests, unfolded-append texts old, append-nil parts) in
-    record {
-      tokens = grind (arith, nat_tests, append_assoc);
-      runs = λ runs. subst (All (IsRunIn texts)) (sym added)
-          (All-push (IsRunIn texts) old (token.Run span) runs run_is);
-      occurrences = ap (occurrences_from (elsewhere s)) ahead ∙ sym run.occurrences;
-      ours = subst (IsRestOf lines) (sym ahead) (rest-drop lines (run_count text) text ours);
-    }
+    grind (
+      arith,
+      nat_tests,
+      append_assoc,
+      unfolded-append texts old,
+      append-nil (map part_token (run_parts texts span)),
+      run.tokens,
+      run.occurrences,
+      All-push (IsRunIn texts) old (token.Run span),
+      run_is,
+      rest-drop lines (run_count text) text ours,
+    )

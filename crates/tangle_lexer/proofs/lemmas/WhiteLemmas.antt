@@ -38,6 +38,7 @@ use Rattle.tangle_lexer.proofs.lemmas.PlainTokens.{AreText, verbatim_tokens-text
 use Rattle.tangle_lexer.proofs.lemmas.PlainLexemes.{quoted-text}
 
 -- white space with line ends, and with a fault unless it ends
+
 white-by : (ends : List Token) (is_ended : Bool) (kind : FaultKind) (line : ℕ)
     → is_white_alone (token.White ∷ ends ++ fault_if (not is_ended) kind line) ≡ (is_on_line ends && is_ended)
 white-by ends is_ended kind line = grind arith

@@ -2,7 +2,7 @@
 use Rattle.std.proofs.Common.{rules}
 use Rattle.std.proofs.Common.{arith}
 use Rattle.std.proofs.Common.{◌≡◌, ℕ, Bool, true, false, List, [], ◌∷◌, ◌++◌, map}
-use Rattle.std.proofs.Common.{Option, Some, None, refl, ap, sym, ◌∙◌, subst, ◌&&◌}
+use Rattle.std.proofs.Common.{Option, Some, None, refl, ap, sym, ◌∙◌, ◌&&◌}
 use Rattle.tangle_faults.specs.declared.faults.FaultKind.{FaultKind}
 use Rattle.tangle_faults.specs.declared.faults.FaultKind.TheVariants as fault
 use Rattle.tangle_text.specs.declared.regions.Region.{Region}
@@ -21,7 +21,6 @@ use Rattle.tangle_lexer.specs.declared.modes.Mode.TheVariants as mode
 use Rattle.tangle_lexer.specs.declared.modes.LineOfC.{LineOfC}
 use Rattle.tangle_lexer.specs.declared.modes.LineOfC.TheVariants as line
 use Rattle.tangle_lexer.specs.declared.modes.AtLineEnd.{AtLineEnd}
-use Rattle.tangle_lexer.specs.declared.modes.AtLineEnd.TheVariants.{Ends}
 use Rattle.tangle_lexer.specs.declared.modes.LineState.{LineState}
 use Rattle.tangle_lexer.specs.declared.modes.LexerState.{LexerState}
 use Rattle.tangle_lexer.specs.LinesOfC.{with_item, inner_end_in, after_line_end, after_line_ends}
@@ -79,8 +78,7 @@ module _ (texts : List (List ℕ)) (R : Judgement texts) where
       (inner-ends false (after_line_end l) ts (λ e. cc) h)
   inner-ends true l (token.LineEnd n ∷ ts) d h =
       steps-append texts R (token.InnerLineEnd n ∷ []) (map (inner_end_in true) ts)
-      (subst (λ k. Steps texts R k l.at_line_end (token.InnerLineEnd n ∷ []) k l.at_line_end) (same l.line (d refl))
-      (inner-step texts R n)) (inner-ends true l ts d h)
+      (rw (← same l.line (d refl)) (inner-step texts R n)) (inner-ends true l ts d h)
     where
       same : (k : LineOfC) → lines_of_c.is_directive k ≡ true → line.Directive ≡ k
       same k is = search rules
@@ -124,13 +122,11 @@ module _ (texts : List (List ℕ)) (R : Judgement texts) where
       let t : Token = token.UseOf (front_line s.last_line (name_end text)) s.occurrences in
       let names : List Token = name_faults s.last_line text in
       let equals : List Token = fault_if (has_single_equals (after_name text)) fault.NameEquals n in
-      subst (λ b. Steps texts R s.line.line s.line.at_line_end
-      (t ∷ fault_if b fault.UseInDirective n ++ names ++ equals) line.Empty Ends) (sym (in_directive s m))
-      (steps-append texts R (t ∷ fault_if (lines_of_c.is_directive s.line.line) fault.UseInDirective n ++ names) equals
-      (steps-append texts R (t ∷ fault_if (lines_of_c.is_directive s.line.line) fault.UseInDirective n) names
+      let b : Bool = lines_of_c.is_directive s.line.line in
+      rw (in_directive s m) (steps-append texts R (t ∷ fault_if b fault.UseInDirective n ++ names) equals
+      (steps-append texts R (t ∷ fault_if b fault.UseInDirective n) names
       (use-step texts R t refl refl refl (λ us. refl) (λ l. refl) (λ before us. refl) n)
-      (faults-step texts R _ fault.NameEnd _ refl))
-      (faults-step texts R _ fault.NameEquals _ refl))
+      (faults-step texts R _ fault.NameEnd _ refl)) (faults-step texts R _ fault.NameEquals _ refl))
 
   kind-follows : (kind : LexemeKind) (s : LexerState) (at : Point) (c : Cell) (cs : List Cell)
       → s.mode ≡ mode.CPart → HasNone is_head (c_lexeme kind s (c ∷ cs)).tokens → OpensLexeme kind (c ∷ cs)

@@ -10,12 +10,11 @@ use Rattle.std.specs.Prelude.{filter}
 use Rattle.std.specs.List.{All}
 use Rattle.std.proofs.lemmas.List.Elements.{All-cons, All-nil}
 use Rattle.tangle_lines.specs.Reading.{SourceLine}
-use Rattle.tangle_faults.specs.declared.faults.FaultKind.TheVariants as fault
 use Rattle.tangle_text.specs.Text.{Cell, text_from, texts_of}
 use Rattle.tangle_lexer.specs.declared.tokens.Token.{Token}
 use Rattle.tangle_lexer.specs.declared.modes.Mode.TheVariants as mode
 use Rattle.tangle_lexer.specs.declared.modes.LexerState.{LexerState}
-use Rattle.tangle_lexer.specs.Lexemes.{Lexeme, is_c_part, fault_if}
+use Rattle.tangle_lexer.specs.Lexemes.{Lexeme, is_c_part}
 use Rattle.tangle_lexer.specs.LinesOfC.{front}
 use Rattle.tangle_lexer.specs.Heads.{is_head}
 use Rattle.tangle_lexer.specs.Steps.{lexeme, lexemes, tokens_from, all_tokens, first_state}
@@ -52,12 +51,6 @@ module _ (texts : List (List ℕ)) where
     ended = search rules;
     used = search rules;
   }
-    where
-      by : (t : Token) (b : Bool) (n : ℕ) (us : List Token) (lines : List (List Token)) → begins_with_use_fault us ≡ false
-          → with_use_fault us ≡ flat_map (uses_in_directive texts) lines
-          → with_use_fault (t ∷ fault_if b fault.UseInDirective n ++ us)
-          ≡ cond b (t ∷ []) [] ++ flat_map (uses_in_directive texts) lines
-      by t x n us lines h more = grind arith
 
   abbrev pub IsRightPart : List Token → Type 0
   IsRightPart part = AreRight part (parts.lines_of_c texts [] part)

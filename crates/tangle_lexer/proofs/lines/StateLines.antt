@@ -3,7 +3,7 @@ use Rattle.std.proofs.Common.{rules}
 use Rattle.std.proofs.lemmas.Bool.Decides.{nat_tests}
 use Rattle.std.proofs.Common.{arith}
 use Rattle.std.proofs.Common.{◌≡◌, ℕ, zero, suc, Bool, true, false, ◌||◌, List, [], ◌∷◌, ◌++◌, length}
-use Rattle.std.proofs.Common.{refl, ap, sym, ◌∙◌, subst, cond, append_assoc, append-nil}
+use Rattle.std.proofs.Common.{refl, ap, ◌∙◌, cond, append_assoc, append-nil}
 use Rattle.std.proofs.lemmas.List.Folds.{list_any-append}
 use Rattle.tangle_lines.specs.Reading.{SourceLine}
 use Rattle.tangle_text.specs.Text.{Cell, text_from, texts_of}
@@ -68,51 +68,36 @@ module _ (texts : List (List ℕ)) where
         | inr head ↦ rw (head.1, body-head ts head.0 head.2, head.4) (no-steps texts (last-is b))
       ]
 
-  Knows : List Token → LexemeStart → Type 0
-  Knows ts here =
-      here.state.mode ≡ mode.CPart
-      → is_in_directive here.state ≡ is_directive texts (open_line texts (last_body ts))
-
-  knows : (ts : List Token) (s : LexerState) (text : List Cell) → HasRead ts s
-      → Knows ts (record { state = s; text = text })
-  unfolding HasRead Knows last-is
-  knows ts s text read m =
-      let b : Bool = lines_of_c.is_directive s.line.line in
-      let last = (read m b).holds [] refl
-      (λ before is other. directive-is texts before ∙ ap lines_of_c.is_directive is.kind ∙ (grind arith))
-      [] (front-open texts (last_body ts ++ [])) [] in
-      search rules
-
-  KnowsAll : List Token → List LexemeStart → Type 0
-  KnowsAll ts [] = Unit {0}
-  KnowsAll ts (here ∷ starts) = Knows ts here × KnowsAll (ts ++ (lexeme here.state here.text).tokens) starts
-
-  all-known : (k : ℕ) (s : LexerState) (text : List Cell) (at : Point) (ts : List Token)
-      → IsTextAt texts at text → HasRead ts s → KnowsAll ts (lexeme_starts k s text)
-  unfolding KnowsAll
-  all-known k s [] at ts is read = tt
-  all-known (suc k) s (c ∷ cs) at ts is read = all-known k s cs (after_cell c) ts is.1 read
-  all-known zero s (c ∷ cs) at ts is read =
-      let here : Lexeme = lexeme s (c ∷ cs) in (
-        knows ts s (c ∷ cs) read,
-        all-known here.more here.after cs (after_cell c) (ts ++ here.tokens) is.1
+  -- wherever a lexeme begins, if these tokens are read before the first one
+  known : (k : ℕ) (s : LexerState) (text : List Cell) (at : Point) (ts : List Token) (before after : List LexemeStart)
+      (here : LexemeStart) → IsTextAt texts at text → HasRead ts s → lexeme_starts k s text ≡ before ++ here ∷ after
+      → HasRead (ts ++ tokens_of before) here.state
+  known k s [] at ts [] after here is read split = cc
+  known k s [] at ts (b ∷ before) after here is read split = cc
+  known (suc k) s (c ∷ cs) at ts before after here is read split = known k s cs (after_cell c) ts before after here is.1 read split
+  known zero s (c ∷ cs) at ts [] after here is read split = grind (arith, nat_tests, append-nil ts)
+  known zero s (c ∷ cs) at ts (b ∷ before) after here is read split =
+      let first : Lexeme = lexeme s (c ∷ cs) in
+      grind (
+        arith,
+        nat_tests,
+        append_assoc ts,
+        known first.more first.after cs (after_cell c) (ts ++ first.tokens) before after here is.1
             (lexeme-law s at c cs is ts read),
       )
-
-  known-at : (before after : List LexemeStart) (here : LexemeStart) (ts : List Token)
-      → KnowsAll ts (before ++ here ∷ after) → Knows (ts ++ tokens_of before) here
-  unfolding KnowsAll
-  known-at [] after here ts all = subst (λ us. Knows us here) (sym (append-nil ts)) all.0
-  known-at (b ∷ before) after here ts all = grind (arith, nat_tests, append_assoc ts, known-at before after here)
 
 -- the lexemes of a source
 pub directives-known : (lines : List SourceLine) (before after : List LexemeStart) (here : LexemeStart)
     → lexeme_starts 0 (first_state (length lines)) (text_from 0 lines) ≡ before ++ here ∷ after
     → here.state.mode ≡ mode.CPart → is_in_directive here.state
     ≡ is_directive (texts_of lines) (open_line (texts_of lines) (last_body (tokens_of before)))
-unfolding HasRead Knows
-directives-known lines before after here split =
-    known-at (texts_of lines) before after here []
-    (subst (KnowsAll (texts_of lines) []) split
-    (all-known (texts_of lines) 0 (first_state (length lines)) (text_from 0 lines) (point_at 0 0) []
-    (text-is lines) (λ m. cc)))
+unfolding HasRead last-is
+directives-known lines before after here split m =
+    let texts = texts_of lines in
+    let b : Bool = lines_of_c.is_directive here.state.line.line in
+    let read : HasRead texts (tokens_of before) here.state = known texts 0 (first_state (length lines)) (text_from 0 lines) (point_at 0 0) [] before after here
+    (text-is lines) (λ m. cc) split in
+    let last = (read m b).holds [] refl
+    (λ before is other. directive-is texts before ∙ ap lines_of_c.is_directive is.kind ∙ (grind arith))
+    [] (front-open texts (last_body (tokens_of before) ++ [])) [] in
+    search rules

@@ -1,6 +1,6 @@
 -- Texts that are cut are items of the open line of C: quoted texts, and verbatim texts, which may end in a backslash.
 use Rattle.std.proofs.Common.{◌≡◌, ℕ, zero, suc, ◌+◌, ◌-◌, ◌<◌, ◌≤◌, Bool, true, false, List, [], ◌∷◌, ◌++◌, ◌==◌, ◌⊎◌}
-use Rattle.std.proofs.Common.{inl, inr, refl, ap, sym, ◌∙◌, arith, subst, cond, if◌then◌else◌}
+use Rattle.std.proofs.Common.{inl, inr, refl, sym, ◌∙◌, arith, subst, cond, if◌then◌else◌}
 use Rattle.std.proofs.lemmas.Bool.Decides.{nat_tests, eqb_tells}
 use Rattle.tangle_faults.specs.declared.faults.FaultKind.TheVariants as fault
 use Rattle.tangle_text.specs.declared.regions.Region.{Region}
@@ -54,11 +54,6 @@ last_cell last (suc n) [] = last
 last_cell last (suc n) (c ∷ cs) = last_cell (holds backslash c.byte) n cs
 
 module _ (texts : List (List ℕ)) (R : Judgement texts) where
-  -- the last byte of a range that is not empty
-  last-is : (l start end : ℕ) → start < end
-      → last_byte texts (record { line = l; start = start; end = end }) ≡ source_byte texts l (end - 1)
-  last-is l start end h = grind (arith, nat_tests)
-
   -- the byte before the column after a cell
   after-byte-of : (at : Point) (c : Cell) → IsByte c.byte → IsCellAt texts at c
       → (source_byte texts c.line (c.column + 1 - 1) == backslash) ≡ holds backslash c.byte
@@ -80,10 +75,8 @@ module _ (texts : List (List ℕ)) (R : Judgement texts) where
         → Steps texts R x f (cut_range r line start end) m (ending r b)
     range-step x f line start end b same h ends =
         let s : Span = record { line = line; start = start; end = end } in
-        let is : (last_byte texts s == backslash) ≡ b = ap (λ n. n == backslash) (last-is line start end h) ∙ ends in
-        rw (range-is r line start end h)
-        (subst (λ y. Steps texts R x f (range_token r s ∷ []) y (ending r b)) same
-        (subst (λ y. Steps texts R x f (range_token r s ∷ []) (with_item false x) (ending r y)) is (range-item r s x f)))
+        let is : (last_byte texts s == backslash) ≡ b = grind (arith, nat_tests) in
+        rw (range-is r line start end h, ← same, ← is) (range-item r s x f)
 
     -- The tokens from the start of a range on, before which the line is `x` and `f`, and `last` is whether a backslash
     -- is before the text. If the range is empty so far, then there is more, or there is an item before it.
@@ -123,27 +116,18 @@ module _ (texts : List (List ℕ)) (R : Judgement texts) where
           (search (rules, after-byte-of)))
           (λ at start c d cs ts n h is cell byte second sign other next x f last same back done.
           let no_end : holds backslash c.byte ≡ false = other-byte at_sign backslash c.byte refl sign in
-          let range : List Token = cut_range r c.line start (c.column + 1) in
-          subst (λ b. Steps texts R x f (range ++ ts) m (ending r (last_cell b n cs)))
-          (sym (other-byte at_sign backslash d.byte refl other))
-          (steps-append texts R range ts
-          (range-step x f c.line start (c.column + 1) false same (omega arith)
-          (after-byte-of at c byte is ∙ no_end))
-          (search (rules, same-item))))
+          let none : holds backslash d.byte ≡ false = other-byte at_sign backslash d.byte refl other in
+          let first = range-step x f c.line start (c.column + 1) false same (omega arith) (after-byte-of at c byte is ∙ no_end) in
+          rw none (steps-append texts R (cut_range r c.line start (c.column + 1)) ts first (search (rules, same-item))))
           (λ at start c d cs ts n h is cell byte second sign other next x f last same back done.
           next x f (holds backslash d.byte) same (λ k. after-byte-of (point_at c.line (c.column + 1)) d second cell)
           (λ k. absurd (omega arith)))
           (λ at start c d cs ts n h is cell byte none other next x f last same back done.
-          let range : List Token = cut_range r c.line start (c.column + 1) in
-          let b : Bool = holds backslash c.byte in
-          subst (λ y. Steps texts R x f (range ++ token.QuoteBreak c.line ∷ ts) m (ending r (last_cell y n cs)))
-          (sym (ap (holds backslash) none))
-          (steps-append texts R range (token.QuoteBreak c.line ∷ ts)
-          (range-step x f c.line start (c.column + 1) b same (omega arith) (after-byte-of at c byte is))
-          (steps-append texts R (token.QuoteBreak c.line ∷ []) ts
-          (subst (λ y. Steps texts R m (ending r b) (token.QuoteBreak c.line ∷ []) y Ends) (same-item l)
-          (item-step texts R (token.QuoteBreak c.line) refl))
-          (next m Ends false (same-item l) (λ k. absurd (omega arith)) (λ k. inr (refl, ending-none r))))))
+          let first = range-step x f c.line start (c.column + 1) (holds backslash c.byte) same (omega arith) (after-byte-of at c byte is) in
+          let break = item-step texts R (token.QuoteBreak c.line) refl in
+          rw none (steps-append texts R (cut_range r c.line start (c.column + 1)) (token.QuoteBreak c.line ∷ ts) first
+          (steps-append texts R (token.QuoteBreak c.line ∷ []) ts break
+          (next (with_item false m) Ends false (grind arith) (λ k. absurd (omega arith)) (λ k. inr (same-item l, ending-none r))))))
 
   -- quoted texts: no line end after one of their ranges goes on
   module _ (r : Region) (cut : IsCut r) (quoted : (b : Bool) → ending r b ≡ Ends) (l : LineOfC) (e : AtLineEnd) where

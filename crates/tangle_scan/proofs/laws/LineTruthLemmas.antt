@@ -84,8 +84,6 @@ AreGaps run = list_all is_gap run ≡ true
 after-run : (texts : List (List ℕ)) (line : ℕ) (run es : List Token) → AreGaps run → AreClean texts line (run ++ es)
     → (after : ℕ) × (line ≤ after) × (has_line_end run ≡ false → after ≡ line) × AreClean texts after es
 after-run texts line [] es gaps h = (line, omega arith, λ none. refl, h)
-after-run texts line (token.Join ∷ run) es gaps h = after-run texts line run es gaps h.1
-after-run texts line (token.White ∷ run) es gaps h = after-run texts line run es gaps h.1
 after-run texts line (e ∷ run) es gaps h = grind (arith, after-run texts (line_past line e) run es)
 
 goes-snoc : (texts : List (List ℕ)) (xs : List Item) (x : Item) → goes_on texts (xs ++ x ∷ [])
@@ -164,10 +162,7 @@ module _ (lines : List SourceLine) where
         (search (rules, own), search (rules, turn-snoc, goes-snoc))
     item-true (token.AsciiConstant b n) es fs gs gap next ordered =
         (own n (item.AsciiConstant b) ordered.0.0 (rw ordered.0.0 ordered.0.1), search (rules, turn-snoc, goes-snoc))
-    item-true e es fs gs gap next ordered = first_of (
-      search (rules, expected-is, not-out, turn-snoc, goes-snoc),
-      grind (arith, ordered.0),
-    )
+    item-true e es fs gs gap next ordered = search (rules, expected-is, not-out, turn-snoc, goes-snoc)
 
     -- the end of a line, with what is true of the rest
     end-true : (n : ℕ) (rest : List Item) (ss : List Location) →
@@ -235,8 +230,7 @@ module _ (lines : List SourceLine) where
   kept-true : (run es fs gs : List Token)
       → AreGaps run → has_join run ≡ false → AreTrue es fs gs
       → AreTrue (run ++ es) (map white_inner_end run ++ fs) (run ++ gs)
-  kept-true [] es fs gs gaps none next before at white counted stretch number read origin line h ordered =
-      next before at white counted stretch number read origin line h ordered
+  kept-true [] es fs gs gaps none next before at white counted stretch number read origin line h ordered = grind arith
   kept-true (token.White ∷ run) es fs gs gaps none next before at white counted stretch number read origin line h ordered =
       kept-true run es fs gs gaps none next before at true counted stretch number read origin line h ordered.1
   kept-true (token.InnerLineEnd n ∷ run) es fs gs gaps none next before at white counted stretch number read origin line h ordered =

@@ -32,11 +32,7 @@ module _ (texts : List (List ℕ)) where
     next : is_empty fs ≡ false → next_item es ≡ next_item fs
 
   written-before : (e : Token) (es fs : List Token) → AreWritten es fs → AreWritten (e ∷ es) (with_written texts e fs)
-  written-before e es [] h = record {
-    is = λ in_name before white. search rules;
-    some = λ in_name before white. search rules;
-    next = λ some. search rules;
-  }
+  written-before e es [] h = search rules
   written-before e es (f ∷ fs) h = record {
     is = λ in_name before white. grind (arith, h.is, h.some, h.next refl, more-items);
     some = λ in_name before white. grind (arith, h.some);

@@ -19,8 +19,7 @@ use Rattle.tangle_scan.specs.Web.BlockKind.{OfPiece}
 use Rattle.tangle_scan.specs.ItemSpans.{item_spans}
 use Rattle.tangle_scan.specs.KeptBytes.{IsEarlier, KeepsEachByte}
 use Rattle.tangle_lexer.proofs.laws.Points.{Point, point_at, text-is}
-use Rattle.tangle_lexer.proofs.laws.KeptBytes.{part_points, segments-keep}
-use Rattle.tangle_lexer.proofs.laws.SegmentKinds.{segments-fill, segments-shows}
+use Rattle.tangle_lexer.proofs.laws.KeptBytes.{part_points, segments-are}
 use Rattle.tangle_scan.proofs.laws.ItemSpans.{token_spans, part-spans}
 use Rattle.tangle_scan.proofs.laws.SpanOrder.{AreFrom, in-order, flat_map-twice, pieces-from, macros-from}
 
@@ -65,7 +64,7 @@ pieces-kept source =
     ∙ flat_map-twice span_points (λ b. flat_map (λ p. item_spans p.items) (piece_of lines b))
     (blocks 0 (all_tokens lines))
     ∙ sym (split-blocks lines 0 (all_tokens lines)).outside
-    ∙ segments-keep (texts_of lines) 0 (first_state (length lines)) (text_from 0 lines) (point_at 0 0) (text-is lines)
+    ∙ (segments-are (texts_of lines) 0 (first_state (length lines)) (text_from 0 lines) (point_at 0 0) (text-is lines)).kept
 
 -- Since the spans are in order, their bytes are.
 
@@ -95,10 +94,10 @@ pub web-keeps-bytes : (source : SourceRead) → KeepsEachByte source (web_of sou
 web-keeps-bytes source =
     let lines = source.lines in
     let texts = texts_of lines in
-    let filled = segments-fill 0 (first_state (length lines)) (text_from 0 lines) in
+    let law = segments-are texts 0 (first_state (length lines)) (text_from 0 lines) (point_at 0 0) (text-is lines) in
     record {
-      filled = filled;
-      kinds = segments-shows 0 (first_state (length lines)) (text_from 0 lines);
+      filled = law.filled;
+      kinds = law.shown;
       kept = pieces-kept source;
       once = (points-from_on texts (point_at 0 0) _ (pieces-from lines)).1;
       pieces = in-order texts (point_at 0 0) _ (pieces-from lines);

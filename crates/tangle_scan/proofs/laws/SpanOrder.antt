@@ -47,8 +47,7 @@ module _ (texts : List (List ℕ)) where
 
   later : (s : Span) (p : Point) (ss : List Span) → Precedes (point_at s.line s.end) p → AreFrom p ss → All (EndsBefore s) ss
   later s p [] le h = All-nil (EndsBefore s)
-  later s p (t ∷ ss) le h =
-      All-cons (EndsBefore s) t ss (grind arith) (later s (point_at t.line t.end) ss (grind arith) h.1)
+  later s p (t ∷ ss) le h = grind (arith, later s (point_at t.line t.end) ss (grind arith) h.1)
 
   pub in-order : (p : Point) (ss : List Span) → AreFrom p ss → AreInOrder texts ss
   in-order p [] h = record { ranges = All-nil (IsSpan texts); order = λ i j d k l. absurd (omega arith) }
@@ -104,7 +103,6 @@ module _ (texts : List (List ℕ)) where
         → AreFrom p (token_spans es) → AreFrom p (token_spans (body es) ++ flat_map f (blocks n es))
     blocks-from n [] p h = tt
     blocks-from n (token.Section ∷ es) p h = some-none (token_spans (body es)) p _ (blocks-from (n + 1) es p h)
-    blocks-from n (token.Span kind s ∷ es) p h = (h.0, blocks-from n es (point_at s.line s.end) h.1)
     blocks-from n (e ∷ es) p h = search (rules, begun, blocks-from n es)
 
 pub flat_map-twice : {A B C : Type 0} (f : B → List C) (g : A → List B) (xs : List A)
@@ -132,9 +130,7 @@ module _ (lines : List SourceLine) where
 
   pub pieces-from : AreFrom (texts_of lines) (point_at 0 0)
       (flat_map (λ p. item_spans p.items) (flat_map (piece_of lines) (blocks 0 (all_tokens lines))))
-  pieces-from = made-from (λ p. item_spans p.items) (piece_of lines) (λ x p rest h.
-      let none = some-none (texts_of lines) (token_spans x.tokens) p rest h in
-      grind (arith, nat_tests, append-nil, part-spans, none))
+  pieces-from = search (rules, made-from, some-none, part-spans)
 
   pub macros-from : AreFrom (texts_of lines) (point_at 0 0)
       (flat_map item_spans (flat_map (macro_of lines) (blocks 0 (all_tokens lines))))

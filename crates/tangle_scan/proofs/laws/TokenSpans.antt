@@ -104,20 +104,13 @@ module _ (texts : List (List ℕ)) where
 
   spanless : (at : Point) (c : Cell) (cs : List Cell) (here : Lexeme)
       → IsTextAt texts at (c ∷ cs) → HasNone is_span here.tokens → Law c cs here
-  spanless at c cs here is none p h =
-      lead-none (Reaches (drop here.more cs)) p here.tokens none
-      (text-later here.more (after_cell c) p cs is.1 (after-cell at p c cs is h))
+  spanless at c cs here is none p h = search (rules, lead-none, text-later, after-cell)
 
   -- the span of the first `n` bytes of a lexeme that is bytes
   span-leads : (kind : SpanKind) (at : Point) (n more : ℕ) (c : Cell) (cs : List Cell) → IsTextAt texts at (c ∷ cs)
       → n ≤ suc more → HoldsBytes (suc more) (c ∷ cs) → (p : Point) → Reaches (c ∷ cs) p
       → Lead (Reaches (drop more cs)) p (token.Span kind (span_at n (c ∷ cs)) ∷ [])
-  span-leads kind at n more c cs is le bytes p h = (
-    h,
-    text-reaches (point_at at.line (at.column + suc more)) (point_at c.line (c.column + n)) (drop more cs)
-        (text-after texts (suc more) at (c ∷ cs) is bytes)
-        (omega (arith, is.0.line), λ e. omega (arith, is.0.column)),
-  )
+  span-leads kind at n more c cs is le bytes p h = search (rules, text-reaches, text-after)
 
   -- ranges of quoted and verbatim texts
 
@@ -214,8 +207,6 @@ module _ (texts : List (List ℕ)) where
   kind-leads : (kind : LexemeKind) (s : LexerState) (at : Point) (c : Cell) (cs : List Cell)
       → IsPlainKind kind → OpensLexeme kind (c ∷ cs) → IsTextAt texts at (c ∷ cs)
       → Law c cs (c_lexeme kind s (c ∷ cs))
-  kind-leads (lexeme_kind.Control code.DoubleAt) s at c cs plain o is =
-      span-leads span_kind.Sign at 1 1 c cs is (omega arith) (code-bytes code.DoubleAt (c ∷ cs) (λ e. cc) o)
   kind-leads (lexeme_kind.Control code.Verbatim) s at c cs plain o is =
       verbatim-leads s at c cs is (code-bytes code.Verbatim (c ∷ cs) (λ e. cc) o)
   kind-leads lexeme_kind.Word s at c cs plain o is =
@@ -223,8 +214,6 @@ module _ (texts : List (List ℕ)) where
       let e : 1 + n ≡ suc n = omega arith in
       span-leads span_kind.Word at (1 + n) n c cs is (omega arith)
       (subst (λ i. HoldsBytes i (c ∷ cs)) e (word-bytes c cs (some-byte c.byte o.0)))
-  kind-leads lexeme_kind.Other s at c cs plain o is =
-      span-leads span_kind.Sign at 1 0 c cs is (omega arith) (some-byte c.byte o.0, tt)
   kind-leads kind s at c cs plain o is = first_of (
     search (rules, spanless, white-none, fault-none),
     search (rules, quoted-leads, double_quote-cut, apostrophe-cut, header_name-cut, some-byte),

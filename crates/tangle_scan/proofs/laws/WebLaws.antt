@@ -25,7 +25,6 @@ all-in_order lines = grind (arith, nat_tests, lexemes-in_order, text-is lines)
 module _ (texts : List (List ℕ)) where
   body-by_line : (line : ℕ) (es : List Token) → AreFromLine texts line es → AreByLine texts line (body es)
   body-by_line line [] ordered = tt
-  body-by_line line (token.Section ∷ es) ordered = tt
   body-by_line line (e ∷ es) ordered = search (rules, body-by_line (line_after line e) es)
 
 module _ (lines : List SourceLine) where

@@ -5,7 +5,7 @@ use Rattle.std.proofs.Common.{length, map, arith, subst, ◌<◌, ℕ}
 use Rattle.std.proofs.Common.{List, [], ◌∷◌, flat_map}
 use Rattle.std.specs.List.{AllByRecursion, All}
 use Rattle.std.specs.Option.{IfSome}
-use Rattle.std.proofs.lemmas.List.Elements.{All-from_recursion, All-nil, All-cons, All-weaker}
+use Rattle.std.proofs.lemmas.List.Elements.{All-from_recursion, All-nil, All-weaker}
 use Rattle.std.proofs.lemmas.List.{length-map}
 use Rattle.tangle_lines.specs.Reading.{SourceLine, SourceRead}
 use Rattle.tangle_lexer.specs.declared.tokens.Token.{Token}
@@ -25,7 +25,6 @@ module _ (lines : List SourceLine) (count : ℕ) where
   -- the uses of the tokens up to the next head
   body-below : (es : List Token) → AreBelow count es → All (λ n. n < count) (flat_map token_uses (body es))
   body-below [] h = All-nil (λ n. n < count)
-  body-below (token.UseOf line n ∷ es) h = All-cons (λ n. n < count) n (flat_map token_uses (body es)) h.0 (body-below es h.1)
   body-below (e ∷ es) h = search (rules, All-nil, body-below es)
 
   part-below : (line : ℕ) (es : List Token)

@@ -1,6 +1,6 @@
 -- What is stored of a web is what was gathered of it, block by block.
 use Rattle.std.proofs.Common.{rules}
-use Rattle.std.proofs.Common.{◌≡◌, ◌∙◌, ◌<◌, ℕ, zero, suc, ◌+◌, ◌||◌, true, false, List, [], ◌∷◌, ◌++◌, if◌then◌else◌, map, length}
+use Rattle.std.proofs.Common.{◌≡◌, ◌∙◌, ◌<◌, ℕ, ◌+◌, ◌||◌, true, false, List, [], ◌∷◌, ◌++◌, if◌then◌else◌, map, length}
 use Rattle.std.proofs.Common.{None, Option, append-nil, append_assoc, get_or, refl, subst, sym}
 use Rattle.std.specs.List.{All, AllZip, list_any}
 use Rattle.std.specs.Prelude.{flat_map}
@@ -12,6 +12,7 @@ use Rattle.digraph.specs.Graph.{row_at}
 use Rattle.tangle_faults.specs.Faults.{FaultRead}
 use Rattle.tangle_faults.specs.declared.faults.FaultKind.TheVariants as fault
 use Rattle.tangle_lexer.specs.Heads.{is_head}
+use Rattle.tangle_lexer.specs.LinesOfParts.{body}
 use Rattle.tangle_lexer.specs.Runs.{IsRunIn, first_is_alone, unfolded}
 use Rattle.tangle_lexer.specs.declared.tokens.Token.{Token}
 use Rattle.tangle_lexer.specs.declared.tokens.Token.TheVariants as token
@@ -22,7 +23,7 @@ use Rattle.std.proofs.lemmas.List.Elements.{All-nil, All-head, All-tail}
 use Rattle.tangle_scan.specs.MacroBytes.{macro_bytes}
 use Rattle.std.proofs.lemmas.List.Concat.{flat_map-append}
 use Rattle.tangle_scan.specs.Texts.{TextRead, TextsRead, IsTextOf, item_uses, no_text, text_at, with_text}
-use Rattle.tangle_scan.specs.Web.{scan_faults, section_count}
+use Rattle.tangle_scan.specs.Web.{scan_faults, section_count, section_after, block_at, block_faults}
 use Rattle.tangle_scan.specs.Web.{PieceRead, WebRead, blocks, fault_on, is_all_macros, no_piece, macro_token_faults, token_faults}
 use Rattle.tangle_scan.specs.WebBuilder.{AreTextsOf, IsGathered, StoredBuilder, nothing_stored, part_head}
 use Rattle.tangle_scan.proofs.lemmas.UnfoldedTokens.{all_macros-unfolded, faults-unfolded, macro_faults-unfolded, unfolded-no_head}
@@ -59,14 +60,7 @@ no-block : (source : SourceRead) (stored : StoredBuilder) (before new : List Tok
     → IsGathered source before stored → blocks 0 new ≡ blocks 0 before → section_count 0 new ≡ sections
     → scan_faults source.files source.lines new ≡ faults
     → IsGathered source new (record stored { sections = sections; faults = faults })
-no-block source stored before new sections faults h same count is = record {
-  sections = sym count;
-  pieces = rw same h.pieces;
-  piece_texts = rw same h.piece_texts;
-  macros = rw same h.macros;
-  has_all_macros = rw same h.has_all_macros;
-  faults = sym is;
-}
+no-block source stored before new sections faults h same count is = search rules
 
 module _ (source : SourceRead) (stored : StoredBuilder) (before tokens : List Token)
     (none : list_any is_head tokens ≡ false) where
@@ -79,6 +73,20 @@ module _ (source : SourceRead) (stored : StoredBuilder) (before tokens : List To
 
   plain : list_any is_head all ≡ false
   plain = unfolded-no_head texts tokens none
+
+  -- what a block with these tokens adds to a web
+  added : (head : Token) → is_head head ≡ true
+      → (section_count 0 (before ++ head ∷ all) ≡ section_after (section_count 0 before) head)
+      × (blocks 0 (before ++ head ∷ all) ≡ blocks 0 before ++ block_at (section_count 0 before) head all)
+      × (scan_faults source.files source.lines (before ++ head ∷ all)
+      ≡ scan_faults source.files source.lines before ++ block_faults source.files source.lines head all)
+      × (body all ≡ all)
+  added head is = (
+    sections-added head all is plain 0 before,
+    blocks-added head all is plain 0 before,
+    faults-added head all is plain source.files source.lines before,
+    body-whole all plain,
+  )
 
   pub front-stored : All (IsRunIn texts) tokens → IsGathered source [] stored
       → IsGathered source all
@@ -111,20 +119,9 @@ module _ (source : SourceRead) (stored : StoredBuilder) (before tokens : List To
             ++ macro_token_faults source.files source.lines tokens;
       })
   macro-stored line runs alone h =
-      let head = token.MacroStart line in
-      grind (
-        arith,
-        nat_tests,
-        sections-added head all refl plain 0 before,
-        blocks-added head all refl plain 0 before,
-        faults-added head all refl plain source.files source.lines before,
-        macro_faults-unfolded source.files source.lines tokens runs alone,
-        body-whole all plain,
-        flat_map-append,
-        list_any-append,
-        append-nil,
-        append_assoc,
-      )
+      let (sections, blocked, faults, whole) = added (token.MacroStart line) refl in
+      let same = macro_faults-unfolded source.files source.lines tokens runs alone in
+      grind (arith, nat_tests, sections, blocked, faults, whole, same, flat_map-append, list_any-append, append-nil, append_assoc)
 
   pub piece-stored : (occurrence : Option ℕ) (line : ℕ) (text : TextRead) → All (IsRunIn texts) tokens
       → IsTextOf texts (part_items source.lines line all) text → IsGathered source before stored
@@ -136,43 +133,28 @@ module _ (source : SourceRead) (stored : StoredBuilder) (before tokens : List To
         faults = stored.faults ++ token_faults source.files source.lines None tokens;
       })
   piece-stored x line text runs is h =
-      let head : is_head (part_head line x) ≡ true = grind arith in
-      grind (
-        arith,
-        nat_tests,
-        sections-added (part_head line x) all head plain 0 before,
-        blocks-added (part_head line x) all head plain 0 before,
-        faults-added (part_head line x) all head plain source.files source.lines before,
-        faults-unfolded source.files source.lines token.White tokens runs,
-        all_macros-unfolded texts tokens,
-        body-whole all plain,
-        text-pushed,
-        flat_map-append,
-        map-append,
-        list_any-append,
-        append-nil,
-      )
+      let (sections, blocked, faults, whole) = added (part_head line x) (grind arith) in
+      let same = faults-unfolded source.files source.lines token.White tokens runs in
+      let macros = all_macros-unfolded texts tokens in
+      grind (arith, nat_tests, sections, blocked, faults, whole, same, macros, text-pushed, flat_map-append, map-append, list_any-append, append-nil)
 
 -- the text of a piece with this number
 
 zip-at : {X Y : Type 0} (P : X → Y → Type 0) (xs : List X) (ys : List Y) (x : X) (y : Y) (n : ℕ)
     → P x y → AllZip P xs ys → P (get_or xs n x) (get_or ys n y)
 zip-at P [] [] x y n none h = none
-zip-at P (x' ∷ xs) (y' ∷ ys) x y zero none h = h.0
-zip-at P (x' ∷ xs) (y' ∷ ys) x y (suc n) none h = zip-at P xs ys x y n none h.1
+zip-at P (x' ∷ xs) (y' ∷ ys) x y n none h = grind (arith, zip-at P xs ys x y, h.0, h.1)
 zip-at P xs ys x y n none h = absurd h
 
 row-of : {X : Type 0} (f : TextRead → List X) (ts : List TextRead) (n : ℕ) → f no_text ≡ []
     → row_at (map f ts) n ≡ f (get_or ts n no_text)
 row-of f [] n none = sym none
-row-of f (t ∷ ts) zero none = refl
-row-of f (t ∷ ts) (suc n) none = row-of f ts n none
+row-of f (t ∷ ts) n none = grind (arith, row-of f ts)
 
 items-at : (P : PieceRead → Type 0) (pieces : List PieceRead) (n : ℕ) → P no_piece → All P pieces
     → P (get_or pieces n no_piece)
 items-at P [] n none h = none
-items-at P (p ∷ pieces) zero none h = All-head P p pieces h
-items-at P (p ∷ pieces) (suc n) none h = items-at P pieces n none (All-tail P p pieces h)
+items-at P (p ∷ pieces) n none h = grind (arith, All-head P p pieces h, items-at P pieces, All-tail P p pieces h)
 
 -- the text that is read of a piece of a web
 

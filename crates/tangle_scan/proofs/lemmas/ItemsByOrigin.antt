@@ -60,12 +60,10 @@ module _ (texts : List (List ℕ)) where
 
   word-is : (xs : List Item) → is_turn_word (first_word texts xs) ≡ is_whole (after_sign xs)
   word-is [] = refl
-  word-is (item.Blank ∷ xs) = word-is xs
   word-is (x ∷ xs) = grind (arith, word-is xs)
 
   pub turn-is : (xs : List Item) → is_turn texts xs ≡ is_whole (turn_of xs)
   turn-is [] = refl
-  turn-is (item.Blank ∷ xs) = turn-is xs
   turn-is (x ∷ xs) = grind (arith, turn-is xs, word-is xs)
 
 module _ (lines : List SourceLine) where
@@ -136,12 +134,6 @@ module _ (lines : List SourceLine) where
   made-item : (e : Token) (left before : Option Token) (line : List Item) (at : Turn)
       (counted : Origin) (rest : List Token) → is_front_gap e ≡ false → turn_of texts line ≡ at → IsMade e rest
       → made left line counted (e ∷ rest) ≡ items_by_origin lines before at counted (e ∷ rest)
-  made-item token.White left before line at counted rest solid turns next = cc
-  made-item (token.LineEnd number) left before line at counted rest solid turns next = cc
-  made-item (token.Span span_kind.Word s) left before line at counted rest solid turns next =
-      ap (λ t. item.Word s ∷ t) (made-one (token.Span span_kind.Word s) (item.Word s) line at counted rest refl turns next)
-  made-item (token.Span span_kind.Sign s) left before line at counted rest solid turns next =
-      ap (λ t. item.Sign s ∷ t) (made-one (token.Span span_kind.Sign s) (item.Sign s) line at counted rest refl turns next)
   made-item e left before line at counted rest solid turns next = search (rules, made-one)
 
   -- an item, with a blank before it or not
@@ -150,8 +142,7 @@ module _ (lines : List SourceLine) where
       let tokens : List Token = (if blank then token.White ∷ [] else []) ++ e ∷ rest in
       made left line counted tokens ≡ items_by_origin lines before at counted tokens
   made-blank true e left before line at counted rest solid turns next = search (rules, made-item, turn-snoc)
-  made-blank false e left before line at counted rest solid turns next =
-      made-item e left before line at counted rest solid turns next
+  made-blank false e left before line at counted rest solid turns next = search (rules, made-item)
 
   -- Rule 3 leaves no white space before a line end, so the token
   -- directly before a line end is the last one on the line.
@@ -183,5 +174,4 @@ module _ (lines : List SourceLine) where
   pub part_items-by_origin : (line : ℕ) (es : List Token)
       → part_items lines line es
       ≡ items_by_origin lines None turn.NoItem (origin_at lines line) (blanks texts None false (part_tokens texts es))
-  part_items-by_origin line es =
-      made-blanks None None [] turn.NoItem false (origin_at lines line) (part_tokens texts es) refl refl
+  part_items-by_origin line es = search (rules, made-blanks)

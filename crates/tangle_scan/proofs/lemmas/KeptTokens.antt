@@ -2,7 +2,7 @@
 use Rattle.std.proofs.Common.{rules}
 use Rattle.std.proofs.lemmas.Bool.Decides.{nat_tests}
 use Rattle.std.proofs.Common.{arith}
-use Rattle.std.proofs.Common.{◌≡◌, ℕ, Bool, true, false, ◌&&◌, not, if◌then◌else◌, Option, Some, None, is_some}
+use Rattle.std.proofs.Common.{◌≡◌, ℕ, Bool, true, false, ◌&&◌, not, if◌then◌else◌, Option, Some, None}
 use Rattle.std.proofs.Common.{List, [], ◌∷◌, ◌++◌, map, flat_map, refl, ap, ◌∙◌}
 use Rattle.std.proofs.lemmas.Grind.{flat_map-append}
 use Rattle.tangle_lexer.specs.declared.tokens.Token.{Token}
@@ -26,13 +26,11 @@ white-kept x es = grind arith
 
 without_faults-kept : (es : List Token) → kept (without_faults es) ≡ kept es
 without_faults-kept [] = refl
-without_faults-kept (token.Fault kind line ∷ es) = without_faults-kept es
-without_faults-kept (e ∷ es) = ap (λ ts. keep e ++ ts) (without_faults-kept es)
+without_faults-kept (e ∷ es) = search (rules, without_faults-kept es)
 
 inner-kept : (es : List Token) → kept (map white_inner_end es) ≡ kept es
 inner-kept [] = refl
-inner-kept (token.InnerLineEnd line ∷ es) = inner-kept es
-inner-kept (e ∷ es) = ap (λ ts. keep e ++ ts) (inner-kept es)
+inner-kept (e ∷ es) = search (rules, inner-kept es)
 
 clean-kept : (es : List Token) → kept (clean_tokens es) ≡ kept es
 clean-kept es = inner-kept (without_faults es) ∙ without_faults-kept es
@@ -45,7 +43,6 @@ with_spaces-kept texts (e ∷ f ∷ es) =
 
 with_name_space-kept : (texts : List (List ℕ)) (es : List Token) → kept (with_name_space texts es) ≡ kept es
 with_name_space-kept texts [] = refl
-with_name_space-kept texts (token.White ∷ es) = with_name_space-kept texts es
 with_name_space-kept texts (e ∷ es) = grind (arith, with_name_space-kept texts es)
 
 left-kept : (run : List Token) → kept run ≡ [] → kept (left_of_run run) ≡ []
@@ -62,9 +59,7 @@ blanks-kept : (texts : List (List ℕ)) (before : Option Token) (white : Bool) (
 blanks-kept texts before white [] = grind arith
 blanks-kept texts before white (token.White ∷ es) = blanks-kept texts before true es
 blanks-kept texts before white (token.LineEnd line ∷ es) = blanks-kept texts (at_line_front texts before line) false es
-blanks-kept texts before white (e ∷ es) =
-    white-kept (is_some before && white) (e ∷ blanks texts (Some e) false es)
-    ∙ ap (λ ts. keep e ++ ts) (blanks-kept texts (Some e) false es)
+blanks-kept texts before white (e ∷ es) = search (rules, white-kept, blanks-kept texts (Some e) false es)
 
 pub macro_blanks-kept : (texts : List (List ℕ)) (in_name : Bool) (before : Option Token) (white : Bool) (es : List Token)
     → kept (macro_blanks texts in_name before white es) ≡ kept es
@@ -77,7 +72,6 @@ macro_blanks-kept texts in_name before white (e ∷ es) =
 
 without_front-kept : (es : List Token) → kept (without_front_gaps es) ≡ kept es
 without_front-kept [] = refl
-without_front-kept (token.White ∷ es) = without_front-kept es
 without_front-kept (e ∷ es) = search (rules, without_front-kept es)
 
 -- the tokens of a C part after rules 1 to 3

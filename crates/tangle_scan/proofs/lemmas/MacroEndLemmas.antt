@@ -35,8 +35,8 @@ module _ (texts : List (List ℕ)) where
   part-bytes [] = refl
   part-bytes (p ∷ ps) = grind (arith, part-bytes ps)
 
-  pub run-bytes : (s : Span) → flat_map (macro_item_bytes texts) (written_items texts (token.Run s)) ≡ span_text texts s
-  run-bytes s = part-bytes (run_parts texts s) ∙ (run_read texts s).0
+  pub run_bytes : (s : Span) → flat_map (macro_item_bytes texts) (written_items texts (token.Run s)) ≡ span_text texts s
+  run_bytes s = part-bytes (run_parts texts s) ∙ (run_read texts s).0
 
   -- the last items are dropped, or the last one is written
 

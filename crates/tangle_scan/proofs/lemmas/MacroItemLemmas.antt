@@ -97,7 +97,6 @@ gap-ends_line (_ ∷ gap) es h none = cc
 
 item-ends_line : (texts : List (List ℕ)) (es : List Token) → ends_line (joined_from texts false (from_item es)) ≡ false
 item-ends_line texts [] = refl
-item-ends_line texts (token.White ∷ es) = item-ends_line texts es
 item-ends_line texts (e ∷ es) = search (rules, item-ahead, item-ends_line texts es)
 
 drops : (texts : List (List ℕ)) (e : Token) (gap es : List Token) → list_all is_front_gap gap ≡ true
@@ -144,5 +143,4 @@ ahead-end texts at first es none is = grind (arith, nat_tests, end-items)
 
 pub first-solid : (es : List Token) → list_all is_solid (take 1 (from_item es)) ≡ true
 first-solid [] = refl
-first-solid (token.White ∷ es) = first-solid es
 first-solid (e ∷ es) = search (rules, first-solid es)

@@ -1,4 +1,5 @@
 -- The runs of a macro: the rules read the tokens that they stand for.
+use Rattle.std.proofs.Common.{rules}
 use Rattle.std.proofs.lemmas.Bool.Decides.{nat_tests}
 use Rattle.std.proofs.Common.{◌≡◌, ◌==◌, ℕ, ◌∙◌, Bool, true, false, take, ◌&&◌, ◌||◌, not, List, [], ◌∷◌, ◌++◌, map, replicate, refl, arith, sym, ◌⊎◌, inl, inr}
 use Rattle.std.proofs.Common.{Some, suc, append_assoc, option_to_list, if◌then◌else◌}
@@ -119,10 +120,7 @@ module _ (texts : List (List ℕ)) where
         line_ends = line_ends gap;
       }
   left-unfolded first e es run runs none =
-      let same = gap-unfolded es runs in
-      let next = next-spaced first e (from_item es) (first-solid es) run (from-runs es runs) in
-      rw (spaced-here first (last_token texts e) (unfolded texts es), same.0, same.1, empty-gap es none, next)
-      (gap-spaced _ (gap_before es) none)
+      search (rules, gap-unfolded, next-spaced, first-solid, from-runs, spaced-here, empty-gap, gap-spaced)
 
   pub from-alone : (es : List Token) → first_is_alone es ≡ true → first_is_alone (from_item es) ≡ true
   from-alone [] h = refl
@@ -142,8 +140,6 @@ module _ (texts : List (List ℕ)) where
       → is_dropped texts (part_token p) (gap_after (part_token p) (map part_token ps ++ es)) ≡ false
   part-kept p word [] es apart ends = grind (arith, nat_tests)
   part-kept p word (part.Space ∷ []) es apart ends = cc
-  part-kept p word (part.Space ∷ part.Space ∷ ps) es apart ends = cc
-  part-kept p word (part.Space ∷ q ∷ ps) es apart ends = grind (arith, nat_tests)
   part-kept p word (q ∷ ps) es apart ends = grind (arith, nat_tests)
 
   parts-ahead : (e : Token) (in_name word : Bool) (ps : List RunPart) (es : List Token) → is_constant e ≡ false
@@ -151,19 +147,12 @@ module _ (texts : List (List ℕ)) where
       → items_ahead texts (after e in_name (map part_token ps ++ es)) (from_item (map part_token ps ++ es))
       ≡ map part_item ps ++ items_ahead texts (after (last_of e ps) (in_name && are_words ps) es) (from_item es)
   parts-ahead e in_name word [] es plain apart ends = grind (arith, nat_tests)
-  parts-ahead e in_name word (part.Space ∷ []) es plain apart ends = cc
   parts-ahead e in_name word (part.Space ∷ part.Space ∷ ps) es plain apart ends = cc
   parts-ahead e in_name word (part.Space ∷ p ∷ ps) es plain apart ends =
-      grind (arith, nat_tests, ahead-item, part-kept p, parts-ahead (part_token p) false true ps es, parts-ahead (part_token p) false false ps es)
+      grind (arith, nat_tests, ahead-item, part-kept p, λ (w : Bool). parts-ahead (part_token p) false w ps es)
   parts-ahead e in_name word (p ∷ ps) es plain apart ends =
-      grind (
-        arith,
-        nat_tests,
-        ahead-item,
-        part-kept p,
-        parts-ahead (part_token p) (in_name && is_name_part (part_token p)) true ps es,
-        parts-ahead (part_token p) (in_name && is_name_part (part_token p)) false ps es,
-      )
+      let more = λ (w : Bool). parts-ahead (part_token p) (in_name && is_name_part (part_token p)) w ps es in
+      grind (arith, nat_tests, ahead-item, part-kept p, more)
 
   pub ahead-run : (at : MacroState) (s : Span) (es : List Token) → IsRunOf texts s → at.is_first ≡ false →
       let parts : List RunPart = run_parts texts s in

@@ -1,6 +1,7 @@
 -- The text of a C part, made token by token.
 use Rattle.std.proofs.Common.{rules}
-use Rattle.std.proofs.Common.{◌≡◌, ◌∙◌, ℕ, Bool, true, false, List, [], ◌∷◌, ◌++◌, refl, ap, sym, subst, arith, append-nil, if◌then◌else◌}
+use Rattle.std.proofs.Common.{◌≡◌, ◌∙◌, ℕ, Bool, true, false, List, [], ◌∷◌, ◌++◌, refl, ap, sym, subst, arith, append-nil}
+use Rattle.tangle_faults.specs.declared.faults.FaultKind.{FaultKind}
 use Rattle.tangle_lexer.specs.declared.tokens.Token.{Token}
 use Rattle.tangle_lexer.specs.declared.tokens.Token.TheVariants as token
 use Rattle.tangle_lexer.specs.Runs.{is_run, unfolded_token, IsRunOf}
@@ -13,30 +14,23 @@ use Rattle.tangle_scan.specs.declared.parts.Last.TheVariants as last
 use Rattle.tangle_scan.specs.declared.parts.PartState.{PartState}
 use Rattle.tangle_scan.specs.declared.turns.Turn.TheVariants as turn
 use Rattle.tangle_scan.specs.LineTruth.{counted_after_line_end}
-use Rattle.tangle_scan.specs.Passes.{IsMade, IsPassed, HasSize, before_gap, blank_before, blank_if, continues, counted_after_token}
-use Rattle.tangle_scan.specs.Passes.{counted_at_gap, cut_to, ends_open, is_after_line_end, is_whole, items_at, line_item}
-use Rattle.tangle_scan.specs.Passes.{last_after_line_end, origin_of, size_of, start_of_gap, turn_after, turn_after_run, turn_at_gap}
+use Rattle.tangle_scan.specs.Passes.{IsMade, IsPassed, before_gap, blank_before, blank_if, continues, counted_after_token}
+use Rattle.tangle_scan.specs.Passes.{counted_at_gap, ends_open, is_after_line_end, is_whole, items_at, line_item}
+use Rattle.tangle_scan.specs.Passes.{origin_of, size_of, turn_after, turn_after_run, turn_at_gap}
 use Rattle.tangle_scan.specs.Rules.{part_items, texts_of}
 use Rattle.tangle_scan.specs.Texts.{TextRead, IsTextOf, item_uses, no_text, with_items, with_run}
 use Rattle.tangle_scan.proofs.lemmas.ItemsByOrigin.{by-line_item}
 use Rattle.tangle_scan.proofs.lemmas.PartLemmas.{after_end, passed-begin, passed-end, passed-item, passed-join}
-use Rattle.tangle_scan.proofs.lemmas.PartLemmas.{passed-run, passed-whole}
+use Rattle.tangle_scan.proofs.lemmas.PartLemmas.{passed-run, passed-whole, passed-fault, passed-white, passed-inner_end, passed-joined-end}
 use Rattle.tangle_scan.proofs.lemmas.RuleLemmas.{is_solid}
 use Rattle.tangle_scan.proofs.lemmas.TextLemmas.{cut-back, cut-more, no-items, size-more, size-own, text-items, text-run}
 
 module _ (lines : List SourceLine) (whole : List Item) (text : TextRead) (at : PartState) (es : List Token) where
   -- where the text stays as it is, and the gap begins where it began
-  pub made-same : (next : PartState) (more : List Token) → next.last ≡ at.last → next.start ≡ at.start
+  made-same : (next : PartState) (more : List Token) → next.last ≡ at.last → next.start ≡ at.start
       → ((items kept : List Item) → IsPassed lines whole items kept at es → IsPassed lines whole items kept next more)
       → IsMade lines whole text at es → IsMade lines whole text next more
-  made-same next more same start passed h = record {
-    items = h.items;
-    kept = h.kept;
-    passed = passed h.items h.kept h.passed;
-    all_text = h.all_text;
-    kept_text = rw (same, start) h.kept_text;
-    start = rw (same, start) h.start;
-  }
+  made-same next more same start passed h = search rules
 
   -- where no gap with a line end is open
   settled : (items : List Item) → is_after_line_end at.last ≡ false → IsPassed lines whole items items at es
@@ -47,11 +41,25 @@ module _ (lines : List SourceLine) (whole : List Item) (text : TextRead) (at : P
   abbrev texts : List (List ℕ)
   texts = texts_of lines
 
+  pub made-fault : (kind : FaultKind) (line : ℕ) → IsMade lines whole text at (token.Fault kind line ∷ es)
+      → IsMade lines whole text at es
+  made-fault kind line h = search (rules, made-same, passed-fault)
+
+  pub made-white : IsMade lines whole text at (token.White ∷ es) → IsMade lines whole text (record at { has_white = true }) es
+  made-white h = search (rules, made-same, passed-white)
+
+  pub made-inner_end : (line : ℕ) → IsMade lines whole text at (token.InnerLineEnd line ∷ es)
+      → IsMade lines whole text (record at { has_white = true }) es
+  made-inner_end line h = search (rules, made-same, passed-inner_end)
+
+  pub made-joined-end : (line : ℕ) → at.last ≡ last.Joined → IsMade lines whole text at (token.LineEnd line ∷ es)
+      → IsMade lines whole text at es
+  made-joined-end line is h = search (rules, made-same, passed-joined-end)
+
   pub made-join : IsMade lines whole text at (token.Join ∷ es)
       → IsMade lines whole (before_gap text at)
       (record at { last = last.Joined; turn = turn_at_gap at; counted = counted_at_gap at }) es
-  made-join h =
-      settled lines whole _ _ es h.kept refl (passed-join lines whole h.items h.kept at es h.passed) h.kept_text
+  made-join h = search (rules, settled, passed-join)
 
   pub made-end : (line : ℕ) (counted : CountedOrigin) → (at.last ≡ last.Joined → ⊥) →
       let continued : Bool = continues texts at in
@@ -68,39 +76,20 @@ module _ (lines : List SourceLine) (whole : List Item) (text : TextRead) (at : P
       record {
         items = h.items ++ made ∷ [];
         kept = h.kept;
-        passed = passed-end lines whole h.items h.kept at line text counted es other is h.passed;
-        all_text = text-items texts h.items (made ∷ []) text h.all_text;
-        kept_text = subst (IsTextOf texts h.kept)
-            (sym (ended continued (cut_to (start_of_gap text at).size (with_items texts text (made ∷ []))) (with_items texts text (made ∷ []))
-            ∙ back made none (is_after_line_end at.last) refl h.start)) h.kept_text;
-        start = λ _. inside made (is_after_line_end at.last) refl h.start;
+        passed = search (rules, passed-end);
+        all_text = search (rules, text-items);
+        kept_text = grind (arith, h.kept_text, cut-more texts at.start.size text made, cut-back texts text made, h.start, none);
+        start = λ _. grind (arith, h.start, size-more texts at.start.size text (made ∷ []), size-own texts text (made ∷ []));
       }
-    where
-      ended : (continued : Bool) (cut all : TextRead)
-          → (if is_after_line_end (last_after_line_end continued) then cut else all) ≡ cut
-      ended x cut all = grind arith
 
-      back : (x : Item) → item_uses x ≡ [] → (b : Bool) → is_after_line_end at.last ≡ b
-          → (is_after_line_end at.last ≡ true → HasSize at.start.size text)
-          → cut_to (start_of_gap text at).size (with_items texts text (x ∷ [])) ≡ before_gap text at
-      back x none true after start = rw after (cut-more texts at.start.size text x (start after) none)
-      back x none false after start = rw after (cut-back texts text x none)
-
-      inside : (x : Item) (b : Bool) → is_after_line_end at.last ≡ b
-          → (is_after_line_end at.last ≡ true → HasSize at.start.size text)
-          → HasSize (start_of_gap text at).size (with_items texts text (x ∷ []))
-      inside x true after start = rw after (size-more texts at.start.size text (x ∷ []) (start after))
-      inside x false after start = rw after (size-own texts text (x ∷ []))
-
-  pub made-item : (e : Token) (next : PartState) → is_solid e ≡ true → is_run e ≡ false
-      → next.last ≡ last.Item → next.has_white ≡ false → next.item ≡ e → next.turn ≡ turn_after texts at.turn e
-      → origin_of next.counted ≡ counted_after_token lines (origin_of at.counted) e
+  pub made-item : (e : Token) (counted : CountedOrigin) → is_solid e ≡ true → is_run e ≡ false
+      → origin_of counted ≡ counted_after_token lines (origin_of at.counted) e
       → IsMade lines whole text at (e ∷ es)
       → IsMade lines whole
-      (with_items texts (with_items texts text (blank_if (blank_before lines at e))) (items_at lines e)) next es
-  made-item e next solid run item white same turns is h =
-      settled lines whole _ next es _ (rw item refl)
-      (passed-item lines whole h.items h.kept at next e es solid run item white same turns is h.passed)
+      (with_items texts (with_items texts text (blank_if (blank_before lines at e))) (items_at lines e))
+      (record at { last = last.Item; has_white = false; item = e; turn = turn_after texts at.turn e; counted = counted }) es
+  made-item e counted solid run is h =
+      settled lines whole _ _ es _ refl (passed-item lines whole h.items h.kept at counted e es solid run is h.passed)
       (text-items texts _ (items_at lines e) _ (text-items texts h.items (blank_if (blank_before lines at e)) text h.all_text))
 
   pub made-run : (s : Span) → IsRunOf texts s → IsMade lines whole text at (unfolded_token texts (token.Run s) ++ es)

@@ -1,8 +1,8 @@
 -- What one pass over the tokens of a C part read, and what is left.
 use Rattle.std.proofs.lemmas.Bool.Decides.{nat_tests}
 use Rattle.std.proofs.Common.{rules, subst}
-use Rattle.std.proofs.Common.{◌≡◌, ℕ, Bool, true, false, ◌&&◌, ◌||◌, if◌then◌else◌, refl, ap, Option, None, Some}
-use Rattle.std.proofs.Common.{is_some, List, [], ◌∷◌, ◌++◌, sym, ◌∙◌, append_assoc, append-nil, map, arith}
+use Rattle.std.proofs.Common.{◌≡◌, ℕ, Bool, true, false, ◌&&◌, ◌||◌, if◌then◌else◌, refl, Option, None, Some}
+use Rattle.std.proofs.Common.{is_some, List, [], ◌∷◌, ◌++◌, ◌∙◌, append_assoc, append-nil, map, arith}
 use Rattle.std.proofs.Math.Bool.{and-false, or-false, or-true}
 use Rattle.tangle_lexer.specs.declared.tokens.Token.{Token}
 use Rattle.tangle_lexer.specs.declared.tokens.Token.TheVariants as token
@@ -50,73 +50,14 @@ spaced-gap : (texts : List (List ℕ)) (gap : List Token) (prev e : Token) (es :
     → without_joins gap (spaced_after texts prev (e ∷ es)) ≡ without_joins (gap ++ e ∷ []) (spaced_after texts e es)
 spaced-gap texts gap prev x es h same = grind arith
 
--- faults are left out
-pub passed-fault : (lines : List SourceLine) (whole items kept : List Item) (at : PartState)
-    (kind : FaultKind) (line : ℕ) (es : List Token)
-    → IsPassed lines whole items kept at (token.Fault kind line ∷ es) → IsPassed lines whole items kept at es
-passed-fault lines whole items kept at kind line es h = record { read = h.read; left = h.left }
-
--- white space
-
 blanks-at-front : (texts : List (List ℕ)) (b : Option Token) (es : List Token)
     → is_some b ≡ false → blanks texts b true es ≡ blanks texts b false es
 blanks-at-front texts None (token.White ∷ es) h = refl
 blanks-at-front texts None es h = refl
 blanks-at-front texts (Some x) es h = cc
 
-pub passed-white : (lines : List SourceLine) (whole items kept : List Item) (at : PartState) (es : List Token)
-    → IsPassed lines whole items kept at (token.White ∷ es)
-    → IsPassed lines whole items kept (record at { has_white = true }) es
-passed-white lines whole items kept at es h = record {
-  read = record {
-    gap = h.read.gap ++ token.White ∷ [];
-    front = h.read.front;
-    before = h.read.before;
-    prev = token.White;
-    joined = has_join-push h.read.gap token.White ∙ (or-false (has_join h.read.gap) ∙ h.read.joined);
-    made = (search (rules, has_join-push, append_assoc, blanks-at-front));
-    keeps = h.read.keeps;
-    continued = h.read.continued;
-    front_open = h.read.front_open;
-    before_open = h.read.before_open;
-    merges = λ e _. sym (ap (λ b. b && would_merge_in_run (texts_of lines) at.item e) (and-false (is_item at.last)));
-  };
-  left = search rules;
-}
-
--- a line end of a directive is white space
-pub passed-inner_end : (lines : List SourceLine) (whole items kept : List Item) (at : PartState)
-    (line : ℕ) (es : List Token) → IsPassed lines whole items kept at (token.InnerLineEnd line ∷ es)
-    → IsPassed lines whole items kept (record at { has_white = true }) es
-passed-inner_end lines whole items kept at line es h = search (rules, passed-white)
-
--- a line end
-
 end-joined : (gap : List Token) (line : ℕ) → has_join (gap ++ token.LineEnd line ∷ []) ≡ has_join gap
 end-joined gap line = has_join-push gap (token.LineEnd line) ∙ or-false (has_join gap)
-
--- after a join it is left out
-pub passed-joined-end : (lines : List SourceLine) (whole items kept : List Item) (at : PartState)
-    (line : ℕ) (es : List Token) → at.last ≡ last.Joined
-    → IsPassed lines whole items kept at (token.LineEnd line ∷ es) → IsPassed lines whole items kept at es
-passed-joined-end lines whole items kept at line es is h =
-    let joined = h.read.joined ∙ ap is_joined is in
-    record {
-      read = record {
-        gap = h.read.gap ++ token.LineEnd line ∷ [];
-        front = h.read.front;
-        before = h.read.before;
-        prev = token.LineEnd line;
-        joined = end-joined h.read.gap line ∙ h.read.joined;
-        made = rw (end-joined h.read.gap line, joined) (rw joined at h.read.made);
-        keeps = h.read.keeps;
-        continued = h.read.continued;
-        front_open = h.read.front_open;
-        before_open = h.read.before_open;
-        merges = λ e _. rw is refl;
-      };
-      left = search rules;
-    }
 
 -- the state after a line end
 abbrev pub after_end : List SourceLine → Bool → ℕ → TextRead → CountedOrigin → PartState → PartState
@@ -133,100 +74,6 @@ gap-goes_on : (lines : List SourceLine) (kept : List Item) (at : PartState) (con
     (text : TextRead) (counted : CountedOrigin) (front : Option Token) (es : List Token)
     → from_gap lines kept (after_end lines continued line text counted at) front es ≡ from_gap lines kept at front es
 gap-goes_on lines kept at x line text counted front es = grind arith
-
--- the items so far with one more, and the state, after a line end
-pub passed-end : (lines : List SourceLine) (whole items kept : List Item) (at : PartState)
-    (line : ℕ) (text : TextRead) (counted : CountedOrigin) (es : List Token) → (at.last ≡ last.Joined → ⊥) →
-    let continued : Bool = continues (texts_of lines) at in
-    origin_of counted ≡ counted_after_line_end lines continued (origin_of at.counted) line
-    → IsPassed lines whole items kept at (token.LineEnd line ∷ es)
-    → IsPassed lines whole (items ++ line_item lines continued (is_whole at.turn) (origin_of at.counted) line ∷ []) kept
-    (after_end lines continued line text counted at) es
-passed-end lines whole items kept at line text counted es other is h = record {
-  read = record {
-    gap = gap ++ token.LineEnd line ∷ [];
-    front = h.read.front;
-    before = at_line_front texts before line;
-    prev = token.LineEnd line;
-    joined = end-joined gap line ∙ (none ∙ sym (grind arith));
-    made = λ xs.
-        gap-goes_on lines kept at continued line text counted h.read.front (left_of_run (gap ++ token.LineEnd line ∷ []) ++ xs)
-        ∙ (ap (from_gap lines kept at h.read.front) (opened xs)
-        ∙ (h.read.made (token.LineEnd line ∷ xs) ∙ ended xs));
-    keeps = λ _. rw is_continued_by (grind arith);
-    continued = λ _. grind arith;
-    front_open = h.read.front_open;
-    before_open = rw is_continued_by (grind arith);
-    merges = search rules;
-  };
-  left = h.left ∙ (ap (from_gap lines kept at h.read.front) (spaced-gap texts gap h.read.prev (token.LineEnd line) es refl refl)
-      ∙ sym (gap-goes_on lines kept at continued line text counted h.read.front
-      (without_joins (gap ++ token.LineEnd line ∷ []) (spaced_after texts (token.LineEnd line) es))));
-}
-  where
-    texts : List (List ℕ)
-    texts = texts_of lines
-
-    gap : List Token
-    gap = h.read.gap
-
-    before : Option Token
-    before = h.read.before
-
-    continued : Bool
-    continued = continues texts at
-
-    none : has_join gap ≡ false
-    none = search rules
-
-    is_continued_by : is_continued texts before ≡ continued
-    is_continued_by = search rules
-
-    opened : (xs : List Token)
-        → left_of_run (gap ++ token.LineEnd line ∷ []) ++ xs ≡ left_of_run gap ++ token.LineEnd line ∷ xs
-    opened xs = rw (end-joined gap line, none) (append_assoc gap (token.LineEnd line ∷ []) xs)
-
-    end_by : Bool → List Token → List Item
-    end_by b xs =
-        line_item lines b (is_whole at.turn) (origin_of at.counted) line
-        ∷ items_by_origin lines (at_line_front texts before line) (turn_after_line_end lines b line at.turn)
-        (counted_after_line_end lines b (origin_of at.counted) line) (blanks texts (at_line_front texts before line) false xs)
-
-    ended : (xs : List Token) → items ++ end_by (is_continued texts before) xs
-        ≡ (items ++ line_item lines continued (is_whole at.turn) (origin_of at.counted) line ∷ [])
-        ++ items_after lines (at_line_front texts before line) (turn_after_line_end lines continued line at.turn)
-        (origin_of counted) (keeps_white (last_after_line_end continued) && false) xs
-    ended xs =
-        ap (λ b. items ++ end_by b xs) is_continued_by
-        ∙ rw (is, and-false (keeps_white (last_after_line_end continued)))
-        (sym (append_assoc items (line_item lines continued (is_whole at.turn) (origin_of at.counted) line ∷ []) _))
-
--- a join
-
-pub passed-join : (lines : List SourceLine) (whole items kept : List Item) (at : PartState) (es : List Token)
-    → IsPassed lines whole items kept at (token.Join ∷ es)
-    → IsPassed lines whole kept kept
-    (record at { last = last.Joined; turn = turn_at_gap at; counted = counted_at_gap at }) es
-passed-join lines whole items kept at es h =
-    let joined = has_join-push h.read.gap token.Join ∙ or-true (has_join h.read.gap) in
-    record {
-      read = record {
-        gap = h.read.gap ++ token.Join ∷ [];
-        front = h.read.front;
-        before = h.read.front;
-        prev = token.Join;
-        joined = joined;
-        made = λ xs. rw joined refl;
-        keeps = λ never. cc;
-        continued = λ never. cc;
-        front_open = h.read.front_open;
-        before_open = h.read.front_open;
-        merges = λ e _. refl;
-      };
-      left = h.left ∙ ap (from_gap lines kept at h.read.front) (spaced-gap (texts_of lines) h.read.gap h.read.prev token.Join es refl refl);
-    }
-
--- an item
 
 -- the items of the tokens after an item
 abbrev ahead : List SourceLine → Token → Turn → Origin → List Token → List Item
@@ -260,63 +107,8 @@ item-made : (lines : List SourceLine) (before : Option Token) (at : Turn) (count
 item-made lines before at counted true x es solid = grind arith
 item-made lines before at counted false x es solid = grind arith
 
-touches-item : (at : PartState) (m : Bool) → (is_touching at && m) ≡ true → is_item at.last ≡ true
-touches-item at x h = grind arith
-
-item-joined : (at : PartState) (m : Bool) → (is_touching at && m) ≡ true → is_joined at.last ≡ false
-item-joined at x h = grind arith
-
-item-ahead : (lines : List SourceLine) (whole items kept : List Item) (at : PartState) (e : Token)
-    (es : List Token) → is_solid e ≡ true → is_run e ≡ false → IsPassed lines whole items kept at (e ∷ es)
-    → whole ≡ items
-    ++ (blank_if (blank_before lines at e)
-    ++ (items_at lines e
-    ++ ahead lines e (turn_after (texts_of lines) at.turn e) (counted_after_token lines (origin_of at.counted) e) es))
-item-ahead lines whole items kept at e es solid run h =
-    search (rules, item-spaced, item-joined, item-blanks, solid-front, touches-item, item-made)
-
--- after an item or a run, with which the items end
-item-passed : (lines : List SourceLine) (whole new : List Item) (next : PartState)
-    (e : Token) (es : List Token) → next.last ≡ last.Item → next.has_white ≡ false
-    → is_end e ≡ false → ends_in_backslash (texts_of lines) e ≡ ends_in_backslash (texts_of lines) next.item
-    → ends_in slash (texts_of lines) e ≡ run_ends_in slash (texts_of lines) next.item
-    → ((f : Token) → is_run f ≡ false → would_merge (texts_of lines) e f ≡ would_merge_in_run (texts_of lines) next.item f)
-    → whole ≡ new ++ ahead lines e next.turn (origin_of next.counted) es
-    → IsPassed lines whole new new next es
-item-passed lines whole new next e es item white solid continued ends merges left =
-    let is = (grind arith) ∙ ends in
-    record {
-      read = record {
-        gap = [];
-        front = Some e;
-        before = Some e;
-        prev = e;
-        joined = rw item refl;
-        made = λ xs. rw (item, white) refl;
-        keeps = λ _. rw item refl;
-        continued = λ _. rw item continued;
-        front_open = is;
-        before_open = rw item is;
-        merges = rw (item, white) merges;
-      };
-      left = rw item left;
-    }
-
-pub passed-item : (lines : List SourceLine) (whole items kept : List Item) (at next : PartState)
-    (e : Token) (es : List Token)
-    → is_solid e ≡ true → is_run e ≡ false
-    → next.last ≡ last.Item → next.has_white ≡ false → next.item ≡ e
-    → next.turn ≡ turn_after (texts_of lines) at.turn e
-    → origin_of next.counted ≡ counted_after_token lines (origin_of at.counted) e
-    → IsPassed lines whole items kept at (e ∷ es) →
-    let new : List Item = (items ++ blank_if (blank_before lines at e)) ++ items_at lines e in
-    IsPassed lines whole new new next es
-passed-item lines whole items kept at next e es solid run item white last turns is h =
-    item-passed lines whole _ next e es item white (grind arith) (rw last refl)
-    (rw last (grind arith)) (λ f other. rw last (grind arith))
-    (item-ahead lines whole items kept at e es solid run h ∙ rw (is, turns, append_assoc, append_assoc) refl)
-
--- a run
+touches : (at : PartState) (m : Bool) → (is_touching at && m) ≡ true → (is_item at.last ≡ true) × (is_joined at.last ≡ false)
+touches at x h = grind arith
 
 -- how much of a turn is on the line after the first part of a run, and after the others
 
@@ -335,77 +127,153 @@ parts-ahead : (lines : List SourceLine) (e : Token) (at : Turn) (counted : Origi
     ≡ map part_item ps ++ ahead lines (last_of e ps) at counted es
 parts-ahead lines e at counted after_word [] es settled plain h = refl
 parts-ahead lines e at counted after_word (part.Space ∷ p ∷ ps) es settled plain h =
-    grind (
-      arith,
-      parts-ahead lines (part_token p) at counted false ps es,
-      parts-ahead lines (part_token p) at counted true ps es,
-    )
+    grind (arith, λ (b : Bool). parts-ahead lines (part_token p) at counted b ps es)
 parts-ahead lines e at counted after_word (p ∷ ps) es settled plain h =
-    grind (
-      arith,
-      parts-ahead lines (part_token p) at counted false ps es,
-      parts-ahead lines (part_token p) at counted true ps es,
-    )
+    grind (arith, λ (b : Bool). parts-ahead lines (part_token p) at counted b ps es)
 
--- a part that is no space, before others
-part-ahead : (lines : List SourceLine) (whole items kept : List Item) (at : PartState) (s : Span) (p : RunPart)
-    (ps : List RunPart) (es : List Token) → run_parts (texts_of lines) s ≡ p ∷ ps
-    → is_number_sign (texts_of lines) (part_item p) ≡ false → are_apart true true (p ∷ ps) ≡ true
-    → IsPassed lines whole items kept at (map part_token (p ∷ ps) ++ es)
-    → whole ≡ items
-    ++ (blank_if (blank_before lines at (part_token p))
-    ++ (map part_item (p ∷ ps)
-    ++ ahead lines (last_of (part_token p) ps) (turn_after_run (texts_of lines) at.turn s) (origin_of at.counted) es))
-part-ahead lines whole items kept at s p ps es is number apart h =
-    grind (
-      arith,
-      nat_tests,
-      item-ahead lines whole items kept at,
-      parts-ahead lines,
-      run-settled (texts_of lines) at.turn s,
-    )
+module _ (lines : List SourceLine) (whole items kept : List Item) (at : PartState) where
+  abbrev texts : List (List ℕ)
+  texts = texts_of lines
 
-pub passed-run : (lines : List SourceLine) (whole items kept : List Item) (at : PartState) (s : Span)
-    (es : List Token) → IsRunOf (texts_of lines) s
-    → IsPassed lines whole items kept at (unfolded_token (texts_of lines) (token.Run s) ++ es) →
-    let new : List Item =
-    (items ++ blank_if (blank_before lines at (token.Run s))) ++ map part_item (run_parts (texts_of lines) s) in
-    IsPassed lines whole new new
-    (record at { last = last.Item; has_white = false; item = token.Run s; turn = turn_after_run (texts_of lines) at.turn s }) es
-passed-run lines whole items kept at s es run h =
-    let ends = run-ends (texts_of lines) s run in
-    let passed = subst (λ ps. IsPassed lines whole items kept at (map part_token ps ++ es)) ends.parts h in
-    let last = ends.last in
-    rw ends.parts
-    (item-passed lines whole _ _ (last_of (part_token ends.first) ends.others) es refl refl last.solid
-    (last.joins ∙ run.ends) last.opens (λ f other. grind (arith, nat_tests, last.merges, last.plain))
-    (part-ahead lines whole items kept at s ends.first ends.others es ends.parts ends.number ends.apart passed
-    ∙ rw (ends.merges at.item, append_assoc, append_assoc) refl))
+  -- faults are left out
+  pub passed-fault : (kind : FaultKind) (line : ℕ) (es : List Token)
+      → IsPassed lines whole items kept at (token.Fault kind line ∷ es) → IsPassed lines whole items kept at es
+  passed-fault kind line es h = search rules
 
--- the beginning and the end of a part
+  pub passed-white : (es : List Token) → IsPassed lines whole items kept at (token.White ∷ es)
+      → IsPassed lines whole items kept (record at { has_white = true }) es
+  passed-white es h = record {
+    gap = h.gap ++ token.White ∷ [];
+    front = h.front;
+    before = h.before;
+    prev = token.White;
+    read = search (rules, has_join-push, append_assoc, blanks-at-front, or-false, and-false);
+    left = search rules;
+  }
+
+  -- a line end of a directive is white space
+  pub passed-inner_end : (line : ℕ) (es : List Token) → IsPassed lines whole items kept at (token.InnerLineEnd line ∷ es)
+      → IsPassed lines whole items kept (record at { has_white = true }) es
+  passed-inner_end line es h = search (rules, passed-white)
+
+  -- after a join a line end is left out
+  pub passed-joined-end : (line : ℕ) (es : List Token) → at.last ≡ last.Joined
+      → IsPassed lines whole items kept at (token.LineEnd line ∷ es) → IsPassed lines whole items kept at es
+  passed-joined-end line es is h = record {
+    gap = h.gap ++ token.LineEnd line ∷ [];
+    front = h.front;
+    before = h.before;
+    prev = token.LineEnd line;
+    read = search (rules, end-joined, is);
+    left = search rules;
+  }
+
+  -- the items so far with one more, and the state, after a line end
+  pub passed-end : (line : ℕ) (text : TextRead) (counted : CountedOrigin) (es : List Token) → (at.last ≡ last.Joined → ⊥) →
+      let continued : Bool = continues texts at in
+      origin_of counted ≡ counted_after_line_end lines continued (origin_of at.counted) line
+      → IsPassed lines whole items kept at (token.LineEnd line ∷ es)
+      → IsPassed lines whole (items ++ line_item lines continued (is_whole at.turn) (origin_of at.counted) line ∷ []) kept
+      (after_end lines continued line text counted at) es
+  passed-end line text counted es other is h =
+      let continued : Bool = continues texts at in
+      let none : has_join h.gap ≡ false = search rules in
+      let is_continued_by : is_continued texts h.before ≡ continued = search rules in
+      let goes_on = gap-goes_on lines kept at continued line text counted h.front in
+      record {
+        gap = h.gap ++ token.LineEnd line ∷ [];
+        front = h.front;
+        before = at_line_front texts h.before line;
+        prev = token.LineEnd line;
+        read = record {
+          joined = grind (arith, end-joined);
+          made = λ xs. rw (goes_on (left_of_run (h.gap ++ token.LineEnd line ∷ []) ++ xs), end-joined h.gap line, none)
+              (search (rules, append_assoc, h.read.made (token.LineEnd line ∷ xs), and-false));
+          keeps = λ _. rw is_continued_by (grind arith);
+          continued = λ _. grind arith;
+          front_open = h.read.front_open;
+          before_open = rw is_continued_by (grind arith);
+          merges = search rules;
+        };
+        left = search (rules, spaced-gap, goes_on);
+      }
+
+  pub passed-join : (es : List Token) → IsPassed lines whole items kept at (token.Join ∷ es)
+      → IsPassed lines whole kept kept
+      (record at { last = last.Joined; turn = turn_at_gap at; counted = counted_at_gap at }) es
+  passed-join es h = record {
+    gap = h.gap ++ token.Join ∷ [];
+    front = h.front;
+    before = h.front;
+    prev = token.Join;
+    read = search (rules, has_join-push, or-true);
+    left = search (rules, spaced-gap);
+  }
+
+  item-ahead : (e : Token) (es : List Token) → is_solid e ≡ true → is_run e ≡ false
+      → IsPassed lines whole items kept at (e ∷ es)
+      → whole ≡ items ++ (blank_if (blank_before lines at e) ++ (items_at lines e
+      ++ ahead lines e (turn_after texts at.turn e) (counted_after_token lines (origin_of at.counted) e) es))
+  item-ahead e es solid run h = search (rules, item-spaced, item-blanks, solid-front, touches, item-made)
+
+  -- after an item or a run, with which the items end
+  item-passed : (new : List Item) (next : PartState) (e : Token) (es : List Token)
+      → is_end e ≡ false → ends_in_backslash texts e ≡ ends_in_backslash texts next.item
+      → ends_in slash texts e ≡ run_ends_in slash texts next.item
+      → ((f : Token) → is_run f ≡ false → would_merge texts e f ≡ would_merge_in_run texts next.item f)
+      → whole ≡ new ++ ahead lines e next.turn (origin_of next.counted) es
+      → IsPassed lines whole new new (record next { last = last.Item; has_white = false }) es
+  item-passed new next e es solid continued ends merges left =
+      record { gap = []; front = Some e; before = Some e; prev = e; read = grind (arith, merges); left = left }
+
+  pub passed-item : (counted : CountedOrigin) (e : Token) (es : List Token) → is_solid e ≡ true → is_run e ≡ false
+      → origin_of counted ≡ counted_after_token lines (origin_of at.counted) e
+      → IsPassed lines whole items kept at (e ∷ es) →
+      let new : List Item = (items ++ blank_if (blank_before lines at e)) ++ items_at lines e in
+      IsPassed lines whole new new
+      (record at { last = last.Item; has_white = false; item = e; turn = turn_after texts at.turn e; counted = counted }) es
+  passed-item counted e es solid run is h =
+      item-passed _ (record at { item = e; turn = turn_after texts at.turn e; counted = counted }) e es (grind arith) refl
+      (grind arith) (λ f other. grind arith) (item-ahead e es solid run h ∙ rw (is, append_assoc, append_assoc) refl)
+
+  -- a part that is no space, before others
+  part-ahead : (s : Span) (p : RunPart) (ps : List RunPart) (es : List Token) → run_parts texts s ≡ p ∷ ps
+      → is_number_sign texts (part_item p) ≡ false → are_apart true true (p ∷ ps) ≡ true
+      → IsPassed lines whole items kept at (map part_token (p ∷ ps) ++ es)
+      → whole ≡ items ++ (blank_if (blank_before lines at (part_token p)) ++ (map part_item (p ∷ ps)
+      ++ ahead lines (last_of (part_token p) ps) (turn_after_run texts at.turn s) (origin_of at.counted) es))
+  part-ahead s p ps es is number apart h =
+      grind (arith, nat_tests, item-ahead (part_token p) (map part_token ps ++ es), parts-ahead lines, run-settled texts at.turn s)
+
+  pub passed-run : (s : Span) (es : List Token) → IsRunOf texts s
+      → IsPassed lines whole items kept at (unfolded_token texts (token.Run s) ++ es) →
+      let new : List Item = (items ++ blank_if (blank_before lines at (token.Run s))) ++ map part_item (run_parts texts s) in
+      IsPassed lines whole new new
+      (record at { last = last.Item; has_white = false; item = token.Run s; turn = turn_after_run texts at.turn s }) es
+  passed-run s es run h =
+      let ends = run-ends texts s run in
+      let passed = subst (λ ps. IsPassed lines whole items kept at (map part_token ps ++ es)) ends.parts h in
+      let last = ends.last in
+      rw ends.parts
+      (item-passed _ (record at { item = token.Run s; turn = turn_after_run texts at.turn s })
+      (last_of (part_token ends.first) ends.others) es last.solid
+      (last.joins ∙ run.ends) last.opens (λ f other. grind (arith, nat_tests, last.merges, last.plain))
+      (part-ahead s ends.first ends.others es ends.parts ends.number ends.apart passed
+      ∙ rw (ends.merges at.item, append_assoc, append_assoc) refl))
+
+  pub passed-whole : (es : List Token) → es ≡ [] → IsPassed lines whole items kept at es
+      → items ++ blank_if (ends_open texts at) ≡ whole
+  passed-whole es none h = grind (arith, append-nil (left_of_run h.gap))
 
 pub passed-begin : (lines : List SourceLine) (line : ℕ) (at : PartState) (es : List Token)
     → at.last ≡ last.Front → at.item ≡ token.White → at.turn ≡ turn.NoItem → at.start.turn ≡ turn.NoItem
     → origin_of at.counted ≡ origin_at lines line → origin_of at.start.counted ≡ origin_at lines line
     → IsPassed lines (part_items lines line es) [] [] at es
 passed-begin lines line at es front none turns start_turn is start_is = record {
-  read = record {
-    gap = [];
-    front = None;
-    before = None;
-    prev = token.White;
-    joined = rw front refl;
-    made = λ xs. rw (front, turns, start_turn, is, start_is) refl;
-    keeps = λ _. rw front refl;
-    continued = λ _. rw front refl;
-    front_open = rw none refl;
-    before_open = rw front refl;
-    merges = λ e _. rw front refl;
-  };
+  gap = [];
+  front = None;
+  before = None;
+  prev = token.White;
+  read = grind arith;
   left = rw (front, start_turn, start_is) (search (rules, part_items-by_origin, spaced-inside));
 }
-
-pub passed-whole : (lines : List SourceLine) (whole items kept : List Item) (at : PartState) (es : List Token)
-    → es ≡ [] → IsPassed lines whole items kept at es
-    → items ++ blank_if (ends_open (texts_of lines) at) ≡ whole
-passed-whole lines whole items kept at es none h = grind (arith, append-nil (left_of_run h.read.gap))

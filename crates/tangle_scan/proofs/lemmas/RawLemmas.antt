@@ -41,9 +41,7 @@ uncut files lines (Some w) s h = rw h refl
 
 no_raw_fault : (files : FileTable) (lines : List SourceLine) (word : Option Span) (es : List Token)
     → list_any (may_have_fault (texts_of lines)) es ≡ false → raw_fault files lines word (quoted_ahead es) ≡ []
-no_raw_fault files lines word (token.Fault kind line ∷ es) h = cc
-no_raw_fault files lines word (token.Span span_kind.Quoted s ∷ es) h =
-    uncut files lines word s ((or_parts (follows_r (texts_of lines) s) (list_any (may_have_fault (texts_of lines)) es) h).0)
+no_raw_fault files lines word (token.Span span_kind.Quoted s ∷ es) h = grind (arith, uncut, or_parts)
 no_raw_fault files lines None es h = grind arith
 no_raw_fault files lines (Some w) es h = grind arith
 

@@ -1,6 +1,7 @@
 -- The first and the last part of a run.
+use Rattle.std.proofs.Common.{rules}
 use Rattle.std.proofs.lemmas.Bool.Decides.{nat_tests}
-use Rattle.std.proofs.Common.{◌≡◌, ◌≤◌, ℕ, ◌+◌, ◌-◌, zero, suc, Bool, true, false, ◌==◌, ◌&&◌, ◌||◌, not}
+use Rattle.std.proofs.Common.{◌≡◌, ◌≤◌, ℕ, ◌+◌, ◌-◌, zero, suc, Bool, true, false, ◌==◌, ◌&&◌, not}
 use Rattle.std.proofs.Common.{List, [], ◌∷◌, ◌++◌, length, drop, get_or, refl, ap, sym, arith, length-drop}
 use Rattle.std.specs.List.{prefix_len}
 use Rattle.std.proofs.lemmas.List.{get_or-drop, get_or_append_left, length-take-le, take-append-drop}
@@ -9,14 +10,14 @@ use Rattle.tangle_text.specs.Bytes.{is_word_byte, backslash, slash, left_parenth
 use Rattle.tangle_text.specs.declared.runs.RunPart.{RunPart}
 use Rattle.tangle_text.specs.declared.spans.Span.{Span}
 use Rattle.tangle_text.specs.Runs.{part_more, part_at, parts_of, run_parts, are_apart}
-use Rattle.tangle_text.specs.Runs.{quote_size, one_more}
+use Rattle.tangle_text.specs.Runs.{quote_size}
 use Rattle.tangle_text.specs.Text.{span_text}
 use Rattle.tangle_text.proofs.PartLemmas.{part-fits}
 use Rattle.tangle_lexer.specs.declared.tokens.Token.{Token}
 use Rattle.tangle_lexer.specs.declared.tokens.Token.TheVariants as token
 use Rattle.tangle_lexer.specs.Runs.{is_run, part_token, unfolded_token, IsRunOf}
 use Rattle.tangle_lexer.specs.SpanBytes.{first_byte, last_byte, ends_in}
-use Rattle.tangle_scan.specs.Rules.{may_merge, is_character, is_constant, may_follow_name}
+use Rattle.tangle_scan.specs.Rules.{may_merge, is_constant, may_follow_name}
 use Rattle.tangle_scan.specs.Texts.{part_item}
 use Rattle.tangle_scan.specs.Passes.{is_merging_byte, is_number_sign, last_of, would_merge_in_run}
 use Rattle.tangle_scan.proofs.lemmas.RunTags.{part-by, front_byte, next_bytes}
@@ -38,12 +39,7 @@ prefix-last test b (c ∷ bs) h = grind (arith, nat_tests, prefix-last test c bs
 
 quote-last : (close : ℕ) (escaped : Bool) (bs : List ℕ) → get_or (close ∷ bs) (quote_size close escaped bs) 0 ≡ close
 quote-last close escaped [] = refl
-quote-last close escaped (b ∷ bs) =
-    grind (arith, nat_tests, more _ (quote-last close (b == backslash && not escaped) bs))
-  where
-    more : (n : ℕ) → get_or (close ∷ bs) n 0 ≡ close → get_or (close ∷ b ∷ bs) (one_more n) 0 ≡ close
-    more zero h = refl
-    more (suc n) h = h
+quote-last close escaped (b ∷ bs) = search (rules, nat_tests, quote-last close (b == backslash && not escaped) bs)
 
 abbrev pub is_end : Token → Bool
 is_end (token.LineEnd line) = true
@@ -86,11 +82,7 @@ first-merges : (texts : List (List ℕ)) (s : Span) (size b : ℕ) (ps : List Ru
     let p : RunPart = part_at s.line s.start size b in
     first_byte texts s ≡ b → are_apart true true (p ∷ ps) ≡ true
     → would_merge_in_run texts e (part_token p) ≡ would_merge_in_run texts e (token.Run s)
-first-merges texts s size b ps x is apart =
-    let e : Token = part_token (part_at s.line s.start size b) in
-    let merges : (may_merge texts e || is_character texts e) ≡ is_merging_byte (first_byte texts s)
-    = grind (arith, nat_tests) in
-    grind (arith, merges)
+first-merges texts s size b ps x is apart = search (rules, nat_tests)
 
 -- the first part of a run may follow a macro's name if it is an opening parenthesis
 first-follows : (texts : List (List ℕ)) (s : Span) (size b : ℕ) (ps : List RunPart) →

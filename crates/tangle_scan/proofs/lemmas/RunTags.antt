@@ -50,9 +50,7 @@ pub first_part : (bs : List ℕ) (p : RunPart) → slice_get (parts_of 0 0 0 bs)
     → ((part_tag p).size ≤ length bs) × (run_tags bs ≡ part_tag p ∷ run_tags (drop ((part_tag p).size) bs))
 unfolding run_tags
 first_part [] p is = cc
-first_part (b ∷ bs) p is =
-    let after = tags_from 0 1 (part_more b bs) bs in
-    search (rules, part_size 0 0 b bs, part-fits b bs)
+first_part (b ∷ bs) p is = search (rules, tags_from, part_size, part-fits)
 
 pub no_part : (bs : List ℕ) → slice_get (parts_of 0 0 0 bs) 0 ≡ None → bs ≡ []
 no_part [] is = refl
@@ -84,9 +82,7 @@ module _ (texts : List (List ℕ)) (line column b : ℕ) (bs rest : List ℕ)
       own = rw (size, is) (ap (λ l. b ∷ l) (take-append-le more bs rest (part-fits b bs)))
 
   part_tagged : tag_of texts (part_item p) ≡ part_tag p
-  part_tagged =
-      let long : length (b ∷ take more bs) ≡ suc more = ap suc (length-take-le more bs (part-fits b bs)) in
-      tagged texts p (ap length part_bytes ∙ long ∙ sym (part_size line column b bs))
+  part_tagged = search (rules, length-take-le, part-fits, tagged, part_bytes, part_size)
 
   pub front_byte : get_or (get_or texts line []) column 0 ≡ b
   front_byte = grind (arith, nat_tests, get_or-drop column (get_or texts line []) 0 0)

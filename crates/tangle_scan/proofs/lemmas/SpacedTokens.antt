@@ -8,18 +8,14 @@ use Rattle.std.proofs.lemmas.List.Concat.{flat_map-append}
 use Rattle.tangle_lexer.specs.declared.tokens.Token.{Token}
 use Rattle.tangle_lexer.specs.declared.tokens.Token.TheVariants as token
 use Rattle.tangle_lexer.specs.Runs.{IsRunIn}
-use Rattle.tangle_lexer.specs.Runs.{part_token}
 use Rattle.tangle_lexer.specs.SpanBytes.{first_byte}
 use Rattle.tangle_lexer.specs.declared.tokens.SpanKind.TheVariants as span_kind
 use Rattle.tangle_text.specs.Bytes.{is_digit}
-use Rattle.tangle_text.specs.declared.runs.RunPart.{RunPart}
 use Rattle.tangle_scan.specs.Rules.{is_macro}
-use Rattle.tangle_scan.specs.Texts.{part_item}
 use Rattle.tangle_scan.specs.declared.items.Item.{Item}
 use Rattle.tangle_scan.specs.declared.items.Item.TheVariants as item
 use Rattle.tangle_scan.specs.Passes.{first_token}
 use Rattle.tangle_scan.proofs.lemmas.RestLemmas.{split-at}
-use Rattle.tangle_scan.proofs.lemmas.RunItems.{run-ends}
 use Rattle.tangle_scan.specs.Passes.{blank_if, gap_tokens, spaced_items, written_items}
 
 module _ (texts : List (List ℕ)) where
@@ -34,8 +30,7 @@ module _ (texts : List (List ℕ)) where
   module _ (ts : List Token) where
     pub gap-pushed : (blank : Bool) (n : ℕ) → spaced_items texts (ts ++ gap_tokens blank n)
         ≡ spaced_items texts ts ++ (blank_if blank ++ replicate n item.LineEnd)
-    gap-pushed blank n =
-        flat_map-append (written_items texts) ts (gap_tokens blank n) ∙ ap (λ t. spaced_items texts ts ++ t) (gap-items blank n)
+    gap-pushed blank n = grind (arith, flat_map-append, gap-items)
 
     pub gap-runs : (blank : Bool) (n : ℕ) → All (IsRunIn texts) ts → All (IsRunIn texts) (ts ++ gap_tokens blank n)
     gap-runs true n all =
@@ -59,16 +54,11 @@ module _ (texts : List (List ℕ)) where
   by_first (token.AsciiConstant value line) items = false
   by_first _ items = is_macro texts items
 
-  first-part : (p : RunPart) (items others : List Item) → is_macro texts (part_item p ∷ items) ≡ by_first (part_token p) others
-  first-part x items others = grind arith
-
   first-token : (t : Token) (items : List Item) → IsRunIn texts t
       → is_macro texts (written_items texts t ++ items) ≡ by_first (first_token texts t) items
-  first-token (token.Run s) items run = let ends = run-ends texts s run in rw ends.parts (first-part ends.first _ items)
   first-token x items run = grind arith
 
   pub macro_by_first : (tokens : List Token) (i : ℕ) → i < length tokens → All (IsRunIn texts) tokens
       → is_macro texts (spaced_items texts (drop i tokens))
       ≡ by_first (first_token texts (get_or tokens i token.Section)) (spaced_items texts (drop (i + 1) tokens))
-  macro_by_first tokens i low runs =
-      rw (← split-at tokens i low) (first-token (get_or tokens i token.Section) _ (runs i token.Section low))
+  macro_by_first tokens i low runs = grind (arith, split-at, first-token)

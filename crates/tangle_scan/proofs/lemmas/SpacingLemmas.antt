@@ -96,7 +96,6 @@ item-ahead texts first e es h = grind (arith, nat_tests, item-spaced, left-ahead
 
 front-gap : (es : List Token) → has_join (gap_before es) ≡ false → list_all is_front_gap (gap_before es) ≡ true
 front-gap [] h = refl
-front-gap (token.Join ∷ es) h = cc
 front-gap (e ∷ es) h = search (rules, front-gap es)
 
 pub left-front_gap : (texts : List (List ℕ)) (first : Bool) (before : Token) (es : List Token)

@@ -79,7 +79,6 @@ ahead-unfolded lines [] runs = refl
 ahead-unfolded lines (token.Run s ∷ ts) runs =
     ahead-parts (run_parts (texts_of lines) s) _ (runs 0 (token.Run s) (omega arith)).apart
 ahead-unfolded lines (token.Fault kind line ∷ ts) runs = ahead-unfolded lines ts (λ k d low. runs (suc k) d (omega arith))
-ahead-unfolded lines (token.Span span_kind.Quoted s ∷ ts) runs = refl
 ahead-unfolded lines (t ∷ ts) runs = grind arith
 
 -- `before` is the last token before these
@@ -101,7 +100,6 @@ pub macro_faults-unfolded : (files : FileTable) (lines : List SourceLine) (ts : 
     → first_is_alone ts ≡ true
     → macro_token_faults files lines (unfolded (texts_of lines) ts) ≡ macro_token_faults files lines ts
 macro_faults-unfolded files lines [] runs alone = refl
-macro_faults-unfolded files lines (token.Run s ∷ ts) runs alone = cc
 macro_faults-unfolded files lines (t ∷ ts) runs alone =
     let more = All-tail (IsRunIn (texts_of lines)) t ts runs in
     grind (arith, macro_faults-unfolded files lines ts more, faults-unfolded files lines token.White ts more)

@@ -5,9 +5,7 @@ use Rattle.ctangle_cli.proofs.run.run_session.Goals as goal
 
 pub returns-in-Err : goal.returns-in-Err
 returns-in-Err g c = record {
-  faults = _;
-  plain = c.faults-faults.ensures;
-  ends = IsCutAtFaults c.in-Err.ensures (refl, (refl, refl), refl) refl;
+  ends = IsCutAtFaults (rw c.faults-faults.ensures at c.in-Err.ensures) (refl, (refl, refl), refl) refl;
   asks_nothing = (refl, refl);
 }
 
@@ -15,8 +13,6 @@ pub returns-in-Err-create_outputs : goal.returns-in-Err-create_outputs
 returns-in-Err-create_outputs g c =
     let stop = c.in-Err-create_outputs.ensures in
     record {
-      faults = _;
-      plain = c.faults-faults.ensures;
       ends = IsUnwritten (record {
         name = _;
         fault = _;
@@ -24,7 +20,7 @@ returns-in-Err-create_outputs g c =
         why = stop.failed;
         no_failure = stop.no_failure;
         between = _;
-        faults_reported = c.in-Ok.ensures;
+        faults_reported = rw c.faults-faults.ensures at c.in-Ok.ensures;
         output_reported = tries_from _ _ c.write_unwritten.result _ c.write_unwritten.ensures;
       }) refl;
       asks_nothing = (stop.asked_stay, stop.failed_stay);
@@ -34,8 +30,7 @@ pub returns-in-Ok-create_outputs : goal.returns-in-Ok-create_outputs
 returns-in-Ok-create_outputs g c =
     let made = c.in-Ok-create_outputs.ensures in
     record {
-      faults = _;
-      plain = c.faults-faults.ensures;
-      ends = IsDone c.in-Ok.ensures made.whole made.unfailed c.status.ensures;
+      ends = IsDone (rw c.faults-faults.ensures at c.in-Ok.ensures) made.whole made.unfailed
+          (rw c.faults-faults.ensures at c.status.ensures);
       asks_nothing = (made.asked_stay, made.failed_stay);
     }

@@ -8,12 +8,12 @@ use Rattle.ctangle_cli.proofs.run.start_session.Goals as goal
 
 pub returns-in-Err-clause-unstarted : goal.returns-in-Err-clause-unstarted
 returns-in-Err-clause-unstarted g c = λ usage.
-    IsUnloaded c.args.names.now (ending_of c.in-Err.fault) refl c.in-Err.ensures.err
+    IsUnloaded c.args.names.now (ending_of c.in-Err.fault) refl c.in-Err.ensures.gives
     (tries_from _ _ c.write_load.result _ c.write_load.ensures) refl
 
 pub returns-in-Err-start-clause-unstarted : goal.returns-in-Err-start-clause-unstarted
 returns-in-Err-start-clause-unstarted g c =
-    let loads = c.in-Ok.ensures.ok in λ usage. IsUnloaded c.args.names.now NoMemory refl
+    let loads = c.in-Ok.ensures.gives in λ usage. IsUnloaded c.args.names.now NoMemory refl
     (record {
       contents = loads.contents;
       are_its = loads.are_its;
@@ -24,7 +24,7 @@ returns-in-Err-start-clause-unstarted g c =
 pub returns-clause-started : goal.returns-clause-started
 returns-clause-started g c = record {
   files = _;
-  loads = c.in-Ok.ensures.ok;
+  loads = c.in-Ok.ensures.gives;
   started = rw c.in-Ok.ensures.roles at c.in-Ok-start.ensures.started;
   unwritten = refl;
 }

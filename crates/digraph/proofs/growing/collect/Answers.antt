@@ -5,9 +5,7 @@ use Rattle.digraph.proofs.LinkLemmas.{chain_step, chain_none}
 use Rattle.digraph.proofs.growing.collect.Goals as goal
 
 pub loop-place-preserved : goal.loop-place-preserved
-loop-place-preserved g c =
-    search (rules, reverse-append, chain_step, append_assoc)
+loop-place-preserved g c = search (rules, reverse-append, chain_step, append_assoc)
 
 pub returns : goal.returns
-returns g c =
-    search (rules, chain_none)
+returns g c = search (rules, chain_none)

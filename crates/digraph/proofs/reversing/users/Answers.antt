@@ -7,5 +7,4 @@ pub loop-n-preserved : goal.loop-n-preserved
 loop-n-preserved c = search (rules, rows_grow, numbers_more)
 
 pub returns : goal.returns
-returns c =
-    search (rules, is_reversed)
+returns c = search (rules, is_reversed)

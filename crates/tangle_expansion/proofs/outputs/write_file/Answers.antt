@@ -1,7 +1,7 @@
 use Rattle.std.proofs.Common.{append_assoc}
 use Rattle.std.specs.Prelude.{Ok}
 use Rattle.tangle_expansion.specs.Outputs.{node_symbols}
-use Rattle.tangle_expansion.proofs.WriteLemmas.{writes_then, written_whole}
+use Rattle.tangle_faults.proofs.WriteLemmas.{writes_then, written_whole}
 use Rattle.tangle_expansion.proofs.ShortLemmas.{file_fits}
 use Rattle.tangle_expansion.proofs.outputs.write_file.Goals as goal
 

@@ -1,5 +1,5 @@
 use Rattle.std.proofs.Common.{append_assoc}
-use Rattle.tangle_expansion.proofs.WriteLemmas.{writes_then}
+use Rattle.tangle_faults.proofs.WriteLemmas.{writes_then}
 use Rattle.tangle_expansion.proofs.writing.write_mark.Goals as goal
 
 pub returns-in-Full : goal.returns-in-Full

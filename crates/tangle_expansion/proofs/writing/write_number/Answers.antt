@@ -1,4 +1,4 @@
-use Rattle.tangle_expansion.proofs.WriteLemmas.{writes_then}
+use Rattle.tangle_faults.proofs.WriteLemmas.{writes_then}
 use Rattle.tangle_expansion.proofs.writing.write_number.Goals as goal
 
 pub returns : goal.returns

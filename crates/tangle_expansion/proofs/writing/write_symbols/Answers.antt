@@ -1,6 +1,6 @@
 use Rattle.std.proofs.Common.{◌++◌, [], append_assoc, append-nil, inl, inr, refl}
 use Rattle.std.specs.Prelude.{codes, decimal}
-use Rattle.tangle_expansion.proofs.WriteLemmas.{writes_then}
+use Rattle.tangle_faults.proofs.WriteLemmas.{writes_then}
 use Rattle.tangle_expansion.proofs.writing.write_symbols.Goals as goal
 
 pub returns-in-PieceStart : goal.returns-in-PieceStart

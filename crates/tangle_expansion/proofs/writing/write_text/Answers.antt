@@ -1,6 +1,6 @@
 use Rattle.std.proofs.Common.{arith}
 use Rattle.tangle_expansion.proofs.ShortLemmas.{light_fits}
-use Rattle.tangle_expansion.proofs.WriteLemmas.{written_whole}
+use Rattle.tangle_faults.proofs.WriteLemmas.{written_whole}
 use Rattle.tangle_expansion.proofs.writing.write_text.Goals as goal
 
 pub returns : goal.returns

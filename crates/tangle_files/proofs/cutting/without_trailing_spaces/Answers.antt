@@ -9,5 +9,4 @@ returns-then-line-end-ne32 c =
     grind (arith, nat_tests, take_more c.args.line.now (c.loop-end.end - 1) 0, trimmed-push)
 
 pub loop-end-preserved : goal.loop-end-preserved
-loop-end-preserved c =
-    grind (arith, nat_tests, take_more c.args.line.now (c.loop-end.end - 1) 0, trimmed-push)
+loop-end-preserved c = grind (arith, nat_tests, take_more c.args.line.now (c.loop-end.end - 1) 0, trimmed-push)

@@ -12,10 +12,7 @@ loop-front-preserved c =
     let front = c.in-Some.ensures.front in
     let here = unit_at-front region.Name c.loop-front.reader c.in-Some.front _ front c.unit_of-unit.ensures in
     let given = name_bytes-go 0 c.loop-front.reader c.unit_of-unit.result front.inside here c.in_default-unit.not-Stop in
-    record {
-      end = grind (arith, nat_tests, region_end-go);
-      name = grind (arith, nat_tests, append_assoc);
-    }
+    grind (arith, nat_tests, region_end-go, append_assoc)
 
 pub loop-front-smaller : goal.loop-front-smaller
 loop-front-smaller c =

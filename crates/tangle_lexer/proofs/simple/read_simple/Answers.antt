@@ -10,10 +10,8 @@ loop-simple-preserved c =
     let before = c.loop-simple.invariant in
     let step = c.in_ok-run_or_simple.ensures in
     record {
-      read = λ lines ours.
-          let first = before.read lines ours in
-          reads-trans lines _ _ _ c.args.from (with_line c.loop-simple.line c.args.from) _ c.args.reader.now
-          c.loop-simple.here _ first (step.read lines first.ours);
+      read = λ lines ours. reads-trans lines _ _ _ c.args.from (with_line c.loop-simple.line c.args.from) _ c.args.reader.now
+          c.loop-simple.here _ (before.read lines ours) (step.read lines (before.read lines ours).ours);
       adds = search rules;
       shorter = omega (arith, step.shorter, before.shorter);
       mode = before.mode;

@@ -1,5 +1,6 @@
+use Rattle.tangle_text.specs.Text.{Cell}
 use Rattle.std.proofs.Common.{rules}
-use Rattle.std.proofs.Common.{◌≡◌, true, length, drop, ap, sym, ◌∙◌, subst, arith, length-drop}
+use Rattle.std.proofs.Common.{◌≡◌, true, length, ap, sym, ◌∙◌, subst, arith, length-drop}
 use Rattle.tangle_text.specs.Text.{byte_at}
 use Rattle.tangle_text.proofs.TakenLemmas.{run_at-is, run_at-empty}
 use Rattle.tangle_lexer.specs.Lexemes.{with_line}
@@ -57,8 +58,10 @@ returns-clause-adds c =
 
 pub returns-clause-shorter : goal.returns-clause-shorter
 returns-clause-shorter c =
-    let text = c.if-begins_run.reader in
-    let here = c_lexeme (simple_kind c.args.simple) c.with_line-state.result text in
-    let ahead = ap length c.in_ok-after.ensures.ahead in
-    let place = ap length (same-place c) in
-    omega (arith, c.requires.simple.inside, length-drop here.more (drop 1 text), length-drop 1 text)
+    omega (
+      arith,
+      c.requires.simple.inside,
+      ap length c.in_ok-after.ensures.ahead,
+      ap length (same-place c),
+      length-drop {A = Cell},
+    )

@@ -6,8 +6,8 @@ use Rattle.tangle_loading.proofs.StepLemmas.{step_short}
 use Rattle.tangle_loading.proofs.TableLemmas.{longer}
 use Rattle.tangle_loading.proofs.loading.load_files.Goals as goal
 
-pub returns-in_err-read_needed-clause-err : goal.returns-in_err-read_needed-clause-err
-returns-in_err-read_needed-clause-err g c =
+pub returns-in_err-read_needed-clause-gives : goal.returns-in_err-read_needed-clause-gives
+returns-in_err-read_needed-clause-gives g c =
     let left = err_from_is_err_and c.from_residual.result c.from_residual.ensures.1 in
     rw (left.1, left.2) (step_stops _ _ (first_due _ _ c.requires)
     (rw (c.new-files.ensures, c.new-asked.ensures) at c.in_err-read_needed.ensures))
@@ -16,20 +16,20 @@ pub loop-asked-init : goal.loop-asked-init
 loop-asked-init g c =
     rounds_begin _ _ c.requires (rw (c.new-files.ensures, c.new-asked.ensures) at c.in_ok-read_needed.ensures)
 
-pub returns-in_err-faults-clause-err : goal.returns-in_err-faults-clause-err
-returns-in_err-faults-clause-err g c =
+pub returns-in_err-faults-clause-gives : goal.returns-in_err-faults-clause-gives
+returns-in_err-faults-clause-gives g c =
     let left = err_from_is_err_and c.from_residual-in_err-faults.result c.from_residual-in_err-faults.ensures.1 in
     rw (left.1, left.2) (step_stops _ _ c.loop-asked.invariant.due (step_short _ _ _ _ _ c.loop-asked.asked refl))
 
-pub returns-in_err-read_inclusions-clause-err : goal.returns-in_err-read_inclusions-clause-err
-returns-in_err-read_inclusions-clause-err g c =
+pub returns-in_err-read_inclusions-clause-gives : goal.returns-in_err-read_inclusions-clause-gives
+returns-in_err-read_inclusions-clause-gives g c =
     let left = err_from_is_err_and c.from_residual-in_err-read_inclusions.result
     c.from_residual-in_err-read_inclusions.ensures.1 in
     rw (left.1, left.2) (step_stops _ _ c.loop-asked.invariant.due
     (rw (c.as_slice.ensures.value, c.in_ok-faults.ensures) at c.in_err-read_inclusions.ensures))
 
-pub returns-then-count-clause-ok : goal.returns-then-count-clause-ok
-returns-then-count-clause-ok g c =
+pub returns-then-count-clause-gives : goal.returns-then-count-clause-gives
+returns-then-count-clause-gives g c =
     rounds_done _ _ c.loop-asked.invariant
     (rw (c.as_slice.ensures.value, c.in_ok-faults.ensures) at c.in_ok-read_inclusions.ensures) (grind (arith, nat_tests))
 

@@ -1,22 +1,10 @@
 use Rattle.std.proofs.Common.{arith}
 use Rattle.std.proofs.lemmas.Bool.Decides.{nat_tests}
 use Rattle.std.proofs.Common.{rules}
-use Rattle.std.proofs.Common.{◌∙◌, None, inl, refl, sym, true}
-use Rattle.std.proofs.lemmas.Result.{err_from_is_err_and}
-use Rattle.tangle_loading.proofs.AskLemmas.{asked_is}
+use Rattle.std.proofs.Common.{◌∙◌, None, inl, refl, sym}
 use Rattle.tangle_loading.proofs.StepLemmas.{folder_is, is_absent, is_found, is_too_big, some_answer, step_answered}
-use Rattle.tangle_loading.proofs.StepLemmas.{step_failed, step_none, step_short}
+use Rattle.tangle_loading.proofs.StepLemmas.{step_short}
 use Rattle.tangle_loading.proofs.loading.read_once.Goals as goal
-
-pub returns-then-contains : goal.returns-then-contains
-returns-then-contains g c =
-    step_none _ _ _ _ _ (λ contents. asked_is contents _ _ _ _ true (sym c.contains.ensures ∙ c.if-contains.true))
-
-pub insert-requires : goal.insert-requires
-insert-requires g c = sym c.contains.ensures ∙ c.if-contains.false
-
-pub returns-in_err-insert : goal.returns-in_err-insert
-returns-in_err-insert g c = search (rules, err_from_is_err_and, step_short)
 
 pub returns-in-Ok : goal.returns-in-Ok
 returns-in-Ok g c =
@@ -44,10 +32,6 @@ returns-in-Err-TooBig g c =
     let big = is_too_big (g.F.Folder.state c.args.folder.now).files c.args.needed c.args.files.now c.args.name.now
     said.answer in
     grind (arith, nat_tests, step_answered, folder_is)
-
-pub returns-in-Err-Failed : goal.returns-in-Err-Failed
-returns-in-Err-Failed g c =
-    search (rules, step_failed, folder_is)
 
 pub returns-in-Err-NoMemory : goal.returns-in-Err-NoMemory
 returns-in-Err-NoMemory g c =

@@ -8,15 +8,5 @@ use Rattle.tangle_scan.proofs.faults.add_faults.Goals as goal
 
 pub loop-left-preserved : goal.loop-left-preserved
 loop-left-preserved c =
-    let source = c.args.source.now in
-    let texts = texts_of source.lines in
     let left = c.loop-left.left.now in
-    let runs = c.loop-left.invariant.runs in
-    grind (
-      arith,
-      nat_tests,
-      append_assoc,
-      split left (omega arith),
-      all-rest (IsRunIn texts) left (omega arith) runs,
-      runs 0 token.Section (omega arith),
-    )
+    grind (arith, nat_tests, append_assoc, split left, all-rest (IsRunIn (texts_of c.args.source.now.lines)) left, c.loop-left.invariant.runs 0 token.Section)

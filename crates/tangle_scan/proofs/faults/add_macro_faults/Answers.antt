@@ -7,12 +7,5 @@ use Rattle.tangle_scan.proofs.faults.add_macro_faults.Goals as goal
 
 pub loop-left-preserved : goal.loop-left-preserved
 loop-left-preserved c =
-    let source = c.args.source.now in
     let left = c.loop-left.left.now in
-    grind (
-      arith,
-      nat_tests,
-      append_assoc,
-      split left (omega arith),
-      all-rest (IsRunIn (texts_of source.lines)) left (omega arith) c.loop-left.invariant.runs,
-    )
+    grind (arith, nat_tests, append_assoc, split left, all-rest (IsRunIn (texts_of c.args.source.now.lines)) left)

@@ -1,29 +1,17 @@
-use Rattle.std.proofs.Common.{rules, inl, inr}
-use Rattle.std.proofs.Common.{ap, refl, subst}
+use Rattle.std.proofs.Common.{rules}
+use Rattle.std.proofs.Common.{subst}
 use Rattle.tangle_lexer.specs.Runs.{IsRunIn}
-use Rattle.tangle_scan.specs.declared.parts.PartState.{PartState}
 use Rattle.tangle_scan.specs.Rules.{texts_of}
-use Rattle.tangle_scan.proofs.lemmas.MadeLemmas.{made-end, made-item, made-join, made-run, made-same}
-use Rattle.tangle_scan.proofs.lemmas.PartLemmas.{passed-fault, passed-inner_end, passed-joined-end, passed-white}
+use Rattle.tangle_scan.proofs.lemmas.MadeLemmas.{made-end, made-item, made-join, made-run, made-fault, made-white, made-inner_end, made-joined-end}
 use Rattle.tangle_scan.proofs.lemmas.RuleLemmas.{solid}
 use Rattle.tangle_scan.proofs.lemmas.RunItems.{no-run, unfolded-one}
 use Rattle.tangle_scan.proofs.parts.add_token.Goals as goal
 
 pub returns-in-White-clause-made : goal.returns-in-White-clause-made
-returns-in-White-clause-made c = λ whole es h.
-    let lines = c.args.source.now.lines in
-    made-same lines whole c.args.text.now c.args.at.now _ _ es refl refl
-    (λ items kept passed. elim c.in-White.is [
-      | inl is ↦ passed-white lines whole items kept c.args.at.now es (rw is at passed)
-      | inr is ↦ passed-inner_end lines whole items kept c.args.at.now _ es (rw is.1 at passed)
-    ]) h
+returns-in-White-clause-made c = search (rules, made-white, made-inner_end)
 
 pub returns-in-Joined-clause-made : goal.returns-in-Joined-clause-made
-returns-in-Joined-clause-made c = λ whole es h.
-    let lines = c.args.source.now.lines in
-    made-same lines whole c.args.text.now c.args.at.now _ _ es refl refl
-    (λ items kept. passed-joined-end lines whole items kept c.args.at.now c.in-LineEnd.line es c.in-Joined.is)
-    (rw c.in-LineEnd.is at h)
+returns-in-Joined-clause-made c = search (rules, made-joined-end)
 
 pub returns-in_ok-add_line_end-in-LineEnd-clause-made : goal.returns-in_ok-add_line_end-in-LineEnd-clause-made
 returns-in_ok-add_line_end-in-LineEnd-clause-made c = λ whole es h.
@@ -44,20 +32,14 @@ pub returns-in-Join-clause-made : goal.returns-in-Join-clause-made
 returns-in-Join-clause-made c = search (rules, made-join)
 
 pub returns-in-Fault-clause-made : goal.returns-in-Fault-clause-made
-returns-in-Fault-clause-made c = λ whole es h.
-    let lines = c.args.source.now.lines in
-    made-same lines whole c.args.text.now c.args.at.now _ _ es refl refl
-    (λ items kept. passed-fault lines whole items kept c.args.at.now c.in-Fault.field-0 c.in-Fault.field-1 es)
-    (rw c.in-Fault.is at h)
+returns-in-Fault-clause-made c = search (rules, made-fault)
 
 pub returns-in_ok-add_item-in_default-clause-made : goal.returns-in_ok-add_item-in_default-clause-made
 returns-in_ok-add_item-in_default-clause-made c = λ whole es h.
     let other = c.in_default in
     let e = c.args.token.now in
     let made = c.in_ok-add_item-in_default.ensures in
-    rw made.text
-    (made-item c.args.source.now.lines whole c.args.text.now c.args.at.now es e _
+    rw (made.text, made.at)
+    (made-item c.args.source.now.lines whole c.args.text.now c.args.at.now es e c.add_item.new.at.counted
     (solid e other.not-White other.not-LineEnd other.not-InnerLineEnd other.not-Join other.not-Fault) (no-run e other.not-Run)
-    (ap (λ (s : PartState). s.last) made.at) (ap (λ (s : PartState). s.has_white) made.at)
-    (ap (λ (s : PartState). s.item) made.at) (ap (λ (s : PartState). s.turn) made.at) made.counted
-    (rw (unfolded-one (texts_of c.args.source.now.lines) e other.not-Run) at h))
+    made.counted (rw (unfolded-one (texts_of c.args.source.now.lines) e other.not-Run) at h))

@@ -1,5 +1,4 @@
 use Rattle.std.proofs.Common.{rules}
-use Rattle.std.proofs.lemmas.Grind.{common_steps}
 use Rattle.std.proofs.Common.{◌||◌, ap, arith, sym, ◌∙◌, subst, get_or}
 use Rattle.std.proofs.lemmas.List.{drop_all, drop_more}
 use Rattle.std.proofs.lemmas.List.Folds.{list_any_more}
@@ -12,12 +11,6 @@ use Rattle.tangle_scan.specs.Web.{is_all_macros}
 use Rattle.tangle_scan.proofs.lemmas.MadeLemmas.{made-open, made-closed}
 use Rattle.tangle_scan.proofs.lemmas.TextLemmas.{blank-added}
 use Rattle.tangle_scan.proofs.parts.fill_part.Goals as goal
-
-pub loop-token-init : goal.loop-token-init
-loop-token-init c = search rules
-
-pub add_token-requires-clause-no_head : goal.add_token-requires-clause-no_head
-add_token-requires-clause-no_head c = grind (arith, common_steps)
 
 pub loop-token-preserved : goal.loop-token-preserved
 loop-token-preserved c =

@@ -15,9 +15,6 @@ use Rattle.tangle_scan.proofs.scanning.gather.Goals as goal
 pub next_block-requires-clause-ours : goal.next_block-requires-clause-ours
 next_block-requires-clause-ours c = (0, c.new-reader.ensures.text)
 
-pub add_block-requires-clause-alone : goal.add_block-requires-clause-alone
-add_block-requires-clause-alone c = search rules
-
 pub loop-next_head-init : goal.loop-next_head-init
 loop-next_head-init c =
     let texts = texts_of c.args.source.now.lines in

@@ -14,6 +14,4 @@ returns-in-Some c =
     search (rules, length-take-le)
 
 pub returns-in-None : goal.returns-in-None
-returns-in-None c =
-    let size : c.args.run - 0 ≡ c.args.run = omega arith in
-    search (rules, no_part, length-take)
+returns-in-None c = search (rules, no_part, length-take)

@@ -1,7 +1,4 @@
-use Rattle.std.proofs.Common.{subst}
-use Rattle.tangle_files.specs.Lines.{FileTable}
-use Rattle.tangle_files.specs.Roles.{RolesRead}
-use Rattle.tangle_session.specs.Headline.{IsPlainTangling}
+use Rattle.tangle_session.specs.Headline.{faults_at, output_files}
 use Rattle.tangle_session.proofs.HeadlineLemmas.{ends}
 use Rattle.tangle_session.proofs.LawLemmas.{no_cycle, reported_in}
 use Rattle.tangle_session.proofs.laws.histories_end_in_plain_tangling.Goals as goal
@@ -9,10 +6,11 @@ use Rattle.tangle_session.proofs.laws.histories_end_in_plain_tangling.Goals as g
 pub returns : goal.returns
 returns c = record {
   ends = ends;
-  shown = λ files roles calls session made_files faults history is.
-      (let made = ends files roles calls session history in
-      subst (λ (at : FileTable × RolesRead). IsPlainTangling at.0 at.1 made_files faults)
-      (λ i. (made.files_are i, made.roles_are i)) is);
+  shown = λ files roles calls session history.
+      (let made = ends files roles calls session history in (
+        λ i. output_files (made.files_are i) (made.roles_are i),
+        λ i. faults_at (made.files_are i) (made.roles_are i),
+      ));
   no_cycle = no_cycle;
   cycles = reported_in;
 }

@@ -1,4 +1,5 @@
-use Rattle.std.proofs.Common.{sym, ◌∙◌, arith}
+use Rattle.std.proofs.lemmas.Bool.Decides.{nat_tests}
+use Rattle.std.proofs.Common.{arith}
 use Rattle.tangle_text.proofs.ItemLemmas.{column-ends, column-plain, no-quote}
 use Rattle.tangle_text.proofs.runs.run_end.Goals as goal
 
@@ -7,7 +8,9 @@ returns-else-is_at_quote-clause-end c =
     let bytes = c.args.bytes.now in
     let end = c.end_of-end in
     let stops = column-ends bytes c.args.from end.result end.ensures.end in
-    let none = no-quote bytes end.result c.item_start.result stops c.item_start.ensures
-    (sym c.is_at_quote.ensures.quote ∙ c.if-is_at_quote.false) in
-    let plain = column-plain bytes c.args.from end.result end.ensures.end (λ more word. none.1) in
-    omega (arith, none.0, plain)
+    grind (
+      arith,
+      nat_tests,
+      no-quote bytes end.result c.item_start.result stops c.item_start.ensures,
+      column-plain bytes c.args.from end.result end.ensures.end,
+    )

@@ -24,7 +24,7 @@ pub returns-in-Faults : goal.returns-in-Faults
 returns-in-Faults g c =
     rw c.in-Faults.is (
       listed_faults c.faults.result.now,
-      inl ([], IsReported _ refl refl (c.faults.result.now, c.faults.ensures, refl), refl),
+      inl ([], IsReported _ refl refl (ap listed_faults c.faults.ensures), refl),
       c.list_faults.ensures,
     )
 

@@ -2,8 +2,7 @@ use Rattle.std.proofs.Common.{◌∙◌, ◌<◌, ◌++◌, [], ap, sym, length,
 use Rattle.std.specs.List.{range_with_len}
 use Rattle.std.proofs.lemmas.List.Elements.{All-push}
 use Rattle.std.proofs.lemmas.List.{append-nil, flat_map_more}
-use Rattle.tangle_graph.specs.FaultSearches.{fault_of_name}
-use Rattle.tangle_graph.specs.Faults.{fault_of}
+use Rattle.tangle_graph.specs.Faults.{fault_of, fault_of_name}
 use Rattle.tangle_graph.proofs.ListLemmas.{range_more}
 use Rattle.tangle_graph.proofs.faults.FaultSearch.candidates.Goals as goal
 use Rattle.tangle_graph.proofs.faults.FaultSearch.candidates.Goals.{then-may_have_fault+in_ok-push, else-may_have_fault}
@@ -11,21 +10,22 @@ use Rattle.tangle_graph.proofs.faults.FaultSearch.candidates.Goals.{then-may_hav
 pub loop-id-preserved : goal.loop-id-preserved
 loop-id-preserved c =
     let search = c.args.self.now in
+    let fault = fault_of_name search.web.now search.table.now search.out.now in
     let id = c.loop-id.id in
     let names = c.loop-id.names.items in
     let was = c.loop-id.invariant in
     elim c.if-may_have_fault.branch [
       | then-may_have_fault+in_ok-push w ↦ rw (w.names-is, w.in_ok-push.ensures.items) (record {
         names = All-push (λ m. m < length search.table.now.names) names id was.names (omega arith);
-        faults = λ kind. sym (flat_map_more (fault_of_name search kind) [] names id)
-            ∙ ap (λ l. l ++ fault_of_name search kind id) (was.faults kind)
-            ∙ sym (range_more (fault_of_name search kind) id);
+        faults = λ kind. sym (flat_map_more (fault kind) [] names id)
+            ∙ ap (λ l. l ++ fault kind id) (was.faults kind)
+            ∙ sym (range_more (fault kind) id);
       })
       | else-may_have_fault w ↦ rw w.names-is (record {
         names = was.names;
         faults = λ kind. was.faults kind
-            ∙ sym (range_more (fault_of_name search kind) id
-            ∙ ap (λ o. flat_map (fault_of_name search kind) (range_with_len 0 id)
+            ∙ sym (range_more (fault kind) id
+            ∙ ap (λ o. flat_map (fault kind) (range_with_len 0 id)
             ++ fault_of search.web.now search.table.now kind id o)
             (c.may_have_fault.ensures w.if-may_have_fault.false kind) ∙ append-nil _);
       })

@@ -2,6 +2,9 @@ use Rattle.std.proofs.Common.{◌≡◌, ◌∙◌, ap, map, subst, sym}
 use Rattle.tangle_names.specs.NameTable.{TableRead}
 use Rattle.tangle_names.specs.Resolving.{resolve}
 use Rattle.tangle_bodies.specs.WebShapes.{shapes}
+use Rattle.tangle_bodies.specs.Nodes.{title_at}
+use Rattle.tangle_graph.proofs.CycleLemmas.{contains_computed, cycle_computed}
+use Rattle.std.proofs.lemmas.Bool.Decides.{same_from_decides}
 use Rattle.tangle_graph.specs.Measures.{AreMeasures}
 use Rattle.tangle_graph.specs.Stores.{StoreRead}
 use Rattle.tangle_graph.proofs.store.Store.faults.Goals as goal
@@ -17,8 +20,11 @@ faults-requires c =
     let shown : c.args.self.now.measures ≡ c.deref.result.now =
     sym (c.deref.ensures.value ∙ ap (λ (s : StoreRead). s.measures) c.self.view_is) in
     record {
-      store = is;
       measured = measured;
+      containing = λ n low. same_from_decides _ _ (rw is.names at is.store.contains_itself n low)
+          (contains_computed web table c.requires.table (title_at table.names n));
+      reaching = λ n low. same_from_decides _ _ (is.reaching_cycles n low)
+          (cycle_computed web table c.requires.table (title_at table.names n));
       named = c.in_ok-find.ensures (shapes web table) (subst (AreMeasures (shapes web table) table.names) shown measured);
       uses_size = c.in_ok-first_numbers.ensures.size;
       first_uses = rw read at (c.in_ok-first_numbers.ensures.numbers (resolve web.occurrences)

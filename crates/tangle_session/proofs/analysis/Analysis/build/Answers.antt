@@ -1,14 +1,14 @@
-use Rattle.std.proofs.Common.{◌≡◌, ◌∙◌, ◌++◌, ℕ, List, ap, refl, subst, sym}
+use Rattle.std.proofs.Common.{◌≡◌, ◌∙◌, ◌++◌, ℕ, List, ap, subst, sym}
 use Rattle.tangle_files.specs.Roles.{RolesRead}
 use Rattle.tangle_scan.specs.Web.{WebRead, web_of}
 use Rattle.tangle_names.specs.Faults.{name_faults}
 use Rattle.tangle_names.specs.NameTable.{TableRead, table_of}
 use Rattle.tangle_expansion.specs.Numbers.{numbers_of}
 use Rattle.tangle_bodies.specs.Nodes.{IsGroupedBy}
-use Rattle.tangle_graph.specs.Faults.{AreGraphFaults}
+use Rattle.tangle_graph.specs.Faults.{graph_faults}
 use Rattle.tangle_graph.specs.WebStores.{IsStoreOfWeb}
-use Rattle.tangle_session.specs.Headline.{source_at, table_at, web_at}
-use Rattle.tangle_session.proofs.AnalysisLemmas.{faults_joined, read_at, scanned_at}
+use Rattle.tangle_session.specs.Headline.{faults_at, source_at, table_at, web_at}
+use Rattle.tangle_session.proofs.AnalysisLemmas.{faults_joined}
 use Rattle.tangle_session.proofs.analysis.Analysis.build.Goals as goal
 
 pub build-requires-clause-names : goal.build-requires-clause-names
@@ -21,12 +21,12 @@ build-requires-clause-pieces c = subst (IsGroupedBy c.in_ok-web.web (table_of c.
     c.in_ok-table.ensures c.in_ok-made.ensures.store.grouped)
 
 pub returns-clause-made : goal.returns-clause-made
+unfolding faults_at source_at web_at
 returns-clause-made c =
     let files = c.args.files.now in
     let to : RolesRead = record c.args.roles.now { marks = c.args.marks } in
-    let source_is : c.in_ok-source.source ≡ source_at files to = c.in_ok-source.ensures ∙ sym (read_at files to) in
-    let web_is : c.in_ok-web.web ≡ web_at files to =
-    c.in_ok-web.ensures.web ∙ ap web_of source_is ∙ sym (scanned_at files to) in
+    let source_is : c.in_ok-source.source ≡ source_at files to = c.in_ok-source.ensures in
+    let web_is : c.in_ok-web.web ≡ web_at files to = c.in_ok-web.ensures.web ∙ ap web_of source_is in
     let table_is : c.in_ok-table.table ≡ table_at files to = c.in_ok-table.ensures ∙ ap table_of web_is in
     let parts = c.into_occurrences_and_faults-occurrences in
     let of_graph = c.in_ok-of_graph.of_graph.items in
@@ -36,17 +36,12 @@ returns-clause-made c =
       store = subst (λ (x : WebRead × TableRead × List ℕ). IsStoreOfWeb x.0 x.1 x.2 c.in_ok-made.made.store)
           (λ i. (web_is i, table_is i, c.out.ensures i)) c.in_ok-made.ensures.store;
       numbers = c.in_ok-numbers.ensures ∙ ap (λ w. numbers_of w (table_of w) c.args.marks) web_is;
-      plain = record {
-        writing = refl;
-        of_graph = of_graph;
-        are_of_graph = subst (λ (x : WebRead × TableRead × List ℕ). AreGraphFaults x.0 x.1 x.2 of_graph)
-            (λ i. (web_is i, table_is i, c.out-2.ensures i)) c.in_ok-of_graph.ensures;
-        reporting = faults_joined c.into_faults-faults.result.items parts.result.1.items
-            c.in_ok-of_names.of_names.items of_graph
-            c.append.new.self.items c.append-2.new.self.items c.append-3.new.self.items
-            c.in_ok-append.ensures.items c.in_ok-append-2.ensures.items c.in_ok-append-3.ensures.items
-            ∙ (λ i. c.into_faults-faults.ensures i
-            ++ (parts.ensures.faults i ++ (c.in_ok-of_names.ensures i ++ of_graph)))
-            ∙ (λ i. (source_is i).faults ++ ((web_is i).faults ++ (name_faults (web_is i) ++ of_graph)));
-      };
+      faults = faults_joined c.into_faults-faults.result.items parts.result.1.items
+          c.in_ok-of_names.of_names.items of_graph
+          c.append.new.self.items c.append-2.new.self.items c.append-3.new.self.items
+          c.in_ok-append.ensures.items c.in_ok-append-2.ensures.items c.in_ok-append-3.ensures.items
+          ∙ (λ i. c.into_faults-faults.ensures i
+          ++ (parts.ensures.faults i ++ (c.in_ok-of_names.ensures i ++ c.in_ok-of_graph.ensures i)))
+          ∙ (λ i. (source_is i).faults ++ ((web_is i).faults ++ (name_faults (web_is i)
+          ++ graph_faults (web_is i) (table_is i) (c.out-2.ensures i))));
     }

@@ -1,9 +1,8 @@
-use Rattle.std.proofs.Common.{subst}
-use Rattle.tangle_session.specs.Headline.{IsPlainTangling, output_files}
+use Rattle.std.proofs.Common.{◌≡◌, ◌∙◌, subst}
+use Rattle.tangle_session.specs.Headline.{faults_at}
 use Rattle.tangle_session.specs.Sessions.{SessionRead}
 use Rattle.tangle_session.proofs.session.Session.faults.Goals as goal
 
 pub returns : goal.returns
-returns c =
-    subst (λ (s : SessionRead). IsPlainTangling s.files s.roles (output_files s.files s.roles) c.as_slice.result.now)
-    c.self.view_is (rw c.as_slice.ensures.value c.self.invariant.analysis.plain)
+returns c = subst (λ (s : SessionRead). c.as_slice.result.now ≡ faults_at s.files s.roles) c.self.view_is
+    (c.as_slice.ensures.value ∙ c.self.invariant.analysis.faults)

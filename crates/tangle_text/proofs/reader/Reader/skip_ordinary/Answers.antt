@@ -19,9 +19,7 @@ skipped lines bytes line column end true h is = (zero, refl, tt)
 skipped lines bytes line column end false h is =
     let n = prefix_len is_ordinary (drop column bytes) in (
       n,
-      ap (λ k. rest_of lines bytes line k false) is
-          ∙ rest_of-further lines bytes line column n false
-          (omega (arith, h, prefix_len-le-length is_ordinary (drop column bytes), length-drop column bytes)),
+      grind (arith, rest_of-further lines bytes line column n false, prefix_len-le-length is_ordinary (drop column bytes), length-drop column bytes),
       run-ordinary line column (drop column bytes) (text_from (line + 1) (drop (line + 1) lines)),
     )
 

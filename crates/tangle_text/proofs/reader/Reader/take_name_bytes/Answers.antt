@@ -1,5 +1,5 @@
-use Rattle.std.proofs.Common.{◌≡◌, ◌∙◌, ◌-◌, ℕ, List, [], refl, sym, ap, subst, arith}
-use Rattle.std.proofs.lemmas.Result.{IfOk-weaker}
+use Rattle.std.proofs.Common.{rules}
+use Rattle.std.proofs.Common.{◌≡◌, ◌-◌, ℕ, List, [], refl, sym, ap, subst, arith}
 use Rattle.tangle_files.specs.Sharing.{slice_of}
 use Rattle.tangle_text.specs.Text.{Cell}
 use Rattle.tangle_text.specs.NameBytes.{BeginsName}
@@ -25,12 +25,7 @@ returns c =
           let begins =
           bytes_begin r.source.now.lines r.bytes.now r.line r.column
           end.result end.ensures.low end.ensures.high end.ensures.before in
-          let read = rw (w.self-inside-is) at c.slice.ensures in
-          rw (w.self-inside-is, ← c.self.view_is, w.if-not-self.true)
-          (IfOk-weaker c.slice.result _ _ (λ bytes is. equal_begin _ _ _ bytes (is ∙ sym same) begins) read)
+          search (rules, equal_begin)
       | else-not-self w ↦
-          let none : r.column - r.column ≡ 0 = omega arith in
-          let read = rw (w.self-inside-is, none) at c.slice.ensures in
-          rw (w.self-inside-is, ← c.self.view_is, w.if-not-self.false)
-          (IfOk-weaker c.slice.result _ _ (λ bytes is. equal_begin [] [] [] bytes is nothing_begins) read)
+          search (rules, equal_begin, nothing_begins)
     ]
