@@ -2,7 +2,7 @@
 use Rattle.std.proofs.Common.{rules, arith}
 use Rattle.std.proofs.lemmas.Bool.Decides.{nat_tests}
 use Rattle.std.proofs.Common.{◌≡◌, ℕ, Bool, true, false, List, [], ◌∷◌, ◌++◌, map, drop, length}
-use Rattle.std.proofs.Common.{refl, ap, sym, subst, ◌∙◌}
+use Rattle.std.proofs.Common.{refl, ap, sym, subst}
 use Rattle.std.specs.Prelude.{◌||◌, filter, flat_map}
 use Rattle.std.specs.Str.{bytes_eq}
 use Rattle.std.proofs.lemmas.Bool.{cond_both}
@@ -45,16 +45,7 @@ lines-tokens : (es front : List PlacedElement) → tokens_in (lines front es) �
     ++ texts_of (tokens_among es)
 lines-tokens [] front = refl
 lines-tokens (e ∷ es) front =
-    grind (
-      arith,
-      nat_tests,
-      line-feed-no-token e.text,
-      lines-tokens es [],
-      lines-tokens es (front ++ e ∷ []),
-      lines-tokens es front,
-      map-append (λ e. e.text) front (e ∷ []),
-      append_assoc (texts_of front) (e.text ∷ []) (texts_of (tokens_among es)),
-    )
+    grind (arith, nat_tests, line-feed-no-token e.text, lines-tokens es, map-append, append_assoc)
 
 read-texts : (count : LineCount) (b : Bool) (es : List PlacedElement) →
     tokens_of (map (λ e. record { token = e.text; at = e.place.at; origin = counted count e.place.row; in_directive = b }) es) ≡ texts_of es
@@ -67,12 +58,11 @@ read-after words = search rules
 reads-tokens : (count : LineCount) (ls : List LineOfTokens) → tokens_of (reads [] true count ls) ≡ tokens_in ls
 reads-tokens count [] = refl
 reads-tokens count (line ∷ ls) =
-    let words : List (List ℕ) = directive line.tokens in
-    rw (cond_both (begins_group words || turns_group words) [] [] (λ (choices : List Bool). choices ≡ []) (λ _. refl) (λ _. refl)) (rw (read-after words) (
-    map-append (λ read. read.token) (read_of count line.tokens) (reads [] true (count_after count line.end words) ls)
-    ∙ ap (λ t. t ++ tokens_of (reads [] true (count_after count line.end words) ls))
-    (read-texts count (begins_directive line.tokens) line.tokens)
-    ∙ ap (λ more. texts_of line.tokens ++ more) (reads-tokens (count_after count line.end words) ls)))
+    let words = directive line.tokens in
+    let here = read-texts count (begins_directive line.tokens) line.tokens in
+    let more = reads-tokens (count_after count line.end words) ls in
+    rw (cond_both (begins_group words || turns_group words) [] [] (λ (bs : List Bool). bs ≡ []) (λ _. refl) (λ _. refl))
+    (search (rules, read-after, map-append (λ read. read.token) (read_of count line.tokens), here, more))
 
 pub all_counted : (file text : List ℕ) → tokens_of (c_reads [] file text) ≡ tokens text
 all_counted file text =

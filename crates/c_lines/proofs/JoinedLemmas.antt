@@ -125,15 +125,10 @@ cut-kept after [] = grind (arith, nat_tests)
 cut-kept after (c ∷ r) = grind (arith, nat_tests, cut-kept (c == backslash) r)
 
 cut-spliced : (b : List ℕ) → let cut = cut_line false b in spliced b ≡ spliced cut.0 ++ spliced cut.1
-cut-spliced b =
-    let cut = cut_line false b in
-    ap spliced (cut-all false b) ∙ spliced-both cut.0 cut.1 (keep-is cut.0 cut.1 ∙ ap not (cut-kept false b))
+cut-spliced b = grind (arith, cut-all false b, spliced-both, keep-is, cut-kept false b)
 
 border-front : (a b c : List ℕ) → have_border a (b ++ c) ≡ true → have_border a b ≡ true
 border-front a b c border = search rules
-
-keep-front : (a b c : List ℕ) → keep_lines a (b ++ c) ≡ true → keep_lines a b ≡ true
-keep-front a b c kept = search rules
 
 -- whole texts
 
@@ -147,7 +142,7 @@ lines-apart a b whole one kept border lines =
     let cut = cut_line false b in
     let more = subst (AllByRecursion (λ line. is_whole line ≡ true)) (joined-is [] b) lines in
     subst (AllByRecursion (λ line. is_whole line ≡ true)) (sym (joined-both a b one kept)) (
-      whole-apart a cut.0 whole (keep-front a cut.0 cut.1 (subst (λ t. keep_lines a t ≡ true) (cut-all false b) kept))
+      whole-apart a cut.0 whole (search rules)
           (border-front (spliced a) (spliced cut.0) (spliced cut.1)
           (subst (λ t. have_border (spliced a) t ≡ true) (cut-spliced b) border)) ∙ more.0,
       more.1,
@@ -194,7 +189,7 @@ feed-whole b =
 
 whole-from : (line bs : List ℕ) → AllByRecursion (λ line. is_whole line ≡ true) (joined_lines line bs)
     → is_whole (line ++ bs) ≡ true
-whole-from line [] lines = ap is_whole (append-nil line) ∙ lines.0
+whole-from line [] lines = search rules
 whole-from line (b ∷ bs) lines =
     grind (arith, nat_tests, whole-from [] bs, whole-from (line ++ b ∷ []) bs, append_assoc line (b ∷ []) bs, whole-apart, keep-is, spliced-other, white-next, feed-whole)
 

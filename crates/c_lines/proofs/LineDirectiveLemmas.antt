@@ -2,15 +2,14 @@
 use Rattle.std.proofs.Common.{rules}
 use Rattle.std.proofs.Common.{◌≡◌, ℕ, true, false, List, [], ◌∷◌, ◌++◌, map, length, codes, arith}
 use Rattle.std.proofs.Common.{refl, ap, ◌∙◌}
-use Rattle.std.specs.Prelude.{not}
-use Rattle.std.specs.List.{list_any, list_all}
+use Rattle.std.specs.List.{list_all}
 use Rattle.std.proofs.lemmas.Bool.{and_parts, and_from, or_right, false≢true}
 use Rattle.std.proofs.lemmas.Bool.Decides.{nat_tests}
 use Rattle.c_tokens.specs.Bytes.{space, is_digit, is_word_byte}
 use Rattle.c_tokens.specs.Grammar.{is_token, is_element, is_punctuator, is_string, is_number}
 use Rattle.c_tokens.specs.Grammar.{apostrophes_separate}
-use Rattle.c_tokens.specs.Reading.{spliced, elements_from, tokens}
-use Rattle.c_tokens.specs.Borders.{is_unfinished, is_whole, keep_lines, have_border, has_bytes}
+use Rattle.c_tokens.specs.Reading.{spliced, tokens}
+use Rattle.c_tokens.specs.Borders.{is_unfinished, is_whole, has_bytes}
 use Rattle.c_lines.specs.Counting.{Place, PlacedElement, tokens_at, begins_directive, directive}
 use Rattle.c_tokens.proofs.GrammarLemmas.{all-weaker}
 use Rattle.c_tokens.proofs.NumberLemmas.{separated-number, word-separated, separates-word}
@@ -48,9 +47,8 @@ digits-whole [] all = refl
 digits-whole (b ∷ t) all =
     let unfinished : is_unfinished (b ∷ t) ≡ false =
     grind (arith, nat_tests, and_parts (is_digit b) (list_all is_digit t) all) in
-    ap (λ u. not (list_any is_unfinished (elements_from 0 u))) (spliced-line (b ∷ t) (digits-line (b ∷ t) all))
-    ∙ ap (λ es. not (list_any is_unfinished es)) (one-element b t (token-element (b ∷ t) (number-token (b ∷ t) (digits-number b t all))))
-    ∙ rw unfinished refl
+    let one = one-element b t (token-element (b ∷ t) (number-token (b ∷ t) (digits-number b t all))) in
+    search (rules, spliced-line, digits-line)
 
 string-token : (t : List ℕ) → is_string t ≡ true → IsInLine t → tokens t ≡ t ∷ []
 string-token [] is line = absurd (false≢true is)
@@ -60,7 +58,7 @@ string-token (b ∷ t) is line = one-token b t line (plain-token (b ∷ t) (sear
 
 space-first : (rest : List ℕ) → tokens (space ∷ rest) ≡ tokens rest
 unfolding is_element is_token is_punctuator
-space-first rest = apart_tokens (space ∷ []) rest (and_from (keep_lines (space ∷ []) rest) (have_border (space ∷ []) (spliced rest)) (search rules) (white-before space (spliced rest) refl))
+space-first rest = apart_tokens (space ∷ []) rest (search (rules, and_from, white-before))
 
 space-after : (a rest : List ℕ) → is_whole a ≡ true → tokens (a ++ space ∷ rest) ≡ tokens a ++ tokens rest
 space-after a rest whole =

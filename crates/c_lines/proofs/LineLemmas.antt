@@ -1,7 +1,7 @@
 -- A line feed after a whole text ends its line: the line and what is after it are read each by itself.
 use Rattle.std.proofs.Common.{rules}
 use Rattle.std.proofs.Common.{◌≡◌, ℕ, zero, suc, ◌≤◌, Bool, true, List, [], ◌∷◌, ◌++◌, take, drop, length, ◌-◌}
-use Rattle.std.proofs.Common.{refl, ap, sym, subst, ◌∙◌, append_assoc, append-nil, arith, length-append, length-drop}
+use Rattle.std.proofs.Common.{refl, ap, sym, ◌∙◌, append_assoc, append-nil, arith, length-append, length-drop}
 use Rattle.std.specs.Prelude.{◌&&◌, not, ◌==◌, filter, Some, None}
 use Rattle.std.specs.List.{list_all, concat, join_with_byte, AllByRecursion}
 use Rattle.std.specs.Str.{bytes_eq}
@@ -35,10 +35,9 @@ places-both : (p : Place) (a b : List ℕ) → keep_lines a b ≡ true → place
 places-both p a b kept = search (rules, places-bytes)
 
 places-length : (p : Place) (a : List ℕ) → length (places p a) ≡ length (spliced a)
-places-length p [] = refl
-places-length p (b ∷ []) = refl
 places-length p (b ∷ c ∷ bs) =
     grind (arith, nat_tests, places-length (next_place (next_place p b) c) bs, places-length (next_place p b) (c ∷ bs))
+places-length p a = refl
 
 -- elements, and the places of their bytes
 
@@ -46,10 +45,9 @@ take-some : (k x : ℕ) (a : List ℕ) → 1 ≤ k → has_bytes (take k (x ∷ 
 take-some k x a h = grind (arith, nat_tests)
 
 pub elements-some : (n : ℕ) (a : List ℕ) → list_all has_bytes (elements_from n a) ≡ true
-elements-some zero [] = refl
-elements-some (suc n) [] = refl
 elements-some (suc n) (x ∷ a) = elements-some n a
 elements-some zero (x ∷ a) = search (rules, and_from, take-some, longest-one, elements-some (longest is_element (x ∷ a) - 1) a)
+elements-some n a = refl
 
 elements-fill : (p : Place) (a : List ℕ) → length (concat (elements a)) ≡ length (places p a)
 elements-fill p a = ap length (elements_all 0 (spliced a)) ∙ sym (places-length p a)
@@ -57,11 +55,10 @@ elements-fill p a = ap length (elements_all 0 (spliced a)) ∙ sym (places-lengt
 with_places-both : (ps qs : List Place) (es fs : List (List ℕ)) → list_all has_bytes es ≡ true → length (concat es) ≡ length ps →
     with_places (ps ++ qs) (es ++ fs) ≡ with_places ps es ++ with_places qs fs
 with_places-both [] qs [] fs some same = refl
-with_places-both (p ∷ ps) qs [] fs some same = absurd (omega arith)
 with_places-both ps qs ([] ∷ es) fs some same = absurd (false≢true some)
-with_places-both [] qs ((b ∷ e) ∷ es) fs some same = absurd (omega arith)
 with_places-both (p ∷ ps) qs ((b ∷ e) ∷ es) fs some same =
     grind (arith, length-append e (concat es), drop-append-le (length e) ps qs, with_places-both (drop (length e) ps) qs es fs some, length-drop (length e) ps)
+with_places-both ps qs es fs some same = absurd (omega arith)
 
 -- a line feed after a whole text
 
@@ -104,21 +101,15 @@ none-feed ps (e ∷ es) none =
     grind (arith, nat_tests, list_any-append (λ b. b == line_feed) e (concat es), none-feed (drop (length e) ps) es, bytes_eq-Decides e (line_feed ∷ []))
 
 none-feed-at : (p : Place) (l : List ℕ) → IsOneLine l → list_all (λ e. not (is_feed e)) (elements_at p l) ≡ true
-none-feed-at p l joined =
-    none-feed (places p l) (elements l) (subst IsInLine (sym (elements_all 0 (spliced l))) (taken-spliced l joined))
+none-feed-at p l joined = search (rules, none-feed, elements_all, taken-spliced)
 
 -- the first line of a text, if a line feed after a whole line ends it
 pub line-first : (p : Place) (l rest : List ℕ) → is_whole l ≡ true → IsOneLine l → keep_lines l (line_feed ∷ []) ≡ true →
     lines_from p (l ++ line_feed ∷ rest)
     ≡ record { tokens = tokens_at p l; end = Some (place_after p l) } ∷ lines_from (next_place (place_after p l) line_feed) rest
 line-first p l rest whole joined kept =
-    let q = place_after p l in
-    ap (λ es. lines [] (with_places (places p (l ++ line_feed ∷ rest)) es)) (feed-elements l rest whole kept)
-    ∙ ap (λ ps. lines [] (with_places ps (elements l ++ (line_feed ∷ []) ∷ elements rest)))
-    (places-both p l (line_feed ∷ rest) (keep-feed l rest kept) ∙ ap (λ ps. places p l ++ ps) (feed-places q rest))
-    ∙ ap (lines []) (with_places-both (places p l) (q ∷ places (next_place q line_feed) rest) (elements l) ((line_feed ∷ []) ∷ elements rest)
-    (elements-some 0 (spliced l)) (elements-fill p l))
-    ∙ lines-over [] (elements_at p l) (record { text = line_feed ∷ []; place = q } ∷ elements_at (next_place q line_feed) rest) (none-feed-at p l joined)
+    rw (feed-elements l rest whole kept, places-both p l (line_feed ∷ rest) (keep-feed l rest kept))
+    (search (rules, feed-places, with_places-both, elements-some, elements-fill, lines-over, none-feed-at))
 
 -- the last line
 pub line-last : (p : Place) (l : List ℕ) → IsOneLine l → lines_from p l ≡ record { tokens = tokens_at p l; end = None } ∷ []
@@ -129,7 +120,7 @@ line-last p l joined =
 
 each-line-from : (line text : List ℕ) (p : Place) → IsOneLine line → AllByRecursion (λ l. is_whole l ≡ true) (joined_lines line text) →
     lines_from p (line ++ text) ≡ lines_of_each p (joined_lines line text)
-each-line-from line [] p one whole = ap (lines_from p) (append-nil line) ∙ line-last p line one
+each-line-from line [] p one whole = search (rules, line-last)
 each-line-from line (b ∷ bs) p one whole =
     grind (arith, nat_tests, each-line-from [] bs (next_place (place_after p line) line_feed) refl, each-line-from (line ++ b ∷ []) bs p, one-more line b one, line-first p line bs, joined-is [] bs, append_assoc line (b ∷ []) bs)
 

@@ -9,18 +9,18 @@ use Rattle.std.proofs.lemmas.Bool.{not-true, false_from_ne_true, eqb-true}
 use Rattle.std.proofs.lemmas.List.Elements.{filter-append}
 use Rattle.c_tokens.specs.Bytes.{space, slash, backslash}
 use Rattle.c_tokens.specs.Bytes.{is_hexadecimal, is_word_byte, is_quote, is_sign, is_exponent}
-use Rattle.c_tokens.specs.Grammar.{begins_hexadecimal, begins_universal_name, has_universal_names, is_identifier_byte}
+use Rattle.c_tokens.specs.Grammar.{begins_hexadecimal, has_universal_names, is_identifier_byte}
 use Rattle.c_tokens.specs.Grammar.{begins_number, is_number_byte, signs_follow_exponents, apostrophes_separate, is_number, is_quoted, ends_quoted}
-use Rattle.c_tokens.specs.Grammar.{has_prefix, is_punctuator, is_token, is_comment, is_element}
+use Rattle.c_tokens.specs.Grammar.{has_prefix, is_token, is_comment, is_element}
 use Rattle.c_tokens.specs.Reading.{spliced, longest, elements_from, tokens}
-use Rattle.c_tokens.specs.Touching.{is_operator, is_one, is_plain}
+use Rattle.c_tokens.specs.Touching.{is_operator, is_plain}
 use Rattle.c_tokens.specs.Borders.{is_unfinished, last_element, last_byte, is_plain_byte, are_never_in_one}
 use Rattle.c_tokens.specs.Borders.{is_at_operator, number_goes_on, is_border, have_border, are_apart, has_bytes, are_all_apart}
 use Rattle.c_tokens.proofs.ReadingLemmas.{NoLonger, elements-front, elements-append}
 use Rattle.c_tokens.proofs.GrammarLemmas.{identifier-bytes, number-parts, number-from, number-first, punctuator-is}
 use Rattle.c_tokens.proofs.GrammarLemmas.{identifier-bytes, begins_prefix, IsLiteral, ends-once}
 use Rattle.c_tokens.proofs.LongerLemmas.{element-cases, all-last, all-front, all-last-byte, separators, operators, listed-not}
-use Rattle.c_tokens.proofs.LongerLemmas.{comment-open, AreSeveral, two-bytes, quote-not}
+use Rattle.c_tokens.proofs.LongerLemmas.{comment-open, AreSeveral, two-bytes}
 use Rattle.c_tokens.proofs.ElementLemmas.{single-element, comment-element, token-element, one-element, plain-element}
 use Rattle.c_tokens.proofs.ElementLemmas.{spliced-both}
 use Rattle.std.proofs.lemmas.Bool.Decides.{nat_tests}
@@ -75,20 +75,11 @@ module _ (test : ℕ → Bool) (hexadecimal : (b : ℕ) → is_hexadecimal b ≡
     hexadecimal-front (suc n) x [] is stops h = grind (arith, hexadecimal c)
     hexadecimal-front (suc n) x (b ∷ a) is stops h = grind (arith, hexadecimal b, hexadecimal-front n b a)
 
-    letter-front : (letter n b : ℕ) (a : List ℕ) → test letter ≡ true → (test (last_byte b a) && test c) ≡ false →
-        (b == letter && begins_hexadecimal n (a ++ c ∷ q)) ≡ true → (b == letter && begins_hexadecimal n a) ≡ true
-    letter-front letter n b a is stops h = grind (arith, nat_tests, hexadecimal-front n b a)
-
-    universal-front : (x : ℕ) (a : List ℕ) → (test (last_byte x a) && test c) ≡ false →
-        begins_universal_name (x ∷ a ++ c ∷ q) ≡ true → begins_universal_name (x ∷ a) ≡ true
-    universal-front x a stops h =
-        search (rules, or_cases, or_left, or_right, letter-front 117 4 x a small stops, letter-front 85 8 x a capital stops)
-
     names-front : (x : ℕ) (a : List ℕ) → (test (last_byte x a) && test c) ≡ false →
         has_universal_names (x ∷ a ++ c ∷ q) ≡ true → has_universal_names (x ∷ a) ≡ true
     names-front x [] stops h = grind (arith, nat_tests)
     names-front x (y ∷ a) stops h =
-        search (rules, and_parts, and_from, universal-front y a stops, names-front y a stops)
+        search (rules, and_parts, and_from, or_cases, or_left, or_right, nat_tests, hexadecimal-front 4 y a, hexadecimal-front 8 y a, names-front y a stops)
 
 -- where a text ends, a sign still follows an exponent
 signs-front : (x : ℕ) (a : List ℕ) (c : ℕ) (q : List ℕ) → signs_follow_exponents (x ∷ a ++ c ∷ q) ≡ true →
@@ -126,41 +117,28 @@ number-goes-on x a c q at h =
     let parts = number-parts (x ∷ a ++ c ∷ q) h in
     let signs = (signs-front x a c q parts.2).1 in
     let bytes = and_parts (is_number_byte (last_byte x a)) (is_number_byte c) (all-border is_number_byte x a c q parts.1) in
-    elim (or_cases (is_operator (last_byte x a) && is_plain_byte c) (is_plain_byte (last_byte x a) && is_operator c) at) [
-      | inl first ↦ search (rules, and_parts, or_right, operator-sign)
-      | inr second ↦ search (rules, operator-sign, and_parts, or_cases)
-    ]
+    search (rules, operator-sign, and_parts, or_cases, or_right)
 
 -- quoted texts
 
--- a prefix, a quote, and the bytes after it, which may go on up to a closing quote
-record IsOpened (a : List ℕ) (c : ℕ) (q : List ℕ) : Type 0 where
-  prefix : List ℕ
-  quote : ℕ
-  rest : List ℕ
-  word : list_all is_word_byte prefix ≡ true
-  begins : begins_prefix prefix ≡ true
-  quotes : is_quote quote ≡ true
-  same : a ≡ prefix ++ quote ∷ rest
-  ends : ends_quoted quote (rest ++ c ∷ q) ≡ true
+-- the first text is this prefix, this quote, and bytes which may go on up to a closing quote
+abbrev IsOpened : List ℕ → ℕ → List ℕ → ℕ → List ℕ → Type 0
+IsOpened prefix quote a c q =
+    (rest : List ℕ) × (a ≡ prefix ++ quote ∷ rest) × (ends_quoted quote (rest ++ c ∷ q) ≡ true)
 
 -- the second text begins within the prefix of a literal, or at its quote
 abbrev IsInPrefix : List ℕ → ℕ → List ℕ → Type 0
 IsInPrefix a c q = (list_all is_plain_byte (a ++ c ∷ []) ≡ true) × ((is_word_byte c || ends_quoted c q) ≡ true)
 
-literal-parts : (a : List ℕ) (c : ℕ) (q : List ℕ) → IsLiteral (a ++ c ∷ q) → IsOpened a c q ⊎ IsInPrefix a c q
-literal-parts a c q l = elim (go l.prefix a l.word l.has) [ inr inside ↦ inr inside | inl opened ↦ grind (arith, nat_tests) ]
-  where
-    go : (prefix a : List ℕ) → list_all is_word_byte prefix ≡ true → has_prefix prefix (is_quoted l.quote) (a ++ c ∷ q) ≡ true →
-        ((rest : List ℕ) × (a ≡ prefix ++ l.quote ∷ rest) × (ends_quoted l.quote (rest ++ c ∷ q) ≡ true)) ⊎ IsInPrefix a c q
-    go [] [] word has =
-        let parts = and_parts (c == l.quote) (ends_quoted l.quote q) has in
-        let same = eqb-true c l.quote parts.0 in
-        let plain = or_right (is_word_byte c) (is_quote c) (ap is_quote same ∙ l.quotes) in
-        inr (and_from (is_plain_byte c) true plain refl, or_right (is_word_byte c) (ends_quoted c q) (ap (λ k. ends_quoted k q) same ∙ parts.1))
-    go [] (x ∷ a) word has = grind (arith, nat_tests)
-    go (p ∷ ps) [] word has = search (rules, and_parts, and_from, or_left, eqb-true)
-    go (p ∷ ps) (x ∷ a) word has = search (rules, and_parts, and_from, or_left, eqb-true, go ps a)
+literal-parts : (quote : ℕ) → is_quote quote ≡ true → (prefix a : List ℕ) (c : ℕ) (q : List ℕ) → list_all is_word_byte prefix ≡ true →
+    has_prefix prefix (is_quoted quote) (a ++ c ∷ q) ≡ true → IsOpened prefix quote a c q ⊎ IsInPrefix a c q
+literal-parts quote is [] [] c q word has =
+    let parts = and_parts (c == quote) (ends_quoted quote q) has in
+    inr (grind (arith, nat_tests), or_right (is_word_byte c) (ends_quoted c q) (rw (eqb-true c quote parts.0) parts.1))
+literal-parts quote is [] (x ∷ a) c q word has = grind (arith, nat_tests)
+literal-parts quote is (p ∷ ps) [] c q word has = search (rules, and_parts, and_from, or_left, eqb-true)
+literal-parts quote is (p ∷ ps) (x ∷ a) c q word has =
+    search (rules, and_parts, and_from, or_left, eqb-true, literal-parts quote is ps a)
 
 opened-first : (prefix : List ℕ) (Q : ℕ) (z : List ℕ) → begins_prefix prefix ≡ true → is_quote Q ≡ true →
     (is_comment (prefix ++ Q ∷ z) ≡ false) × (is_number (prefix ++ Q ∷ z) ≡ false)
@@ -174,12 +152,12 @@ opened-longer : (prefix : List ℕ) (Q : ℕ) (z : List ℕ) → list_all is_wor
 opened-longer prefix Q z word begins quote ends several =
     false_from_ne_true (is_element (prefix ++ Q ∷ z)) λ is. element-cases (prefix ++ Q ∷ z) several is
     (both_ways _ (opened-first prefix Q z begins quote).0)
-    (λ identifier. both_ways (is_identifier_byte Q) (quote-not is_identifier_byte refl refl Q quote)
+    (λ identifier. both_ways (is_identifier_byte Q) (grind (arith, nat_tests))
     (all-last is_identifier_byte prefix Q z (identifier-bytes (prefix ++ Q ∷ z) identifier)))
     (both_ways _ (opened-first prefix Q z begins quote).1)
-    (λ literal. elim (literal-parts prefix Q z literal) [
-      | inl o ↦ grind (arith, nat_tests, both_ways, quote-not, all-last)
-      | inr inside ↦ search (rules, both_ways, or_from, quote-not)
+    (λ l. elim (literal-parts l.quote l.quotes l.prefix prefix Q z l.word l.has) [
+      | inl o ↦ grind (arith, nat_tests, both_ways, all-last)
+      | inr inside ↦ search (rules, both_ways, or_from, nat_tests)
     ])
     (λ punctuator. let none = punctuator-is (list_all (λ b. not (is_plain_byte b))) refl
     (prefix ++ Q ∷ z) punctuator in
@@ -189,20 +167,14 @@ opened-longer prefix Q z word begins quote ends several =
 unended : (Q : ℕ) (rest : List ℕ) (c : ℕ) (q : List ℕ) → is_quote Q ≡ true → ends_quoted Q (rest ++ c ∷ q) ≡ true →
     (z w : List ℕ) → rest ≡ z ++ w → ends_quoted Q z ≡ false
 unended Q rest c q quote ends z w same = false_from_ne_true (ends_quoted Q z) λ ended.
-    both_ways (ends_quoted Q (rest ++ c ∷ q))
-    (ap (λ t. ends_quoted Q (t ++ c ∷ q)) same ∙ ap (ends_quoted Q) (append_assoc z w (c ∷ q)) ∙ go w ended) ends
-  where
-    go : (w : List ℕ) → ends_quoted Q z ≡ true → ends_quoted Q (z ++ (w ++ c ∷ q)) ≡ false
-    go [] ended = ends-once Q z c q (quote-not (λ b. b == backslash) refl refl Q quote) ended
-    go (d ∷ w) ended = ends-once Q z d (w ++ c ∷ q) (quote-not (λ b. b == backslash) refl refl Q quote) ended
+    both_ways _ (ends-once Q z w c q (grind (arith, nat_tests)) ended) (search (rules, append_assoc))
 
 quote-unfinished : (Q : ℕ) (rest : List ℕ) (c : ℕ) (q : List ℕ) → is_quote Q ≡ true → ends_quoted Q (rest ++ c ∷ q) ≡ true →
     list_any is_unfinished (elements_from 0 (Q ∷ rest)) ≡ true
 quote-unfinished Q rest c q quote ends =
     ap (list_any is_unfinished) (elements-front Q [] rest (single-element Q)
     (λ e z w same. opened-longer [] Q (e ∷ z) refl refl quote (unended Q rest c q quote ends (e ∷ z) w same)
-    (refl, refl))) ∙ or_left (is_unfinished (Q ∷ [])) (list_any is_unfinished (elements_from 0 rest))
-    (or_right (is_comment (Q ∷ space ∷ [])) (is_quote Q) quote)
+    (refl, refl))) ∙ search (rules, or_left, or_right)
 
 opened-unfinished : (prefix : List ℕ) (Q : ℕ) (rest : List ℕ) (c : ℕ) (q : List ℕ) → list_all is_word_byte prefix ≡ true →
     begins_prefix prefix ≡ true → is_quote Q ≡ true → ends_quoted Q (rest ++ c ∷ q) ≡ true →
@@ -211,7 +183,7 @@ opened-unfinished [] Q rest c q word begins quote ends = quote-unfinished Q rest
 opened-unfinished (p ∷ ps) Q rest c q word begins quote ends =
     let plain : is_plain (p ∷ ps) ≡ true = grind (arith, nat_tests) in
     ap (list_any is_unfinished) (elements-front p ps (Q ∷ rest) (plain-element (p ∷ ps) plain) none)
-    ∙ or_right (is_unfinished (p ∷ ps)) (list_any is_unfinished (elements_from 0 (Q ∷ rest))) (quote-unfinished Q rest c q quote ends)
+    ∙ search (rules, or_right, quote-unfinished Q rest c q)
   where
     none : NoLonger is_element (p ∷ ps) (Q ∷ rest)
     none e z w same = subst (λ k. is_element (p ∷ ps ++ k ∷ z) ≡ false) (ap (λ l. get_or l 0 0) same)
@@ -234,11 +206,6 @@ met-at : (inside : Bool) (x : ℕ) (a : List ℕ) (c : ℕ) (q : List ℕ) → n
 met-at inside x [] c q none = search (rules, and_parts, not-true)
 met-at inside x (y ∷ a) c q none = search (rules, and_parts, met-at true y a c q)
 
-punctuator-border : (x : ℕ) (a : List ℕ) (c : ℕ) (q : List ℕ) → is_met (has_bytes a) (last_byte x a) c ≡ true →
-    is_punctuator (x ∷ a ++ c ∷ q) ≡ true → ⊥
-punctuator-border x a c q met h =
-    both_ways (is_met (has_bytes a) (last_byte x a) c) (met-at false x a c q (punctuator-is (none_met false) refl (x ∷ a ++ c ∷ q) h)) met
-
 border-cases : (before : List ℕ) (x : ℕ) (a : List ℕ) (c : ℕ) → let element = last_element before (elements_from 0 (x ∷ a)) in
     is_border element (last_byte x a) c ≡ true → (is_cut (has_bytes a) (last_byte x a) c ≡ true)
     ⊎ ((not (is_number element && number_goes_on (last_byte x a) c) && is_at_operator (last_byte x a) c) ≡ true)
@@ -260,8 +227,8 @@ comment-border x (y ∷ a) c q closed met comment = grind (arith, nat_tests, com
 literal-border : (x : ℕ) (a : List ℕ) (c : ℕ) (q : List ℕ) → list_any is_unfinished (elements_from 0 (x ∷ a)) ≡ false →
     is_met (has_bytes a) (last_byte x a) c ≡ true → IsLiteral (x ∷ a ++ c ∷ q) → ⊥
 literal-border x a c q whole met literal =
-    elim (literal-parts (x ∷ a) c q literal) [
-      | inl o ↦ grind (arith, nat_tests, opened-unfinished o.prefix o.quote o.rest c q o.word o.begins o.quotes o.ends)
+    elim (literal-parts literal.quote literal.quotes literal.prefix (x ∷ a) c q literal.word literal.has) [
+      | inl o ↦ grind (arith, nat_tests, opened-unfinished literal.prefix literal.quote o.0 c q literal.word literal.begins literal.quotes o.2)
       | inr inside ↦ none-fails is_plain_byte x a c [] inside.0 (met-fails is_plain_byte refl refl (has_bytes a) (last_byte x a) c met)
     ]
 
@@ -290,7 +257,8 @@ border-literal before x a c q closed border is =
     (λ identifier. absurd (none-fails is_identifier_byte x a c q (identifier-bytes t identifier)
     (met-fails is_identifier_byte refl refl (has_bytes a) (last_byte x a) c met)))
     (λ number. absurd (number-border before x a c q border number)) (λ literal. literal)
-    (λ punctuator. absurd (punctuator-border x a c q met punctuator))
+    (λ punctuator. absurd (both_ways (is_met (has_bytes a) (last_byte x a) c)
+    (met-at false x a c q (punctuator-is (none_met false) refl t punctuator)) met))
 
 border-longer : (before : List ℕ) (x : ℕ) (a : List ℕ) (c : ℕ) (q : List ℕ) →
     list_any is_unfinished (elements_from 0 (x ∷ a)) ≡ false →
@@ -301,8 +269,7 @@ border-longer before x a c q whole border =
   where
     closed : is_element (x ∷ a) ≡ true → is_comment (x ∷ a ++ space ∷ []) ≡ false
     closed one =
-        let last = or_parts (is_unfinished (x ∷ a)) false (ap (list_any is_unfinished) (sym (one-element x a one)) ∙ whole) in
-        (or_parts (is_comment (x ∷ a ++ space ∷ [])) (is_one is_quote (x ∷ a)) last.0).0
+        let last = ap (list_any is_unfinished) (sym (one-element x a one)) ∙ whole in search (rules, or_parts)
 
 -- The elements of both texts. `Borders n a`: no element is unfinished, and a border is at the end.
 

@@ -2,7 +2,7 @@
 use Rattle.std.proofs.Common.{rules}
 use Rattle.std.proofs.Common.{arith}
 use Rattle.std.proofs.Common.{◌≡◌, ℕ, Bool, true, false, List, [], ◌∷◌, ◌++◌, codes}
-use Rattle.std.proofs.Common.{refl, ap, ◌∙◌}
+use Rattle.std.proofs.Common.{refl}
 use Rattle.std.specs.Prelude.{◌&&◌, ◌||◌, ◌==◌}
 use Rattle.std.specs.List.{list_any, list_all}
 use Rattle.std.specs.Str.{bytes_eq}
@@ -103,15 +103,15 @@ literal-last x a l = go l.prefix x a l.has
   where
     go : (prefix : List ℕ) (x : ℕ) (a : List ℕ) → has_prefix prefix (is_quoted l.quote) (x ∷ a) ≡ true → is_quote (last_byte x a) ≡ true
     go [] x [] has = grind (arith, nat_tests)
-    go [] x (b ∷ a) has =
-        ap is_quote (ends-last l.quote b a (and_parts (x == l.quote) (ends_quoted l.quote (b ∷ a)) has).1) ∙ l.quotes
+    go [] x (b ∷ a) has = search (rules, ends-last, and_parts, l.quotes)
     go (p ∷ []) x [] has = grind (arith, nat_tests)
     go (p ∷ q ∷ ps) x [] has = grind (arith, nat_tests)
     go (p ∷ ps) x (b ∷ a) has = search (rules, and_parts, go ps b a)
 
 -- a quoted text ends at its first closing quote
-pub ends-once : (quote : ℕ) (a : List ℕ) (c : ℕ) (q : List ℕ) → (quote == backslash) ≡ false → ends_quoted quote a ≡ true →
-    ends_quoted quote (a ++ c ∷ q) ≡ false
-ends-once quote [] c q other h = absurd (false≢true h)
-ends-once quote (b ∷ []) c q other h = grind (arith, nat_tests)
-ends-once quote (b ∷ d ∷ a) c q other h = grind (arith, nat_tests, ends-once quote a c q other, ends-once quote (d ∷ a) c q other)
+pub ends-once : (quote : ℕ) (a w : List ℕ) (c : ℕ) (q : List ℕ) → (quote == backslash) ≡ false → ends_quoted quote a ≡ true →
+    ends_quoted quote (a ++ (w ++ c ∷ q)) ≡ false
+ends-once quote [] w c q other h = absurd (false≢true h)
+ends-once quote (b ∷ []) [] c q other h = grind (arith, nat_tests)
+ends-once quote (b ∷ []) (d ∷ w) c q other h = grind (arith, nat_tests)
+ends-once quote (b ∷ d ∷ a) w c q other h = grind (arith, nat_tests, ends-once quote a w c q other, ends-once quote (d ∷ a) w c q other)

@@ -7,7 +7,7 @@ use Rattle.std.specs.Prelude.{not, ◌==◌}
 use Rattle.std.specs.List.{list_any, list_all}
 use Rattle.std.proofs.lemmas.Bool.{or_cases, and_parts, both_ways, false≢true}
 use Rattle.std.proofs.lemmas.List.Folds.{list_all-append}
-use Rattle.c_tokens.specs.Bytes.{space, double_quote, apostrophe, line_feed, is_quote}
+use Rattle.c_tokens.specs.Bytes.{space, line_feed}
 use Rattle.c_tokens.specs.Grammar.{is_identifier, is_number}
 use Rattle.c_tokens.specs.Grammar.{is_punctuator, is_other_character, is_token}
 use Rattle.c_tokens.specs.Grammar.{ends_once, is_comment, is_white_character, is_element}
@@ -51,9 +51,6 @@ pub listed-not : (test : ℕ → Bool) (bs : List ℕ) → list_all (λ b. not (
     list_any (λ c. b == c) bs ≡ true → test b ≡ false
 listed-not test [] none b any = absurd (false≢true any)
 listed-not test (c ∷ bs) none b any = grind (arith, nat_tests, listed-not test bs)
-
-pub quote-not : (test : ℕ → Bool) → test double_quote ≡ false → test apostrophe ≡ false → (b : ℕ) → is_quote b ≡ true → test b ≡ false
-quote-not test double single b h = grind (arith, nat_tests)
 
 -- comments
 

@@ -1,8 +1,8 @@
 -- A word that begins with a digit is one number, also with apostrophes between its digits and letters.
 use Rattle.std.proofs.Common.{rules}
 use Rattle.std.proofs.Common.{arith}
-use Rattle.std.proofs.Common.{◌≡◌, ℕ, Bool, true, false, List, [], ◌∷◌, refl, ap}
-use Rattle.std.specs.Prelude.{◌||◌, ◌==◌, not}
+use Rattle.std.proofs.Common.{◌≡◌, ℕ, Bool, true, List, [], ◌∷◌, refl}
+use Rattle.std.specs.Prelude.{◌||◌, ◌==◌}
 use Rattle.std.proofs.lemmas.Bool.{and_parts, and_from, or_left, or_right}
 use Rattle.std.specs.List.{list_all}
 use Rattle.c_tokens.specs.Bytes.{apostrophe, is_digit, is_word_byte}
@@ -15,9 +15,8 @@ abbrev pub is_separated_byte : ℕ → Bool
 is_separated_byte b = is_word_byte b || b == apostrophe
 
 separated-signs : (a : List ℕ) → list_all is_separated_byte a ≡ true → signs_follow_exponents a ≡ true
-separated-signs [] h = refl
-separated-signs (b ∷ []) h = refl
 separated-signs (b ∷ c ∷ a) h = search (rules, and_parts, and_from, or_right, separated-signs (c ∷ a))
+separated-signs _ h = refl
 
 pub separated-names : (a : List ℕ) → list_all is_separated_byte a ≡ true → has_universal_names a ≡ true
 separated-names [] h = refl
@@ -34,9 +33,6 @@ separated-number b a digit all separate =
 pub word-separated : (a : List ℕ) → list_all is_word_byte a ≡ true → list_all is_separated_byte a ≡ true
 word-separated = all-weaker is_word_byte is_separated_byte (λ b. or_left (is_word_byte b) (b == apostrophe))
 
-word-unquoted : (b : ℕ) → is_word_byte b ≡ true → (b == apostrophe) ≡ false
-word-unquoted b h = grind (arith, nat_tests)
-
 -- an apostrophe before a byte of a word separates, if what follows goes on as a number of a word does
 pub separates-more : (c : ℕ) (a : List ℕ) → is_word_byte c ≡ true → list_all is_separated_byte a ≡ true →
     apostrophes_separate (c ∷ a) ≡ true → apostrophes_separate (apostrophe ∷ c ∷ a) ≡ true
@@ -46,5 +42,4 @@ separates-more c (d ∷ a) word all h = grind (arith, nat_tests, and_parts, and_
 -- a byte of a word before what goes on as a number of a word does
 pub separates-word : (b : ℕ) (a : List ℕ) → is_word_byte b ≡ true → apostrophes_separate a ≡ true →
     apostrophes_separate (b ∷ a) ≡ true
-separates-word b [] word h = ap not (word-unquoted b word)
-separates-word b (c ∷ a) word h = search (rules, and_from, or_left, word-unquoted)
+separates-word b a word h = search (rules, nat_tests, and_from, or_left)

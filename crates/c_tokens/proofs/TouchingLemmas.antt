@@ -61,12 +61,10 @@ sign-apart s b h border =
     grind (arith, nat_tests, one-element s [] (single-element s), quote, back)
 
 separator-before : (s : ℕ) (b : List ℕ) → is_separator s ≡ true → have_border (s ∷ []) b ≡ true
-separator-before s [] h = refl
-separator-before s (c ∷ r) h = search (rules, or_left, or_right)
+separator-before s b h = search (rules, or_left, or_right)
 
 separator-next : (a : List ℕ) (s : ℕ) → is_separator s ≡ true → have_border a (s ∷ []) ≡ true
-separator-next [] s h = refl
-separator-next (x ∷ a) s h = search (rules, or_left, or_right)
+separator-next a s h = search (rules, or_left, or_right)
 
 -- after an element that is no number
 operator-border : (x : ℕ) (a : List ℕ) (c : ℕ) (r : List ℕ) → is_element (x ∷ a) ≡ true → (is_digit x || x == full_stop) ≡ false →
@@ -96,8 +94,7 @@ plain-last x a h =
     quoted l = or_right (is_word_byte (last_byte x a)) (is_quote (last_byte x a)) (literal-last x a l)
 
 plain-whole : (t : List ℕ) → is_plain t ≡ true → not (list_any is_unfinished (elements_from 0 t)) ≡ true
-plain-whole [] h = refl
-plain-whole (b ∷ a) h = grind (arith, nat_tests, one-element, plain-element)
+plain-whole t h = search (rules, nat_tests, one-element, plain-element)
 
 plain-border : (t : List ℕ) (o : ℕ) → is_plain t ≡ true → is_operator o ≡ true → have_border t (o ∷ []) ≡ true
 plain-border [] o plain h = refl

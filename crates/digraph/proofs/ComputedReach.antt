@@ -1,6 +1,6 @@
 -- The functions decide what reaches itself, and what reaches a cycle, where each used node is among the nodes.
 use Rattle.std.proofs.Common.{rules}
-use Rattle.std.proofs.Common.{◌≡◌, ◌⊎◌, ◌∙◌, ◌&&◌, Bool, true, List, [], ◌∷◌, inl, inr, ap, arith, Contains}
+use Rattle.std.proofs.Common.{◌≡◌, ◌⊎◌, ◌&&◌, Bool, true, List, [], ◌∷◌, inl, inr, arith, Contains}
 use Rattle.std.specs.Bool.{Decides}
 use Rattle.std.proofs.lemmas.Bool.{cases_Bool}
 use Rattle.std.proofs.lemmas.List.Folds.{Any-from_list_any, list_any_at}
@@ -59,9 +59,7 @@ module _ {X : Type 0} (Uses : X → X → Type 0) (uses : X → X → Bool)
 
     found : (a b : X) → Steps a b → ContainsItself Uses b → reaches_cycle_by uses nodes a ≡ true
     found a b s c =
-        let at = used a s.0 b s.1 s.2 in
-        list_any_at (to_cycle a) nodes at.0 b at.1
-        (ap (to_cycle a) at.2 ∙ grind (arith, complete a s.0 b s.1 s.2, complete b c.0 b c.1 c.2))
+        search (rules, used, list_any_at, complete)
 
     found_from : (a b : X) → Reaches Uses a b → ContainsItself Uses b → reaches_cycle_by uses nodes a ≡ true
     found_from a b here c = found a a c c

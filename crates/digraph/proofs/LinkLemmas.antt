@@ -35,20 +35,16 @@ module _ {X : Type 0} where
       → GoesBack links → 0 < place → place ≤ length links → link ≡ get_or links (place - 1) link
       → chain (reverse links) place ≡ chain (reverse links) link.before ++ link.entry ∷ []
   chain_step links place link back some within read =
-      let size = length-reverse links in
-      let back_to = back (place - 1) link (omega arith) in
-      step_in (reverse links) place link some (omega arith)
-      (read ∙ sym (get_or-reverse links (length (reverse links) - place) link (omega arith)
-      ∙ ap (λ k. get_or links k link) (omega arith)))
-      (omega (arith, back_to, ap (λ (l : Link X). l.before) read))
+      search (rules, length-reverse, step_in, get_or-reverse)
 
   same_rows : (link : Link X) (links : List (Link X)) (lasts : List ℕ) → All (λ place. place ≤ length links) lasts
       → map (chain (link ∷ links)) lasts ≡ map (chain links) lasts
   same_rows link links [] low = refl
   same_rows link links (place ∷ lasts) low =
-      let first : chain (link ∷ links) place ≡ chain links place =
-      chain_below link links place (low 0 0 (omega arith)) in
-      cc (same_rows link links lasts (λ k d h. low (suc k) d (omega arith)))
+      cc (
+        chain_below link links place (low 0 0 (omega arith)),
+        same_rows link links lasts (λ k d h. low (suc k) d (omega arith)),
+      )
 
   pub grows_linked : (links : List (Link X)) (lasts : List ℕ) (n : ℕ) (link : Link X) (place : ℕ)
       → AreLinked links lasts → n < length lasts → link.before ≡ get_or lasts n 0 → place ≡ suc (length links)
@@ -74,8 +70,9 @@ module _ {X : Type 0} where
           (map-set (chain (link ∷ reverse links)) lasts n place
           ∙ (λ i. set (same_rows link (reverse links) lasts low i) n (row i)))
 
-  pub no_rows : (lasts : List ℕ) → IsRowsOf (length lasts) (λ n. []) (rows_of_links {X = X} [] lasts)
-  no_rows lasts = record {
-    size = length-map lasts (chain {X = X} []);
-    row = λ n h. get_or-map (chain {X = X} []) lasts n 0 [] h;
+  pub no_rows : (lasts : List ℕ) (count : ℕ) → length lasts ≡ count
+      → IsRowsOf count (λ n. []) (rows_of_links {X = X} [] lasts)
+  no_rows lasts count e = record {
+    size = length-map lasts (chain {X = X} []) ∙ e;
+    row = λ n h. get_or-map (chain {X = X} []) lasts n 0 [] (omega arith);
   }

@@ -1,26 +1,30 @@
 -- One pass over all nodes, which may change a state. Passes are repeated until one changes nothing.
-use Rattle.std.proofs.Common.{rules}
-use Rattle.std.proofs.Common.{◌≡◌, ◌<◌, ◌≤◌, ◌+◌, ℕ, Bool, true, false, arith}
+use Rattle.std.proofs.lemmas.Bool.Decides.{nat_tests}
+use Rattle.std.proofs.Common.{◌≡◌, ◌<◌, ◌≤◌, ◌+◌, ◌||◌, ℕ, Bool, true, false, arith, refl}
 
 -- The state after each node below `i` was tried once: `left` is the number of nodes that are left, and was `before`.
 -- If no node changed the state, `Tried` holds of each of them.
-pub record Passed (SoFar : Type 0) (Tried : ℕ → Type 0) (before left : ℕ) (any : Bool) (i : ℕ) : Type 0 where
-  pub so_far : SoFar
-  pub fewer : left ≤ before
-  pub more : any ≡ true → left < before
-  pub tried : any ≡ false → (k : ℕ) → k < i → Tried k
+pub record Passed {S : Type 0} (SoFar : S → Type 0) (Tried : S → ℕ → Type 0) (left : S → ℕ)
+    (before : ℕ) (state : S) (any : Bool) (i : ℕ) : Type 0 where
+  pub so_far : SoFar state
+  pub fewer : left state ≤ before
+  pub more : any ≡ true → left state < before
+  pub tried : any ≡ false → (k : ℕ) → k < i → Tried state k
 
--- the next node changed the state
-pub passed_changed : {A B : Type 0} {P Q : ℕ → Type 0} {before left next : ℕ} {any : Bool} {i : ℕ}
-    → Passed A P before left any i → B → next < left → Passed B Q before next true (i + 1)
-passed_changed p so_far less = search rules
-
--- the next node did not change the state
-pub passed_same : {A B : Type 0} {P : ℕ → Type 0} {before left next : ℕ} {any : Bool} {i : ℕ}
-    → Passed A P before left any i → B → next ≡ left → P i → Passed B P before next any (i + 1)
-passed_same {P = P} {i = i} p so_far same here = record {
+-- the next node changed the state, or it was tried and left the state as it is
+pub passed_next : {S : Type 0} {SoFar : S → Type 0} {Tried : S → ℕ → Type 0} {left : S → ℕ} {before : ℕ}
+    {old new : S} {any now : Bool} {i : ℕ} → Passed SoFar Tried left before old any i → SoFar new
+    → (now ≡ true → left new < left old) → (now ≡ false → new ≡ old) → (now ≡ false → Tried old i)
+    → Passed SoFar Tried left before new (any || now) (i + 1)
+passed_next {left = left} {now = true} p so_far less same here = record {
   so_far = so_far;
-  fewer = omega arith;
-  more = λ e. (let less = p.more e in omega arith);
-  tried = search rules;
+  fewer = let fewer = less refl in omega arith;
+  more = λ e. (let fewer = less refl in omega arith);
+  tried = grind (arith, nat_tests);
 }
+passed_next {left = left} {now = false} p so_far less same here = rw (same refl) (record {
+  so_far = p.so_far;
+  fewer = p.fewer;
+  more = grind (arith, nat_tests, p.more);
+  tried = λ e k h. grind (arith, nat_tests, p.tried, here refl);
+})

@@ -1,12 +1,15 @@
 -- Reaching along several uses, and what ranks that never fall exclude.
 use Rattle.std.proofs.Common.{rules}
 use Rattle.std.proofs.Common.{◌<◌, ◌≤◌, ◌∙◌, ℕ, Bool, true, false, List, get_or, set}
-use Rattle.std.proofs.Common.{arith, All, get_or-set_other, length-set}
+use Rattle.std.proofs.Common.{arith, All, get_or-set_other, length-set, ◌≡◌, subst}
 use Rattle.std.proofs.lemmas.Bool.Decides.{nat_tests}
 use Rattle.digraph.specs.Graph.{Graph, HasUse, row_at}
 use Rattle.digraph.specs.Reach.{Reaches, here, on, ContainsItself}
 use Rattle.digraph.specs.Flags.{FlagsOnly}
 use Rattle.digraph.specs.Roots.{NeverFalls}
+
+pub here_at : {X : Type 0} (Uses : X → X → Type 0) (a b : X) → a ≡ b → Reaches Uses a b
+here_at Uses a b e = subst (Reaches Uses a) e here
 
 pub reaches_trans : {X : Type 0} (Uses : X → X → Type 0) (a b c : X)
     → Reaches Uses a b → Reaches Uses b c → Reaches Uses a c

@@ -58,9 +58,7 @@ fn add_each(
 {
     let mut any = false;
     for n in 0..uses.len() {
-        if add_to_order(uses, n, flags, order)? {
-            any = true;
-        }
+        any |= add_to_order(uses, n, flags, order)?;
     }
     Ok(any)
 }

@@ -53,9 +53,7 @@ fn find_each(uses: &Rows<Node>, target: usize, found: &mut [bool]) -> bool
 {
     let mut any = false;
     for n in 0..uses.len() {
-        if find(uses, n, target, found) {
-            any = true;
-        }
+        any |= find(uses, n, target, found);
     }
     any
 }

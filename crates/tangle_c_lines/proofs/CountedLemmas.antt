@@ -76,15 +76,10 @@ module _ (source : SourceRead) (clear : SourceHasNoLineFeed source) (low : Sourc
       let text : List ℕ = bytes_of_file source has_macros has_piece node in
       let each = each_line start_of_text text
       (file_is_read source Full clear has_macros has_piece node whole ready).lines in
+      let seen_lines = subst (AllByRecursion (IsSeen all)) each seen in
       let start : LineCount = record { row = 0; origin = record { file = name; line = 1 } } in
       subst (λ (ls : List LineOfTokens). AllByRecursion (IsOwn (file all)) (reads choices true start ls)) (sym each)
       (loose-read (file all) (front_bytes numbers has_macros) _ _ (Property all has_piece node)
       (search (rules, macros-keep)) (after-macros all has_piece node ready)
-      (at_front start_of_text true start) choices refl (record {
-        at = refl;
-        fits = tt;
-        counts = tt;
-        border = refl;
-        seen = subst (AllByRecursion (IsSeen all)) each seen;
-        classes_are = refl;
-      }) (property all has_piece node))
+      (at_front start_of_text true start) choices refl (search (rules, seen_lines))
+      (property all has_piece node))

@@ -51,6 +51,10 @@ module _ (web : WebRead) (lines : List SourceLine) (same : web.texts ≡ texts_o
       (items_classes (table_of web) used_classes web.texts lines line ss items)
   items-fit node piece marks line [] ss = (tt, tt)
   items-fit node piece marks line (x ∷ items) ss =
+      let on = items-fit node piece marks (line ++ x ∷ []) items in
+      let marked = items-fit node piece (marks + 1) [] items ss in
+      let first = items-fit node piece marks [] items ss in
+      let next = items-fit node piece marks (after_line_end (texts_of lines) line) items ss in
       search (
         rules,
         bytes-fit,
@@ -58,10 +62,10 @@ module _ (web : WebRead) (lines : List SourceLine) (same : web.texts ≡ texts_o
         span-fits,
         digits-line,
         decimal-digits,
-        items-fit node piece marks (line ++ x ∷ []) items,
-        items-fit node piece (marks + 1) [] items ss,
-        items-fit node piece marks [] items ss,
-        items-fit node piece marks (after_line_end (texts_of lines) line) items ss,
+        on,
+        marked,
+        first,
+        next,
       )
 
   abbrev of_node : Title → List PieceRead → List PieceRead

@@ -58,23 +58,20 @@ module _ (texts : List (List ℕ)) (table : TableRead) (used : List ℕ → List
       search (rules, append_assoc, all-front, all-back, items-kept node piece marks [] items rest kept)
   items-kept node piece marks so_far (item.AllMacros ∷ items) rest kept names h = items-kept node piece marks [] items rest kept names h
   items-kept node piece marks so_far (x ∷ items) rest kept names h =
-      subst (AreKept (is_kept so_far)) (sym (append_assoc (map Byte (bytes_in texts x)) (symbols_of node piece marks items) rest))
-      (bytes-kept so_far (bytes_in texts x) (symbols_of node piece marks items ++ rest)
-      (items-kept node piece marks (so_far ++ bytes_in texts x) items rest kept names h))
+      search (
+        rules,
+        append_assoc,
+        bytes-kept so_far,
+        items-kept node piece marks (so_far ++ bytes_in texts x) items rest kept,
+      )
 
   pieces-kept : (node : Title) (piece : ℕ) (pieces : List PieceRead) → AllByRecursion (λ p. MarksAreKept texts [] p.items) pieces
       → AllByRecursion (λ name. KeepOn (used name)) (shape_names (shape_of texts table pieces))
       → KeepOn (pieces_flat used node piece (shape_of texts table pieces))
   pieces-kept node piece [] kept names rest h = h
   pieces-kept node piece (p ∷ pieces) kept names rest h =
-      let others = pieces_flat used node (piece + 1) (shape_of texts table pieces) in
-      let own = flat_map item_names (map (shape_item texts table) p.items) in (
-        refl,
-        subst (AreKept true) (sym (append_assoc (symbols_of node piece 0 p.items) others rest))
-            (items-kept node piece 0 [] p.items (others ++ rest) kept.0
-            (all-front (λ name. KeepOn (used name)) own _ names)
-            (pieces-kept node (piece + 1) pieces kept.1 (all-back (λ name. KeepOn (used name)) own _ names) rest h)),
-      )
+      let more = pieces-kept node (piece + 1) pieces kept.1 in
+      search (rules, append_assoc, items-kept node piece 0 [] p.items, all-front, all-back, more)
 
 module _ (source : SourceRead) (clear : SourceLinesHaveNoLineFeed source.lines) where
   abbrev lines : List SourceLine

@@ -79,8 +79,12 @@ module _ (lines : List SourceLine) (used : ℕ → List ℕ) (macros : List ℕ)
       → ((line : List ℕ) → EndsAs line (t ++ own_bytes own) → MarksAreKept texts line xs) → MarksAreKept texts so_far (own ++ xs)
   own-kept [] xs so_far t inner ends next = next so_far (subst (EndsAs so_far) (sym (append-nil t)) ends)
   own-kept (item.LineEnd ∷ own) xs so_far t inner ends next =
-      own-kept own xs (after_feed so_far) (t ++ line_feed ∷ []) inner (λ kept. feed-kept so_far)
-      (λ line last. next line (subst (EndsAs line) (append_assoc t (line_feed ∷ []) (own_bytes own)) last))
+      search (
+        rules,
+        own-kept own xs (after_feed so_far) (t ++ line_feed ∷ []),
+        feed-kept,
+        append_assoc,
+      )
   own-kept (x ∷ own) xs so_far t inner ends next =
       let more = own-kept own xs (so_far ++ bytes_in texts x) (t ++ bytes_in texts x) in
       search (rules, false≢true, ends-more, append_assoc)
@@ -90,10 +94,8 @@ module _ (lines : List SourceLine) (used : ℕ → List ℕ) (macros : List ℕ)
   part-kept part [] row xs is next whole so_far kept = next whole.1 so_far kept
   part-kept part (x ∷ own) row xs is next whole so_far kept =
       own-kept (x ∷ own) xs so_far [] is.items.inner (λ none. kept (or_left (is_inner x) (is_mark x) (and_parts (is_inner x) (list_all is_inner own) is.items.inner).0))
-      (λ line last. next whole.1 line (λ on. last (ap is_kept is.items.bytes ∙ whole.0.kept (follows is.meets on))))
-    where
-      follows : Meets lines used none macros part xs → is_within xs ≡ true → line_feed_follows texts used macros part ≡ true
-      follows meets on = search rules
+      (λ line last. next whole.1 line (λ on. last (ap is_kept is.items.bytes
+      ∙ whole.0.kept (search (rules, is.meets)))))
 
   use-kept : (e : Token) (x : Item) (es : List Token) (origin : Origin) (row : List Passage) (xs : List Item)
       → IsUseItem e x → AreKept row (item.LineMark origin ∷ xs)

@@ -105,14 +105,13 @@ module _ (f : FileOfBytes) where
       (all-append (IsOwn f) _ _ (read-own r (is_some origin) firsts) (onward _ _
       (region-read r (is_some origin) (slice_index_or choices 0 true) T (tokens_of r) firsts seen.0
       (subst (λ b. ForEachChoice b r.read T) (sym (border-next f r origin c rest k ks s)) pending))
-      (record {
-        at = refl;
-        fits = tt;
-        counts = new seen.0 firsts;
-        border = border-none f (r.here.at + 1);
-        seen = seen.1;
-        classes_are = rest-drop f.classes r.here.at k ks s.classes_are;
-      })))
+      (search (
+        rules,
+        new seen.0 firsts,
+        border-none f,
+        seen.1,
+        rest-drop f.classes r.here.at k ks s.classes_are,
+      ))))
 
   -- a line whose bytes are plain is no `#line`
   no-line : (r : Reader) (es : List PlacedElement) → AllByRecursion (FirstFits r true) es

@@ -42,9 +42,7 @@ module _ (lines : List SourceLine) (low : SourceLinesAreLow lines) where
       search (rules, needed-low (line ++ x ∷ []) (next_line counted) items, needed-low (line ++ x ∷ []) counted items)
 
   part-low : (line : ℕ) (es : List Token) → AreLow (part_items lines line es)
-  part-low line es = needed-low [] (origin_at lines line)
-      (with_all_marks lines None (blanks (texts_of lines) None false (part_tokens (texts_of lines) es)))
-      (all-marks-low None (blanks (texts_of lines) None false (part_tokens (texts_of lines) es)))
+  part-low line es = search (rules, needed-low, all-marks-low)
 
 -- the origins of the marks of a piece
 abbrev pub IsLowPiece : PieceRead → Type 0
@@ -64,8 +62,11 @@ numbers-low test (p ∷ pieces) low = search (rules, numbers-low test pieces)
 names-low : (web : WebRead) (table : TableRead) → AllByRecursion IsLowPiece web.pieces → (names : List (List ℕ))
     → AllByRecursion AreLowNumbers (map (map numbers_of_piece) (map (λ name. pieces_of web table (Named name)) names))
 names-low web table each [] = tt
-names-low web table each (name ∷ names) =
-    (numbers-low (is_piece_of table (Named name)) web.pieces each, names-low web table each names)
+names-low web table each (name ∷ names) = search (
+  rules,
+  numbers-low,
+  names-low web table each names,
+)
 
 -- the origin of each mark is low
 pub mark-low : (source : SourceRead) → SourceLinesAreLow source.lines → (node : Title) (piece mark : ℕ)

@@ -97,14 +97,9 @@ module _ (f : FileOfBytes) where
   -- without the origin less is known
   pub forget : (r : Reader) (origin : Option Origin) (rest : List ℕ) (ks : List ByteClass) → Stands f r origin rest ks
       → Stands f r None rest ks
-  forget r origin rest ks s = record {
-    at = s.at;
-    fits = zip-each _ (Fits f r false) _ _ (λ p b fit. (fit.0, λ known. absurd cc, fit.2)) s.fits;
-    counts = tt;
-    border = s.border;
-    seen = s.seen;
-    classes_are = s.classes_are;
-  }
+  forget r origin rest ks s =
+      let fits = zip-each (Fits f r (is_some origin)) (Fits f r false) _ _
+      (λ p b fit. (fit.0, λ known. absurd cc, fit.2)) s.fits in search (rules, fits, s)
 
   -- one byte, which ends a line or does not
   pub byte-read : (kept : Bool) (c : ℕ) (rest : List ℕ) (k : ByteClass) (ks : List ByteClass)
@@ -136,8 +131,7 @@ module _ (f : FileOfBytes) where
   bytes-read kept (b ∷ bs) rest ks origin T stays onward = λ r choices keeps-so s pending.
       let first = stays-first origin b bs no_class stays in
       byte-read kept b (bs ++ rest) no_class (no_classes bs ++ ks) origin T first.0
-      (subst (λ (o : Option Origin). IsReadOn (keeps b) o (bs ++ rest) (no_classes bs ++ ks) T) (sym first.1)
-      (bytes-read (keeps b) bs rest ks origin T first.2 onward))
+      (rw first.1 (bytes-read (keeps b) bs rest ks origin T first.2 onward))
       r choices keeps-so s (each-choice r.border r.read T _ (λ now h. (tt, h)) pending)
 
   -- any text, where no origin is counted
@@ -162,12 +156,10 @@ module _ (f : FileOfBytes) where
   run : (r : Reader) (bs rest : List ℕ) (ks : List ByteClass) → IsInLine bs → Stands f r None (bs ++ rest)
       (no_classes bs ++ ks)
       → Stands f (record r { line = r.line ++ bs; here = place_after r.here bs }) None rest ks
-  run r [] rest ks none s = subst (λ (l : List ℕ). Stands f (record r { line = l }) None rest ks)
-      (sym (append-nil r.line)) s
+  run r [] rest ks none s = rw (append-nil r.line) s
   run r (b ∷ bs) rest ks none s =
       let parts = or_parts (b == line_feed) (list_any (λ b. b == line_feed) bs) none in
-      subst (λ (l : List ℕ). Stands f (record r { line = l; here = place_after r.here (b ∷ bs) }) None rest ks)
-      (append_assoc r.line (b ∷ []) bs)
+      rw (← append_assoc r.line (b ∷ []) bs)
       (run (with_byte r b no_class) bs rest ks parts.1
       (subst (λ (feed : Bool). Stands f (with_byte r b no_class) (if feed then None else None) (bs ++ rest)
       (no_classes bs ++ ks)) parts.0

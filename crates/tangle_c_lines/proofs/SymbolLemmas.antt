@@ -81,8 +81,7 @@ module _ (web : WebRead) (table : TableRead) (named : AllByRecursion TextHasNoLi
   grouped : (kept : Bool) (origin : Option Origin) (a b c : List ℕ) (x y z : List ByteClass) (T : Bool → Type 0)
       → ReadOn kept origin (a ++ (b ++ c)) (x ++ (y ++ z)) T → ReadOn kept origin ((a ++ b) ++ c) ((x ++ y) ++ z) T
   grouped kept origin a b c x y z T h =
-      subst (λ (bytes : List ℕ). ReadOn kept origin bytes ((x ++ y) ++ z) T) (sym (append_assoc a b c))
-      (subst (λ (ks : List ByteClass). ReadOn kept origin (a ++ (b ++ c)) ks T) (sym (append_assoc x y z)) h)
+      rw (append_assoc a b c, append_assoc x y z) h
 
   -- the bytes of symbols and the last line feed, and their classes
   abbrev later : List Symbol → List ℕ
@@ -137,8 +136,6 @@ module _ (web : WebRead) (table : TableRead) (named : AllByRecursion TextHasNoLi
       byte-read file kept line_feed [] no_class [] origin (λ now. Unit {0}) (λ known none. refl)
       (λ r choices keeps-so s pending. last-read file r choices (with_line_end origin) [] s)
       r choices keeps-so s (each-choice r.border r.read _ _ (λ now h. (tt, tt)) pending)
-  symbols-read [] (k ∷ classes) kept origin fits keep = absurd fits
-  symbols-read (symbol ∷ symbols) [] kept origin fits keep = absurd fits
   symbols-read (Byte b ∷ symbols) (k ∷ classes) kept origin fits keep =
       byte-read file kept b (later symbols) k (more symbols classes) origin
       (λ now. AreAtTheirOrigins numbers now (origin_after numbers now origin (Byte b) k) symbols classes)
@@ -174,3 +171,4 @@ module _ (web : WebRead) (table : TableRead) (named : AllByRecursion TextHasNoLi
       loose-read file numbers.macros (later symbols) (more symbols classes) _ macros_keep
       (symbols-read symbols classes true None fits.1 keep)
       r choices keeps-so (forget file r (with_line_end origin) _ _ s) pending))
+  symbols-read symbols classes kept origin fits keep = absurd fits

@@ -23,8 +23,7 @@ pub macros-keep : (texts : List (List ℕ)) (macros : List (List Item))
     → KeepsFeed (flat_map (macro_bytes texts) macros)
 macros-keep texts [] = refl
 macros-keep texts (items ∷ macros) =
-    keeps-more (macro_bytes texts items) (flat_map (macro_bytes texts) macros) (search (rules, keeps-last))
-    (macros-keep texts macros)
+    search (rules, keeps-more, keeps-last, macros-keep texts macros)
 
 -- `rest` is written after all macros, and read as the texts `ts`.
 module _ (lines : List SourceLine) (rest : List ℕ) (ts : List (List ℕ))

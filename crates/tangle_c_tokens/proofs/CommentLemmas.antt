@@ -83,11 +83,7 @@ comment-front inside rest all ts read =
     let apart = apart-from (comment inside) rest (grind (arith, nat_tests, one-comment, comment-ended))
     (comment-one false inside all) (search (rules, last-append))
     (search (rules, spliced-comment, comment-border)) ts read in
-    record {
-      read = apart.read ∙ ap (λ es. filter is_token es ++ flat_map tokens ts) (one-comment inside all)
-          ∙ ap (λ us. us ++ flat_map tokens ts) (no-token inside);
-      lines = apart.lines;
-    }
+    record { read = apart.read ∙ search (rules, one-comment, no-token); lines = apart.lines }
 
 -- the comments around a piece
 

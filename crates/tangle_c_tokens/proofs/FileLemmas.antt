@@ -95,7 +95,6 @@ module _ (source : SourceRead) (modes : MarkMode)
         → IsReadAsTexts ts rest → IsReadAsTexts (texts_in row ++ ts) (bytes_of piece ++ rest)
     piece-read b occurrence line rest ts are whole names read =
         let origin = origin_at lines line in
-        let opening = opening_bytes b.section in
         let items = items_bytes numbers table used (texts_of lines) (part_items lines line b.tokens) in
         let tail = closing_bytes b.section ++ rest in
         let mark = bytes_after_mark numbers origin in
@@ -116,7 +115,7 @@ module _ (source : SourceRead) (modes : MarkMode)
     pieces-keep : (pieces : List PieceRead) → KeepsFeed (flat_map bytes_of pieces)
     pieces-keep [] = refl
     pieces-keep (piece ∷ pieces) =
-        keeps-more (bytes_of piece) (flat_map bytes_of pieces) (search (rules, closing-keeps)) (pieces-keep pieces)
+        search (rules, keeps-more, closing-keeps, pieces-keep pieces)
 
     -- the bytes of a node are those of its pieces
     written : (node : Title) → expansion_bytes numbers (pieces_flat used node 0 (all_shapes node))
@@ -143,9 +142,7 @@ module _ (source : SourceRead) (modes : MarkMode)
           let others = shape_names (shape_of (texts_of lines) table pieces) in
           let later = flat_map bytes_of pieces in
           subst (λ us. IsReadAsTexts us ((bytes_of piece ++ later) ++ tail))
-          (sym (ap (λ ws. ws ++ us)
-          (map-append (passage_text (texts_of lines) used_text numbers.macros (bytes_after_mark numbers)) own row)
-          ∙ append_assoc (texts_in own) (texts_in row) us))
+          (search (rules, map-append, append_assoc))
           (subst (IsReadAsTexts (texts_in own ++ (texts_in row ++ us)))
           (sym (append_assoc (bytes_of piece) later tail))
           (piece-read b occurrence line (later ++ tail) (texts_in row ++ us) are
@@ -159,9 +156,8 @@ module _ (source : SourceRead) (modes : MarkMode)
           → IsReadAsTexts (texts_in (row_of_node source node) ++ us)
           (expansion_bytes numbers (pieces_flat used node 0 (all_shapes node)) ++ tail)
       node-by-parts reaches line =
-          subst (λ bytes. IsReadAsTexts (texts_in (row_of_node source node) ++ us) (bytes ++ tail))
-          (sym (written node))
-          (node-by lines table node IsRead (λ ready. tail_read) one-more feeds.lines (
+          rw (written node) (node-by lines table node IsRead (λ ready. tail_read) one-more
+          feeds.lines (
             reaches node here,
             each IsWholeName (shape_names (all_shapes node))
                 (λ name uses. line name (λ other onward. reaches other (on uses onward))),
@@ -173,13 +169,9 @@ module _ (source : SourceRead) (modes : MarkMode)
   name-line zero name reaches = record { lines = (refl, tt); kept = refl }
   name-line (suc fuel) name reaches =
       let used : List ℕ → List Symbol = λ name. flat fuel all_shapes (Named name) in
-      let bytes : List ℕ = expansion_bytes numbers (flat (suc fuel) all_shapes (Named name)) in
       let read = node-by-parts used (Named name) [] [] no-text reaches (name-line fuel) in
-      record {
-        lines = subst LinesAreWhole (append-nil bytes) read.lines;
-        kept = subst KeepsFeed (sym (written used (Named name)))
-            (pieces-keep used (pieces_of (web_of source) table (Named name)));
-      }
+      let lines = simp append-nil at read.lines in
+      record { lines = lines; kept = rw (written used (Named name)) (search (rules, pieces-keep)) }
 
   node-then : (node : Title) → IsExpandableNode all_shapes node → ReachesWholePieces source node
       → (tail : List ℕ) (us : List (List ℕ)) → IsReadAsTexts us tail →
@@ -187,8 +179,7 @@ module _ (source : SourceRead) (modes : MarkMode)
       (expansion_bytes numbers (flat_of all_shapes node) ++ tail)
   node-then node expandable reaches tail us read =
       let used : List ℕ → List Symbol = λ name. flat_of all_shapes (Named name) in
-      subst (λ symbols. IsReadAsTexts (texts_in used (row_of_node source node) ++ us)
-      (expansion_bytes numbers symbols ++ tail)) (sym (flat_by_uses levels all_shapes node expandable.shallow))
+      rw (flat_by_uses levels all_shapes node expandable.shallow)
       (node-by-parts used node tail us read reaches (name-line levels))
 
   pub node_is_read : NodesAreReadByParts source modes

@@ -182,19 +182,22 @@ module _ (lines : List SourceLine) (used : ℕ → List ℕ) (mark : Origin → 
         let more = text-more (token_bytes texts (written_for texts used macros)) items e in
         let ends = ap (ends_back false) more ∙ back-append false (text items) t in
         record {
-          so_far = record {
-            bytes = flat_map-append item_bytes own xs ∙ (λ i. o.bytes i ++ of_e i) ∙ sym more;
-            inner = list_all-append is_inner own xs ∙ and_from _ _ o.inner inner_e;
-            are = list_all-append is_item items (e ∷ []) ∙ and_from _ _ o.are (rw no_use refl);
-            one = ap (feeds_taken false) more ∙ taken-append false (text items) t ∙ and_from _ _ o.one on.0;
-          };
+          so_far = search (
+            rules,
+            flat_map-append,
+            list_all-append,
+            more,
+            taken-append,
+            and_from,
+            o,
+            of_e,
+            on.0,
+          );
           later = subst (λ b. AreOnLine texts b es) (sym ends) on.1.1;
           some = ap is_some before;
           before = before ∙ sym (last-item None items e);
-          closed = λ none. ap (is_closed texts used macros) before
-              ∙ rw (no_use, sym (ap (is_open texts) before) ∙ none) refl;
-          back = λ is. ends ∙ back-more (ends_back false (text items)) t
-              (on.1.0 (sym (ap (is_continued texts) before) ∙ is));
+          closed = λ none. grind (arith, before, no_use);
+          back = λ is. grind (arith, ends, back-more, on, before);
           white = λ is. absurd (false≢true (sym white ∙ is));
         }
 
@@ -227,15 +230,8 @@ module _ (lines : List SourceLine) (used : ℕ → List ℕ) (mark : Origin → 
           let xs : List Item = items_from (after_white at) es in
           let same = ap (λ e. is_continued texts e && ends_line es) o.before in
           cond_both (is_continued texts (last_or None items) && ends_line es) _ _ (λ row. P row (own ++ xs))
-          (λ is. next.within items own (after_white at) (record {
-            so_far = o.so_far;
-            later = more-on_line texts es _ o.later;
-            some = o.some;
-            before = o.before;
-            closed = o.closed;
-            back = o.back;
-            white = λ white. same ∙ is;
-          }))
+          (λ is. let on : (is_continued texts at.before && ends_line es) ≡ true = same ∙ is in
+          next.within items own (after_white at) (search (rules, o, more-on_line texts es, on)))
           (λ is. close items (token.White ∷ es) own _ at (token.White ∷ es) _ o
           (meets-white items (token.White ∷ es) own at _ o es refl refl)
           (next.closed (after_white at) (same ∙ is) o.later));
@@ -252,10 +248,8 @@ module _ (lines : List SourceLine) (used : ℕ → List ℕ) (mark : Origin → 
           cond_both (is_continued texts (last_or None items)) _ _ (λ row. P row (own ++ xs))
           (λ is. rw (same ∙ is) (subst (P _) (append_assoc own (item.LineEnd ∷ []) (items_from (after_continued line at) es))
           (next.within (items ++ token.LineEnd line ∷ []) (own ++ item.LineEnd ∷ []) (after_continued line at)
-          (more-open items own (item.LineEnd ∷ []) (token.LineEnd line) _ es o.so_far (
-            ap (λ b. (false || b) && true) (o.back (same ∙ is)),
-            ((λ back. absurd (false≢true back)), o.later),
-          ) refl refl refl refl refl))))
+          (more-open items own (item.LineEnd ∷ []) (token.LineEnd line) _ es o.so_far
+          (search (rules, o.back (same ∙ is), o.later, false≢true)) refl refl refl refl refl))))
           (λ is. close items (token.LineEnd line ∷ es) own _ at _ _ o
           (meets-feed items (token.LineEnd line ∷ es) line at es refl) (ended at (same ∙ is) o.later));
     }
@@ -293,8 +287,7 @@ module _ (lines : List SourceLine) (used : ℕ → List ℕ) (mark : Origin → 
           (λ b. blank _ _ (first at on)) (λ b. first at on));
       within = λ items own at o.
           let none : (is_some at.before && at.white) ≡ false = grind (arith, line, o.white) in
-          subst (λ xs. P (row_of items xs (e ∷ es)) (own ++ xs))
-          (sym (at-item at e es solid ∙ ap (λ b. blanked b (own_items e at es)) none)) (inside items own at o);
+          rw (at-item at e es solid, none) (inside items own at o);
     }
 
     lay-item : (e : Token) (es : List Token) → is_front_gap e ≡ false → is_use e ≡ false → ends_line (e ∷ es) ≡ false
@@ -336,8 +329,9 @@ module _ (lines : List SourceLine) (used : ℕ → List ℕ) (mark : Origin → 
     lays : (es : List Token) → Lays es
     lays [] = record {
       closed = λ at is on. at-end at;
-      within = λ items own at o. subst (λ row. P row (own ++ items_from at [])) (append-nil (map OfPart (group_before [] items)))
-          (close items [] own _ at [] [] o (meets-end items [] own at [] o refl) (at-end at));
+      within = λ items own at o.
+          simp append-nil at (close items [] own _ at [] [] o (meets-end items [] own at [] o refl)
+          (at-end at));
     }
     lays (token.White ∷ es) = lay-white es (lays es)
     lays (token.LineEnd line ∷ es) = lay-end line es (lays es)
@@ -350,6 +344,5 @@ module _ (lines : List SourceLine) (used : ℕ → List ℕ) (mark : Origin → 
     pub piece-lays : (line : ℕ) (es : List Token) → AreOnLine texts false (part_tokens texts es)
         → P (row_of [] (part_items lines line es) (part_tokens texts es)) (part_items lines line es)
     piece-lays line es on =
-        subst (λ xs. P (row_of [] xs (part_tokens texts es)) xs) (sym (part_items-by_origin lines line es))
-        ((lays (part_tokens texts es)).closed
+        rw (part_items-by_origin lines line es) ((lays (part_tokens texts es)).closed
         (record { before = None; white = false; turn = _; counted = origin_at lines line }) refl on)

@@ -165,8 +165,9 @@ module _ (texts : List (List ℕ)) (tail : List ℕ) (ts : List (List ℕ))
       ((items : List Token) → groups_after items (e ∷ es) ≡ groups_after (items ++ e ∷ []) es)
       → ReadsWithin es → Reads (e ∷ es)
   at-item e es item more within = record {
-    front = λ on in_name white alone. subst (IsReadAsTexts (texts_in (groups_after [] (e ∷ es)) ++ ts))
-        (sym (front-item in_name white e es item)) (first on (in_name && not white && is_name_part e) alone);
+    front = λ on in_name white alone.
+        rw (front-item in_name white e es item) (first on (in_name && not white && is_name_part e)
+        alone);
     within = λ in_name items before last on alone.
         let after : List ℕ = bytes_from (in_name && true && is_name_part e) (Some e) false es in
         let t : List ℕ = group_text texts (items ++ before ∷ []) in
@@ -199,17 +200,15 @@ module _ (texts : List (List ℕ)) (tail : List ℕ) (ts : List (List ℕ))
   reads : (es : List Token) → Reads es
   reads [] = record {
     front = λ on in_name white alone. feed-front tail ts read;
-    within = λ in_name items e last on. subst
-        (λ gs. ReadsAs gs (group_text texts (items ++ e ∷ []) ++ line_feed ∷ tail))
-        (sym (group-one items e [])) (λ alone. at-end in_name false items e last tt alone.0 alone.1);
+    within = λ in_name items e last on.
+        rw (group-one items e []) (λ alone. at-end in_name false items e last tt alone.0 alone.1);
     after_white = λ in_name. at-end in_name true;
   }
   reads (token.White ∷ es) =
       let next = reads es in
       record {
         front = λ on in_name white. next.front on in_name true;
-        within = λ in_name items e last on. closed items e (token.White ∷ es)
-            (group_text texts (items ++ e ∷ []) ++ bytes_from in_name (Some e) true es) (groups_after [] es)
+        within = λ in_name items e last on. closed items e (token.White ∷ es) _ (groups_after [] es)
             (λ alone. next.after_white in_name items e last on (same-group (items ++ e ∷ []) es alone));
         after_white = λ in_name items e last on alone. next.after_white in_name items e last on
             (same-group (items ++ e ∷ []) es alone);
@@ -217,11 +216,9 @@ module _ (texts : List (List ℕ)) (tail : List ℕ) (ts : List (List ℕ))
   reads (token.LineEnd line ∷ es) =
       let next = reads es in
       record {
-        front = λ on in_name white alone. taken-front (bytes_from false None false es) _
-            (next.front on false false alone);
-        within = λ in_name items e last on. closed items e (token.LineEnd line ∷ es)
-            (group_text texts (items ++ e ∷ []) ++ bytes_from in_name (Some e) false
-            (token.LineEnd line ∷ es)) (groups_after [] es)
+        front = λ on in_name white alone. taken-front _ _ (next.front on false false alone);
+        within = λ in_name items e last on. closed items e (token.LineEnd line ∷ es) _
+            (groups_after [] es)
             (at-line_end line es next.front in_name false items e last on);
         after_white = λ in_name. at-line_end line es next.front in_name true;
       }
@@ -236,8 +233,7 @@ module _ (texts : List (List ℕ)) (tail : List ℕ) (ts : List (List ℕ))
   macro-by-groups es on alone =
       let written = written_tokens texts es in
       let text = flat_map (macro_item_bytes texts) (items_from texts true None false written) in
-      subst (IsReadAsTexts (macro_texts texts es ++ ts))
-      (search (rules, end-items, append_assoc))
+      subst (IsReadAsTexts (macro_texts texts es ++ ts)) (search (rules, end-items, append_assoc))
       (space-between (codes "#define") (bytes_from true None false written) define-whole refl _
       ((reads written).front (written-on_line texts es false on) true false alone))
 

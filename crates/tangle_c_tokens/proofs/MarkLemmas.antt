@@ -1,5 +1,6 @@
 -- Each line mark is a line, if no file has a line feed in its name.
 use Rattle.std.proofs.Common.{append-nil, sym}
+use Rattle.tangle_c_tokens.specs.Reading.{IsReadAsTexts}
 use Rattle.c_tokens.specs.Reading.{tokens}
 use Rattle.std.proofs.Common.{rules}
 use Rattle.std.proofs.Common.{arith}
@@ -54,31 +55,31 @@ mark-lines : (n : ℕ) (name : List ℕ) → TextHasNoLineFeed name → LinesAre
 mark-lines n name none =
     let string = double_quote ∷ quoted name in
     let in_line : IsInLine string = name-line name (double_quote ∷ []) none refl in
+    let alone : IsReadAsTexts (string ∷ []) string =
+    search (
+      rules,
+      append-nil,
+      lines-one,
+      string-whole,
+      name-quoted name none,
+      in_line,
+      in-line-taken,
+    ) in
     let digits = digits-line (decimal n) (decimal-digits n) in
     (space-between (codes "#line") (decimal n ++ space ∷ string) word-whole refl _
     (space-between (decimal n) string (digits-whole (decimal n) (decimal-digits n))
-    (in-line-taken false (decimal n) digits) (string ∷ []) (record {
-      read = sym (append-nil (tokens string));
-      lines = lines-one string (string-whole (quoted name) (name-quoted name none) in_line)
-          (in-line-taken false string in_line);
-    }))).lines
+    (in-line-taken false (decimal n) digits) (string ∷ []) alone)).lines
 
 pub mark-keeps : (n : ℕ) (name : List ℕ) → KeepsFeed (mark_line n name)
 mark-keeps n name =
-    subst KeepsFeed
-    (ap (λ t. codes "#line " ++ t)
-    (append_assoc (decimal n) (space ∷ double_quote ∷ escaped name) (double_quote ∷ [])))
+    simp append_assoc at
     (keeps-last (codes "#line " ++ (decimal n ++ space ∷ double_quote ∷ escaped name)) [] double_quote refl)
 
 pub mark-is_line : (marks : MarkMode) (n : ℕ) (name : List ℕ) → TextHasNoLineFeed name →
     IsMarkText (drop 1 (mark_bytes marks (mark_end name) n))
 mark-is_line Bare n name none = inl refl
 mark-is_line Full n name none =
-    inr (
-      mark_line n name,
-      (search (rules, append_assoc)),
-      record { lines = mark-lines n name none; kept = mark-keeps n name },
-    )
+    inr (mark_line n name, search (rules, append_assoc), search (rules, mark-lines, mark-keeps))
 
 pub mark_end-at : (names : List (List ℕ)) (k : ℕ)
     → get_or (map mark_end names) k (mark_end []) ≡ mark_end (get_or names k [])

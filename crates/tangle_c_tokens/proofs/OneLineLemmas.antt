@@ -115,14 +115,16 @@ module _ (texts : List (List ℕ)) where
       → AreOnLine (ends_back false (group_text texts items)) (e ∷ es)
       → IsLast items e × AreOnLine (ends_back false (group_text texts (items ++ e ∷ []))) es
   one-more items e es item one on =
-      let t = group_text texts items in
-      let next = solid-on_line (ends_back false t) e es item on in
-      let more = text-more (text_of texts) items e in (
-        record {
-          one = ap (feeds_taken false) more ∙ taken-append false t (text_of texts e) ∙ and_from _ _ one next.0.taken;
-          edges = next.0.edges;
-        },
-        subst (λ b. AreOnLine b es) (sym (ap (ends_back false) more ∙ back-append false t (text_of texts e))) next.1,
+      let next = solid-on_line (ends_back false (group_text texts items)) e es item on in
+      search (
+        rules,
+        text-more,
+        taken-append,
+        back-append,
+        and_from,
+        next.0.taken,
+        next.0.edges,
+        next.1,
       )
 
   -- the next item after white space and line ends

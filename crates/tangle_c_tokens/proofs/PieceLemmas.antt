@@ -64,9 +64,10 @@ module _ (source : SourceRead) (used : ℕ → List ℕ) (mark : Origin → List
   mark-reads : (origin : Origin) (row : List Passage) (xs : List Item) → Reads row xs
       → Reads (OfMark origin ∷ row) (item.LineMark origin ∷ xs)
   mark-reads origin row xs read whole uses =
-      subst (IsReadAsTexts (mark origin ∷ texts_in row)) (sym (append_assoc (line_feed ∷ mark origin) (flat_map item_bytes xs) tail))
-      (feed-front (mark origin ++ bytes_of xs) _ (mark-between (mark origin) (bytes_of xs) (marks origin)
-      (texts_in row) (read whole.1 uses.1)))
+      rw (append_assoc (line_feed ∷ mark origin) (flat_map item_bytes xs) tail)
+      (feed-front (mark origin ++ bytes_of xs) _
+      (mark-between (mark origin) (bytes_of xs) (marks origin) (texts_in row)
+      (read whole.1 uses.1)))
 
   -- a part is whole whatever is written for uses, which it does not have
 

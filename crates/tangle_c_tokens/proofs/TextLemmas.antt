@@ -38,10 +38,7 @@ tokens-apart a b whole kept border = search (rules, not-true, spliced-both, bord
 
 pub apart-from : (a b : List ℕ) → is_whole a ≡ true → IsOneLine a → keep_lines a b ≡ true
     → have_border (spliced a) (spliced b) ≡ true → Follows (a ∷ []) b (a ++ b)
-apart-from a b whole one kept border ts read = record {
-  read = tokens-apart a b whole kept border ∙ ap (λ us. tokens a ++ us) read.read;
-  lines = lines-apart a b whole one kept border read.lines;
-}
+apart-from a b whole one kept border ts read = search (rules, tokens-apart, lines-apart, read)
 
 -- borders
 
@@ -111,11 +108,7 @@ space-front rest ts read =
 
 pub feed-front : (rest : List ℕ) → Follows [] rest (line_feed ∷ rest)
 unfolding is_element is_token is_punctuator
-feed-front rest ts read = record {
-  read = tokens-apart (line_feed ∷ []) rest refl (keep-is (line_feed ∷ []) rest)
-      (white-before line_feed (spliced rest) refl) ∙ read.read;
-  lines = (refl, read.lines);
-}
+feed-front rest ts read = search (rules, tokens-apart (line_feed ∷ []), keep-is, white-before, read)
 
 pub space-apart : (a rest : List ℕ) → is_whole a ≡ true → IsOneLine a → Follows (a ∷ []) (space ∷ rest)
     (a ++ space ∷ rest)
@@ -133,11 +126,17 @@ is_kept text = keep_lines text (line_feed ∷ [])
 
 pub feed-apart : (a rest : List ℕ) → LinesAreWhole a → is_kept a ≡ true → Follows (a ∷ []) (line_feed ∷ rest)
     (a ++ line_feed ∷ rest)
-feed-apart a rest lines kept ts read = record {
-  read = tokens-apart a (line_feed ∷ rest) (lines-whole a lines) (keep-feed a rest kept)
-      (search (rules, spliced-other, white-next)) ∙ ap (λ us. tokens a ++ us) read.read;
-  lines = lines-feed a rest kept lines read.lines.1;
-}
+feed-apart a rest lines kept ts read =
+    search (
+      rules,
+      tokens-apart,
+      lines-whole,
+      keep-feed,
+      spliced-other,
+      white-next,
+      read,
+      lines-feed,
+    )
 
 pub feed-between : (a rest : List ℕ) → LinesAreWhole a → is_kept a ≡ true → Follows (a ∷ []) rest
     (a ++ line_feed ∷ rest)
@@ -156,10 +155,8 @@ taken-between a rest whole one border ts read =
     let apart = apart-from all rest (ap (λ t. not (list_any is_unfinished (elements_from 0 t))) same ∙ whole)
     (grind (arith, nat_tests, taken-append false a (backslash ∷ line_feed ∷ [])))
     (keep-taken a rest) (ap (λ t. have_border t (spliced rest)) same ∙ border) ts read in
-    subst (IsReadAsTexts (a ∷ ts)) (append_assoc a (backslash ∷ line_feed ∷ []) rest) (record {
-      read = apart.read ∙ ap (λ t. filter is_token (elements_from 0 t) ++ flat_map tokens ts) same;
-      lines = apart.lines;
-    })
+    subst (IsReadAsTexts (a ∷ ts)) (append_assoc a (backslash ∷ line_feed ∷ []) rest)
+    (record { read = apart.read ∙ search (rules, same); lines = apart.lines })
 
 pub taken-front : (rest : List ℕ) → Follows [] rest (backslash ∷ line_feed ∷ rest)
 taken-front rest ts read =
@@ -178,11 +175,7 @@ IsMarkText text = (text ≡ []) ⊎ ((line : List ℕ) × (text ≡ line ++ line
 pub mark-between : (m rest : List ℕ) → IsMarkText m → Follows (m ∷ []) rest (m ++ rest)
 mark-between m rest (inl none) = rw none (λ ts read. record { read = read.read; lines = read.lines })
 mark-between m rest (inr some) = λ ts read.
-    let line = some.0 in
-    let first = feed-between line rest some.2.lines some.2.kept ts read in
-    let alone = feed-between line [] some.2.lines some.2.kept [] no-text in
-    subst (λ t. IsReadAsTexts (t ∷ ts) (t ++ rest)) (sym some.1) (record {
-      read = ap tokens (append_assoc line (line_feed ∷ []) rest) ∙ first.read
-          ∙ ap (λ us. us ++ flat_map tokens ts) (sym (alone.read ∙ append-nil (tokens line)));
-      lines = subst LinesAreWhole (sym (append_assoc line (line_feed ∷ []) rest)) first.lines;
-    })
+    let first = feed-between some.0 rest some.2.lines some.2.kept ts read in
+    let alone = feed-between some.0 [] some.2.lines some.2.kept [] no-text in
+    rw (some.1, append_assoc some.0 (line_feed ∷ []) rest)
+    (record { read = search (rules, first.read, alone.read); lines = first.lines })

@@ -9,7 +9,8 @@ use Rattle.tangle_bodies.specs.Meaning.{body_flat}
 use Rattle.tangle_bodies.specs.NodeBodies.{HoldsShape, body_title, body_uses}
 use Rattle.tangle_bodies.specs.declared.nodes.NodeBody.{NodeBody}
 use Rattle.tangle_bodies.proofs.FlatLemmas.{held_flat}
-use Rattle.tangle_expansion.proofs.SameShapes.{flat_by_uses, map_same}
+use Rattle.tangle_expansion.proofs.SameShapes.{flat_by_uses}
+use Rattle.tangle_names.proofs.ContainsLemmas.{map_same}
 
 pub body_expands : (names : List (List ℕ)) (shapes : Shapes) (levels : ℕ) (body : NodeBody) (symbols : ℕ → List Symbol)
     → HoldsShape names (shapes (body_title body)) body → depth levels shapes (body_title body) < levels

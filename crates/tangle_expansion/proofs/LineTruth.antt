@@ -1,18 +1,18 @@
 -- In a whole output, each byte of an item is at its own origin.
-use Rattle.std.proofs.Common.{◌∙◌, drop-drop, get_or, sym, arith}
+use Rattle.std.proofs.Common.{rules}
+use Rattle.std.proofs.lemmas.Bool.Decides.{nat_tests}
 use Rattle.std.proofs.Common.{◌≡◌, ℕ, ◌+◌, zero, suc, Bool, true, false, List, [], ◌∷◌, ◌++◌, map, drop, get_or}
-use Rattle.std.proofs.Common.{Option, None, Some, ap, subst, arith}
+use Rattle.std.proofs.Common.{Option, None, Some, ap, arith, length, length-drop}
 use Rattle.std.specs.Prelude.{filter, flat_map}
 use Rattle.std.specs.List.{AllZip, zip}
-use Rattle.std.proofs.lemmas.List.{get_or-drop}
 use Rattle.tangle_lines.specs.declared.origin.Origin.{Origin}
 use Rattle.tangle_lines.specs.Reading.{SourceLine, SourceRead, origin_at}
 use Rattle.tangle_scan.specs.declared.items.Item.{Item}
 use Rattle.tangle_scan.specs.declared.items.Item.TheVariants as item
 use Rattle.tangle_scan.specs.Rules.{texts_of}
-use Rattle.tangle_scan.specs.Directives.{Border, SameRegion, GroupBegins, GroupTurns, ForEachChoice}
-use Rattle.tangle_scan.specs.Directives.{after_line_end, border_after, border_at_line_end}
-use Rattle.tangle_scan.specs.LineTruth.{with_line_end, origin_after_mark, Location, AreAtTheirLines, IsAtItsLine}
+use Rattle.tangle_scan.specs.Directives.{Border, SameRegion, ForEachChoice}
+use Rattle.tangle_scan.specs.Directives.{border_after, border_at_line_end}
+use Rattle.tangle_scan.specs.LineTruth.{Location, AreAtTheirLines, IsAtItsLine}
 use Rattle.tangle_scan.specs.LineTruth.{piece_locations, PiecesAreAtTheirLines}
 use Rattle.tangle_scan.specs.Web.{WebRead, PieceRead}
 use Rattle.tangle_names.specs.declared.Resolved.{Resolved}
@@ -35,15 +35,11 @@ use Rattle.tangle_files.specs.declared.marks.MarkMode.TheVariants.{Full}
 -- what is true of each choice is true of those that a border permits
 
 all-choices : (b : Border) (read : Bool) (P : Bool → Type 0) → ((now : Bool) → P now) → ForEachChoice b read P
-all-choices SameRegion read P h = h read
-all-choices GroupBegins read P h = λ now allowed. h now
-all-choices GroupTurns read P h = h
+all-choices b read P h = search rules
 
 each-choice : (b : Border) (read : Bool) (P Q : Bool → Type 0) → ((now : Bool) → P now → Q now)
     → ForEachChoice b read P → ForEachChoice b read Q
-each-choice SameRegion read P Q f h = f read h
-each-choice GroupBegins read P Q f h = λ now allowed. f now (h now allowed)
-each-choice GroupTurns read P Q f h = λ now. f now (h now)
+each-choice b read P Q f h = search rules
 
 module _ (numbers : NumbersRead) where
   located-append : (read : Bool) (q : Option Origin) (xs : List Symbol) (cs : List ByteClass) (ys : List Symbol)
@@ -67,11 +63,9 @@ module _ (numbers : NumbersRead) where
 -- the first of the items from a position on, as the next mark of a piece, and the rest
 pub next_of : {X : Type 0} (d : X) (xs : List X) (k : ℕ) (first : X) (rest : List X)
     → drop k xs ≡ first ∷ rest → (get_or xs k d ≡ first) × (drop (k + 1) xs ≡ rest)
-next_of d xs k first rest e = (
-  (let same : k ≡ k + 0 = omega arith in
-      ap (λ n. get_or xs n d) same ∙ sym (get_or-drop k xs 0 d) ∙ ap (λ l. get_or l 0 d) e),
-  sym (drop-drop 1 k xs) ∙ ap (drop 1) e,
-)
+next_of d (x ∷ xs) zero first rest e = (cc, cc)
+next_of d (x ∷ xs) (suc k) first rest e = grind (arith, nat_tests, next_of d xs k first rest e)
+next_of {X} d [] k first rest e = absurd (omega (arith, ap length e, length-drop {A = X} k []))
 
 module _ (web : WebRead) (lines : List SourceLine)
     (used : List ℕ → List Symbol) (used_classes : List ℕ → List ByteClass)
@@ -83,53 +77,51 @@ module _ (web : WebRead) (lines : List SourceLine)
   abbrev texts : List (List ℕ)
   texts = texts_of lines
 
-  resolved_is_located : (node : Title) (piece marks : ℕ) (items : List ShapeItem) (ds : List ByteClass) (b : Border)
-      → ((now : Bool) (q : Option Origin) → AreAtTheirOrigins numbers now q (items_flat used node piece marks items) ds)
-      → (read : Bool) (q : Option Origin) (r : Resolved)
-      → AreAtTheirOrigins numbers read q (items_flat used node piece marks (use_of (table_of web) r ∷ items))
-      (Other b ∷ resolved_classes (table_of web) used_classes r ++ ds)
-  resolved_is_located node piece marks items ds b h read q (Name id) =
-      all-choices b read _ (λ now. (tt, located-append numbers now q _ _ _ _ (all _ now q) h))
-  resolved_is_located node piece marks items ds b h read q _ = all-choices b read _ (λ now. (tt, h now q))
+  module _ (node : Title) (piece : ℕ) where
+    resolved_is_located : (marks : ℕ) (items : List ShapeItem) (ds : List ByteClass) (b : Border)
+        → ((now : Bool) (q : Option Origin)
+        → AreAtTheirOrigins numbers now q (items_flat used node piece marks items) ds)
+        → (read : Bool) (q : Option Origin) (r : Resolved)
+        → AreAtTheirOrigins numbers read q
+        (items_flat used node piece marks (use_of (table_of web) r ∷ items))
+        (Other b ∷ resolved_classes (table_of web) used_classes r ++ ds)
+    resolved_is_located marks items ds b h read q (Name id) =
+        all-choices b read _ (λ now. (tt, located-append numbers now q _ _ _ _ (all _ now q) h))
+    resolved_is_located marks items ds b h read q _ = all-choices b read _ (λ now. (tt, h now q))
 
-  items_are_located : (node : Title) (piece marks : ℕ) (read : Bool) (q : Option Origin) (line items : List Item)
-      (ss : List Location)
-      → drop (marks + 1) (numbers_at numbers node piece).origins ≡ flat_map item_origins items
-      → AreAtTheirLines lines read q line items ss
-      → AreAtTheirOrigins numbers read q
-      (items_flat used node piece marks (map (shape_item web.texts (table_of web)) items))
-      (items_classes (table_of web) used_classes web.texts lines line ss items)
-  items_are_located node piece marks read q line [] ss origins own =
-      all-choices (border_after texts line) read _ (λ now. (tt, tt))
-  items_are_located node piece marks read q line (item.QuoteBreak ∷ items) ss origins own =
-      (tt, items_are_located node piece marks read (with_line_end q) (line ++ item.QuoteBreak ∷ []) items ss origins own)
-  items_are_located node piece marks read q line (item.LineEnd ∷ items) ss origins own =
-      each-choice (border_at_line_end texts line) read _ _
-      (λ now h. (tt, items_are_located node piece marks now (with_line_end q) (after_line_end texts line) items ss origins h))
-      own
-  items_are_located node piece marks read q line (item.Blank ∷ items) ss origins own =
-      (tt, items_are_located node piece marks read q (line ++ item.Blank ∷ []) items ss origins own)
-  items_are_located node piece marks read q line (item.LineMark origin ∷ items) ss origins own =
-      let next = next_of no_origin _ (marks + 1) origin (flat_map item_origins items) origins in
-      each-choice (border_after texts line) read _ _
-      (λ now h. (
-        tt,
-        items_are_located node piece (marks + 1) now _ [] items ss next.1
-            (subst (λ p. AreAtTheirLines lines now (origin_after_mark now p q) [] items ss) (sym next.0) h),
-      ))
-      own
-  items_are_located node piece marks read q line (item.UseOf occurrence ∷ items) ss origins own =
-      resolved_is_located node piece marks (map (shape_item web.texts (table_of web)) items) _ (border_after texts line)
-      (λ now r. items_are_located node piece marks now r [] items ss origins (own now r)) read q
-      (resolved_at (table_of web) occurrence)
-  items_are_located node piece marks read q line (item.AllMacros ∷ items) ss origins own =
-      all-choices (border_after texts line) read _
-      (λ now. (tt, items_are_located node piece marks now None [] items ss origins (own now None)))
-  -- a source item
-  items_are_located node piece marks read q line (x ∷ items) [] origins own = absurd own
-  items_are_located node piece marks read q line (x ∷ items) (s ∷ ss) origins own =
-      bytes_are_located numbers read q (origin_at lines s.line) s.in_stretch _ _ _ own.0.origin
-      (items_are_located node piece marks read q (line ++ x ∷ []) items ss origins own.1)
+    items_are_located : (marks : ℕ) (read : Bool) (q : Option Origin) (line items : List Item)
+        (ss : List Location)
+        → drop (marks + 1) (numbers_at numbers node piece).origins ≡ flat_map item_origins items
+        → AreAtTheirLines lines read q line items ss
+        → AreAtTheirOrigins numbers read q
+        (items_flat used node piece marks (map (shape_item web.texts (table_of web)) items))
+        (items_classes (table_of web) used_classes web.texts lines line ss items)
+    items_are_located marks read q line [] ss are own =
+        all-choices (border_after texts line) read _ (λ now. (tt, tt))
+    items_are_located marks read q line (item.QuoteBreak ∷ items) ss are own =
+        (tt, items_are_located marks read _ _ items ss are own)
+    items_are_located marks read q line (item.LineEnd ∷ items) ss are own =
+        each-choice (border_at_line_end texts line) read _ _
+        (λ now h. (tt, items_are_located marks now _ _ items ss are h)) own
+    items_are_located marks read q line (item.Blank ∷ items) ss are own =
+        (tt, items_are_located marks read _ _ items ss are own)
+    items_are_located marks read q line (item.LineMark origin ∷ items) ss are own =
+        let next = next_of no_origin _ (marks + 1) origin (flat_map item_origins items) are in
+        each-choice (border_after texts line) read _ _
+        (λ now h. rw next.0 (tt, items_are_located (marks + 1) now _ [] items ss next.1 h)) own
+    items_are_located marks read q line (item.UseOf occurrence ∷ items) ss are own =
+        let shown = map (shape_item web.texts (table_of web)) items in
+        resolved_is_located marks shown _ (border_after texts line)
+        (λ now r. items_are_located marks now r [] items ss are (own now r)) read q
+        (resolved_at (table_of web) occurrence)
+    items_are_located marks read q line (item.AllMacros ∷ items) ss are own =
+        all-choices (border_after texts line) read _
+        (λ now. (tt, items_are_located marks now None [] items ss are (own now None)))
+    -- a source item
+    items_are_located marks read q line (x ∷ items) [] are own = absurd own
+    items_are_located marks read q line (x ∷ items) (s ∷ ss) are own =
+        bytes_are_located numbers read q (origin_at lines s.line) s.in_stretch _ _ _ own.0.origin
+        (items_are_located marks read q (line ++ x ∷ []) items ss are own.1)
 
   -- the classes of a node's pieces, among these pieces with their locations
   abbrev pub among : Title → List (PieceRead × List Location) → List ByteClass
@@ -158,15 +150,10 @@ module _ (web : WebRead) (lines : List SourceLine)
             let next = next_of no_numbers _ piece (numbers_of_piece p) more (rw of at origins) in
             let first : get_or (numbers_at numbers node piece).origins 0 no_origin ≡ p.origin =
             ap (λ n. get_or n.origins 0 no_origin) next.0 in
-            rw of (
-              tt,
-              (
-                tt,
-                located-append numbers read _ _ _ _ _ (items_are_located node piece 0 read _ [] p.items e
-                    (ap (λ n. drop 1 n.origins) next.0) (own.0 read _ (λ now. rw (now, first) refl)))
-                    (pieces_are_located node (piece + 1) pieces locations next.1 own.1),
-              ),
-            )
+            let items = items_are_located node piece 0 read _ [] p.items e
+            (ap (λ n. drop 1 n.origins) next.0) (own.0 read _ (λ now. rw (now, first) refl)) in
+            let rest = pieces_are_located node (piece + 1) pieces locations next.1 own.1 in
+            rw of (tt, (tt, located-append numbers read _ _ _ _ _ items rest))
         | inr other ↦ rw other (pieces_are_located node piece pieces locations (rw other at origins) own.1 read q)
       ]
 

@@ -6,7 +6,7 @@ use Rattle.std.specs.Prelude.{slice_index_or}
 use Rattle.std.proofs.lemmas.List.{get_or-map}
 use Rattle.std.proofs.lemmas.List.Elements.{All-contains}
 use Rattle.std.proofs.lemmas.Simd.{map-map}
-use Rattle.tangle_expansion.proofs.SameShapes.{map_same}
+use Rattle.tangle_names.proofs.ContainsLemmas.{map_same}
 use Rattle.tangle_scan.specs.Texts.{TextRead, IsTextOf}
 use Rattle.tangle_scan.specs.Web.{PieceRead, WebRead, no_piece, stored_piece}
 use Rattle.tangle_scan.specs.declared.pieces.Piece.{Piece}

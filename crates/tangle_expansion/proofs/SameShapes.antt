@@ -6,18 +6,13 @@ use Rattle.std.specs.Prelude.{Contains, sum_by}
 use Rattle.std.proofs.lemmas.List.Sums.{sum_by-cons}
 use Rattle.digraph.specs.Reach.{Reaches, here, on, ReachesCycle}
 use Rattle.digraph.proofs.OrderLemmas.{cycle_used}
-use Rattle.tangle_names.proofs.ContainsLemmas.{here as here_in, there}
+use Rattle.tangle_names.proofs.ContainsLemmas.{map_same}
 use Rattle.tangle_bodies.specs.Shapes.{Title, Named, Shape, Shapes, Uses, shape_names}
 use Rattle.tangle_bodies.specs.Flat.{Symbol, pieces_flat, flat, pieces_weight, weight, greatest_by, pieces_depth, depth}
 use Rattle.tangle_bodies.proofs.FlatLemmas.{shape_flat}
 use Rattle.tangle_expansion.specs.Affected.{IsExpandable}
 use Rattle.tangle_expansion.proofs.UsedLemmas.{pieces_depth-use, pieces_weight-use, deeper, heavier}
 use Rattle.tangle_expansion.proofs.Weights.{weight-suc, pieces_length}
-
-pub map_same : {X Y : Type 0} (f g : X → Y) (xs : List X)
-    → ((x : X) → Contains xs x → f x ≡ g x) → map f xs ≡ map g xs
-map_same f g [] same = refl
-map_same f g (x ∷ xs) same = λ i. same x (here_in x xs) i ∷ map_same f g xs (λ y c. same y (there x xs y c)) i
 
 -- the symbols of a shape are equal if those of the used names are
 pub pieces_flat-same : (f g : List ℕ → List Symbol) (node : Title) (shape : Shape)
@@ -27,16 +22,18 @@ pieces_flat-same f g node shape same =
     rw (← shape_flat node f 0 0 shape, ← shape_flat node g 0 0 shape, map_same f g (shape_names shape) same) refl
 
 -- depths are equal if those of the used names are
-greatest-same : (f g : List ℕ → ℕ) (names : List (List ℕ))
-    → ((name : List ℕ) → Contains names name → f name ≡ g name) → greatest_by f names ≡ greatest_by g names
-greatest-same f g [] same = refl
-greatest-same f g (name ∷ names) same =
-    λ i. max (same name (here_in name names) i) (greatest-same f g names (λ other c. same other (there name names other c)) i)
+greatest-map : (f : List ℕ → ℕ) (names : List (List ℕ))
+    → greatest_by f names ≡ greatest_by (λ n. n) (map f names)
+greatest-map f [] = refl
+greatest-map f (name ∷ names) = ap (max (f name)) (greatest-map f names)
 
 pieces_depth-same : (f g : List ℕ → ℕ) (shape : Shape)
-    → ((name : List ℕ) → Contains (shape_names shape) name → f name ≡ g name) → pieces_depth f shape ≡ pieces_depth g shape
+    → ((name : List ℕ) → Contains (shape_names shape) name → f name ≡ g name)
+    → pieces_depth f shape ≡ pieces_depth g shape
 pieces_depth-same f g [] same = refl
-pieces_depth-same f g (items ∷ shape) same = ap suc (greatest-same f g (shape_names (items ∷ shape)) same)
+pieces_depth-same f g (items ∷ shape) same =
+    let names = shape_names (items ∷ shape) in
+    rw (greatest-map f names, greatest-map g names, map_same f g names same) refl
 
 -- a cap of a weight or a depth may be put on those of the used names
 module _ (cap : ℕ) (f : List ℕ → ℕ) where

@@ -4,7 +4,7 @@ use Rattle.std.proofs.Common.{◌≤◌, ℕ, suc, List, [], ◌∷◌, arith}
 use Rattle.std.specs.Prelude.{Contains, sum_by}
 use Rattle.std.proofs.lemmas.List.Sums.{sum_by-cons}
 use Rattle.tangle_names.proofs.ContainsLemmas.{no_item}
-use Rattle.tangle_bodies.specs.Shapes.{Title, Program, Named, Shape, Shapes, Uses, shape_names}
+use Rattle.tangle_bodies.specs.Shapes.{Title, Named, Shape, Shapes, Uses, shape_names}
 use Rattle.tangle_bodies.specs.Flat.{greatest_by, pieces_weight, pieces_depth, weight, depth}
 use Rattle.tangle_expansion.proofs.Weights.{weight-suc}
 
@@ -16,8 +16,8 @@ module _ (f : List ℕ → ℕ) where
 
   pub pieces_depth-use : (pieces : Shape) (name : List ℕ)
       → Contains (shape_names pieces) name → suc (f name) ≤ pieces_depth f pieces
-  pieces_depth-use [] name u = absurd (no_item name u)
-  pieces_depth-use (items ∷ pieces) name u = omega (arith, (at_most (shape_names (items ∷ pieces)) name u).1)
+  pieces_depth-use pieces name u =
+      grind (arith, nat_tests, at_most (shape_names pieces) name u, no_item name)
 
   pub pieces_weight-use : (pieces : Shape) (name : List ℕ)
       → Contains (shape_names pieces) name → suc (f name) ≤ pieces_weight f pieces
@@ -28,12 +28,11 @@ module _ (f : List ℕ → ℕ) where
 
 pub deeper : (steps : ℕ) (shapes : Shapes) (a b : Title)
     → Uses shapes a b → steps ≤ depth steps shapes b → suc steps ≤ depth (suc steps) shapes a
-deeper steps shapes a Program u h = absurd u
-deeper steps shapes a (Named name) u h =
-    omega (arith, pieces_depth-use (λ other. depth steps shapes (Named other)) (shapes a) name u)
+deeper steps shapes a b u h =
+    grind (arith, nat_tests, pieces_depth-use (λ other. depth steps shapes (Named other)) (shapes a))
 
 pub heavier : (steps : ℕ) (shapes : Shapes) (a b : Title)
     → Uses shapes a b → steps ≤ weight steps shapes b → suc steps ≤ weight (suc steps) shapes a
-heavier steps shapes a Program u h = absurd u
-heavier steps shapes a (Named name) u h =
-    omega (arith, weight-suc steps shapes a, pieces_weight-use (λ other. weight steps shapes (Named other)) (shapes a) name u)
+heavier steps shapes a b u h =
+    let more = pieces_weight-use (λ other. weight steps shapes (Named other)) (shapes a) in
+    grind (arith, nat_tests, more, weight-suc steps shapes a)

@@ -9,6 +9,7 @@ use Rattle.tangle_bodies.specs.Tags.{item_bytes, item_tag, piece_end, shape_byte
 use Rattle.tangle_bodies.specs.Flat.{Symbol, marks_after_shape_item, item_flat, items_flat, pieces_flat, flat}
 use Rattle.tangle_bodies.specs.Flat.{own_symbols, own_counts, pieces_weight, weight}
 use Rattle.tangle_bodies.proofs.CountLemmas.{own_counts-append}
+use Rattle.tangle_bodies.proofs.EachLemmas.{joins}
 
 module _ (used : List ℕ → List Symbol) (node : Title) where
   abbrev used_weight : List ℕ → ℕ
@@ -26,11 +27,8 @@ module _ (used : List ℕ → List Symbol) (node : Title) where
       + sum_by used_weight (flat_map item_names items)
   items_length piece marks [] = refl
   items_length piece marks (item ∷ items) =
-      let first = item_length piece marks item in
       let rest = items_length piece (marks_after_shape_item marks item) items in
-      let bytes = length-append (item_bytes item) (flat_map item_bytes items) in
-      let names = sum_by-append used_weight (item_names item) (flat_map item_names items) in
-      omega (arith, length-append {A = Symbol})
+      grind (joins, item_length piece marks item, rest, length-append, sum_by-append)
 
   pub pieces_length : (piece : ℕ) (pieces : Shape)
       → length (pieces_flat used node piece pieces) ≡ pieces_weight used_weight pieces

@@ -39,9 +39,8 @@ abbrev pub from_use : NumbersRead → (List (List Symbol) → List ℕ) → List
 from_use numbers rest [] = []
 from_use numbers rest (symbols ∷ used) = space ∷ expansion_bytes numbers symbols ++ rest used
 
--- the bytes of this whole were written, except for the rest
-pub record Wrote (old new : Stream) (so_far result : Result ℕ WriteFault)
-    (rest whole : List ℕ) : Type 0 where
-  pub done : List ℕ
-  pub writes : IsWrittenAfter old new so_far done result
-  pub split : done ++ rest ≡ whole
+-- where the rest is written next, this whole is written
+abbrev pub Wrote : Stream → Stream → Result ℕ WriteFault → Result ℕ WriteFault → List ℕ → List ℕ
+    → Type 0
+Wrote old new so_far result rest whole = (last : Stream) (all : Result ℕ WriteFault)
+    → IsWrittenAfter new last result rest all → IsWrittenAfter old last so_far whole all

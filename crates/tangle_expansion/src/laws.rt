@@ -20,7 +20,6 @@ ghost use Rattle.tangle_bodies.specs.WebShapes.{shapes, pieces_of, ResolvesInsid
 ghost use Rattle.tangle_expansion.specs.Numbers.{NumbersRead, numbers_of, symbol_bytes};
 ghost use Rattle.tangle_expansion.specs.Numbers.{expansion_bytes};
 ghost use Rattle.std.specs.List.{AllByRecursion};
-ghost use Rattle.tangle_expansion.specs.Limits.{flat_of, IsExpandableNode};
 ghost use Rattle.tangle_expansion.specs.PieceBytes.{piece_bytes, AreWrittenAsMeant};
 ghost use Rattle.tangle_expansion.specs.Location.{AreAtTheirOrigins, classes};
 

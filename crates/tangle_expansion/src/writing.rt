@@ -19,7 +19,7 @@ use itoa::Buffer;
 use tangle_bodies::{ItemKind, NodeBody};
 use tangle_lines::{MarkMode, Origin, Sink, WriteFault, write_after};
 
-/// What was written so far: the number of bytes, or a fault, after which nothing is written.
+/// How many bytes the sink took so far, or a fault, after which nothing is written.
 pub(crate) type Written = Result<u128, WriteFault>;
 
 /// What the text of a node is written from: its body, the numbers of its web, and among those the

@@ -4,7 +4,7 @@ use Rattle.std.proofs.lemmas.Bool.Decides.{nat_tests}
 use Rattle.std.proofs.Common.{◌≡◌, ℕ, suc, ◌<◌, ◌≤◌, ◌==◌, false, cond, List, [], ◌∷◌, length}
 use Rattle.std.proofs.Common.{take, drop, refl, ap, ◌∙◌, arith, ◌+◌, ◌-◌, ◌++◌, length-drop}
 use Rattle.std.specs.List.{list_any, slice_index}
-use Rattle.std.proofs.lemmas.List.{drop_all, drop-drop, take-take, length-take, get_or-drop}
+use Rattle.std.proofs.lemmas.List.{drop_all, drop-drop, length-map, take-take, length-take, get_or-drop}
 use Rattle.std.proofs.lemmas.Bool.{cond_both, cases_lt}
 use Rattle.memchr.specs.Find.{is_byte, places, places_from}
 use Rattle.tangle_files.specs.Lines.{raw_lines, trimmed, cut}
@@ -97,3 +97,5 @@ pub record IsCutUpTo (text : List ℕ) (start : ℕ) (lines : List (List ℕ)) :
 pub all_cut : (text : List ℕ) (lines : List (List ℕ))
     → IsCutUpTo text (length text + 1) lines → (lines ≡ cut text) × (cut_refusal text ≡ None)
 all_cut text lines h = search (rules, drop_all)
+
+pub ruleset line_sizes = (length-map, length-raw_lines, length-take, trimmed_shorter, trimmed_slice)

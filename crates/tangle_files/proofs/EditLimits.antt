@@ -1,7 +1,7 @@
 -- An edit that is not refused keeps the limits of a table.
 use Rattle.std.proofs.Common.{rules}
 use Rattle.std.proofs.lemmas.Bool.Decides.{nat_tests}
-use Rattle.std.proofs.Common.{◌≡◌, ℕ, ◌+◌, ◌-◌, ◌≤◌, false, not, List, [], ◌∷◌}
+use Rattle.std.proofs.Common.{◌≡◌, ℕ, ◌+◌, ◌-◌, ◌≤◌, false, List, [], ◌∷◌}
 use Rattle.std.proofs.Common.{Option, None, Some, IfSome, arith, length, length-append}
 use Rattle.std.specs.List.{All, IsDistinct}
 use Rattle.std.specs.Option.{option_map_or}
@@ -17,11 +17,10 @@ use Rattle.std.proofs.lemmas.Map.Views.{All-values-set_value, All-map-remove_ent
 use Rattle.tangle_files.specs.declared.edits.Edit.{Edit}
 use Rattle.tangle_files.specs.declared.edits.Edit.TheVariants.{Insert, Remove, Replace, Create, Discard, Marks}
 use Rattle.tangle_files.specs.declared.refusal.Refusal.{Refusal}
-use Rattle.tangle_files.specs.declared.refusal.Refusal.TheVariants.{UnknownFile, NoSuchLine}
+use Rattle.tangle_files.specs.declared.refusal.Refusal.TheVariants.{UnknownFile}
 use Rattle.tangle_files.specs.Lines.{FileTable, lines_of}
 use Rattle.tangle_files.specs.Adding.{most_lines, HasDistinctNames, IsWithinLimits}
-use Rattle.tangle_files.specs.Edits.{edit_refusal, insert_refusal, is_line_number, refusal_if, refusal_in}
-use Rattle.tangle_files.specs.Edits.{replace_refusal}
+use Rattle.tangle_files.specs.Edits.{edit_refusal, refusal_in}
 use Rattle.tangle_files.specs.Edited.{edited, with_replaced, with_lines_edited}
 use Rattle.tangle_files.proofs.TableLemmas.{one_more_file}
 
@@ -30,9 +29,7 @@ HasFewLines file = length file.1 ≤ most_lines
 
 -- the limit of lines, from the lists of lines to the files
 few-files : (files : FileTable) → All (λ lines. length lines ≤ most_lines) (values_of files) → All HasFewLines files
-few-files files h = λ k d below.
-    rw (get_or-map (λ file. file.1) files k d d.1 below)
-    at (h k d.1 (omega (arith, length-map files (λ file. file.1))))
+few-files files h = λ k d below. search (rules, get_or-map, length-map, h k d.1)
 
 few-values : (files : FileTable) → All HasFewLines files → All (λ lines. length lines ≤ most_lines) (values_of files)
 few-values files h = All-map (λ lines. length lines ≤ most_lines) (λ file. file.1) files h
@@ -84,14 +81,11 @@ distinct-remove_entry (f ∷ fs) name h =
 pub IsWithinLimits-edited : (files : FileTable) (edit : Edit)
     → None ≡ edit_refusal files edit → IsWithinLimits files → IsWithinLimits (edited files edit)
 IsWithinLimits-edited files (Insert file at text) h within =
-    edited-lines files file.items (λ lines. insert_refusal lines at text.items) _
-    (λ lines h few. search (rules, length-with_replaced)) h within
+    edited-lines files file.items _ _ (λ lines h few. search (rules, length-with_replaced)) h within
 IsWithinLimits-edited files (Remove file at) h within =
-    edited-lines files file.items (λ lines. refusal_if (not (is_line_number at (length lines))) NoSuchLine) _
-    (λ lines h few. search (rules, length-with_replaced)) h within
+    edited-lines files file.items _ _ (λ lines h few. search (rules, length-with_replaced)) h within
 IsWithinLimits-edited files (Replace file at text) h within =
-    edited-lines files file.items (λ lines. replace_refusal lines at text.items) _
-    (λ lines h few. search (rules, length-with_replaced)) h within
+    edited-lines files file.items _ _ (λ lines h few. search (rules, length-with_replaced)) h within
 IsWithinLimits-edited files (Create file) h within = one_more_file files file.items [] h (omega arith) within
 IsWithinLimits-edited files (Discard file) h within =
     let less = length-remove_entry files file.items in

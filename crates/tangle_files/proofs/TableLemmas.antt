@@ -109,3 +109,7 @@ pub has_file-append : (files more : FileTable) (name : List ℕ)
     → has_file (files ++ more) name ≡ (has_file files name || has_file more name)
 has_file-append [] more name = refl
 has_file-append (f ∷ files) more name = grind (arith, common_steps, has_file-append files more name)
+
+pub ruleset look_ups = (lines_of-entries, position-entries)
+
+pub ruleset whole_tables = (files_of-clone, IsWithinLimits-none)

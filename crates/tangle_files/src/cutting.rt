@@ -26,6 +26,7 @@ struct LineMeasure {
 }
 
 /// Measures the lines of the bytes, without cutting them.
+#[tactic(auto, using(crate::proofs::CuttingLemmas::line_sizes))]
 fn measure_lines(bytes: &[u8]) -> LineMeasure
     ensures long { result.is_too_long ≡ list_any is_too_long (cut bytes.now) }
     ensures count { result.count ≡ length (cut bytes.now) }
@@ -120,6 +121,7 @@ fn bytes_of(text: &Rc<Vec<u8>>) -> &[u8]
 /// Adds the line of the bytes from `start` up to `end`. `None` if it is too long, there are too many
 /// lines, or an allocation fails.
 #[inline(always)]
+#[tactic(auto, using(crate::proofs::CuttingLemmas::line_sizes))]
 fn add_line(lines: &mut Vec<Line>, text: &Rc<Vec<u8>>, start: usize, end: usize) -> Option<()>
     requires low { start ≤ end }
     requires high { end ≤ length text.now.value.items }

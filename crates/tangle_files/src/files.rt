@@ -53,6 +53,7 @@ impl Model for Files {
 
 impl Files {
     /// A table without files. It allocates nothing.
+    #[tactic(auto, using(crate::proofs::TableLemmas::whole_tables))]
     pub fn new(alloc: Global) -> Self
         ensures { result ≡ [] }
     {
@@ -115,6 +116,7 @@ impl Files {
     /// # Errors
     ///
     /// `NoMemory` if an allocation fails.
+    #[tactic(auto, using(crate::proofs::TableLemmas::whole_tables))]
     pub fn copy(&self) -> Result<Files, NoMemory>
         ensures { IfOk result (λ copy. copy ≡ self.now) }
     {
@@ -190,6 +192,7 @@ impl Files {
     }
 
     /// The lines of the file of this name: `None` if there is no such file.
+    #[tactic(auto, using(crate::proofs::TableLemmas::look_ups))]
     pub fn lines(&self, name: &[u8]) -> Option<&[Line]>
         ensures { option_copied result ≡ lines_of self.now name.now }
     {
@@ -207,6 +210,7 @@ impl Files {
     }
 
     /// The number of the file of this name, counted from 0: `None` if there is no such file.
+    #[tactic(auto, using(crate::proofs::TableLemmas::look_ups))]
     pub fn find(&self, name: &[u8]) -> Option<u16>
         ensures { result ≡ file_number self.now name.now }
     {

@@ -58,6 +58,7 @@ fn line_of_text(alloc: Global, text: &[u8]) -> Result<Line, AllocError>
 }
 
 /// Replaces lines `start..end` of the file, at most one, by `line` or by nothing.
+#[tactic(auto, using(crate::proofs::TableLemmas::look_ups))]
 fn splice_lines(
     table: &mut IndexMap<Vec<u8>, Rc<Vec<Line>>>,
     file: &[u8],

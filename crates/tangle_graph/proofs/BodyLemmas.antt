@@ -1,13 +1,13 @@
 -- Bodies of nodes, and bodies that are read by their number.
 use Rattle.std.proofs.Common.{rules}
-use Rattle.std.proofs.Common.{◌≡◌, ◌≢◌, ◌∙◌, ◌<◌, ◌↔◌, ℕ, zero, suc, Bool, true, false, not, List, [], ◌∷◌, length}
-use Rattle.std.proofs.Common.{refl, ap, sym, subst, arith, map, get_or}
+use Rattle.std.proofs.Common.{◌≡◌, ◌≢◌, ◌<◌, ◌↔◌, ℕ, Bool, true, false, not, List, [], ◌∷◌, length}
+use Rattle.std.proofs.Common.{sym, subst, arith, map, get_or}
 use Rattle.std.specs.Prelude.{Contains, slice_get, Some}
 use Rattle.std.specs.Global.{Global}
 use Rattle.std.specs.declared.rc.Rc.{Rc}
-use Rattle.std.proofs.lemmas.List.{get_or-map, length-map}
+use Rattle.std.proofs.lemmas.Grind.{common_steps}
 use Rattle.std.proofs.lemmas.List.Elements.{All-contains}
-use Rattle.std.proofs.lemmas.Option.{get_or_from_slice_get, slice_get_read, slice_get_within}
+use Rattle.std.proofs.lemmas.Option.{gets, slice_get-get_or}
 use Rattle.digraph.specs.Graph.{row_at}
 use Rattle.tangle_names.proofs.ContainsLemmas.{into_map, out_of_map}
 use Rattle.tangle_bodies.specs.Nodes.{title_at}
@@ -21,21 +21,16 @@ use Rattle.tangle_graph.specs.Bodies.{IsBodyOf, node_bodies}
 -- a part of a body, read from the rows of this part of all bodies
 pub part_read : {Y : Type 0} (f : NodeBody → List Y) (bodies : List NodeBody) (n : ℕ) (body : NodeBody)
     → slice_get bodies n ≡ Some body → row_at (map f bodies) n ≡ f body
-part_read f bodies n body at =
-    get_or-map f bodies n body [] (slice_get_within bodies n body at)
-    ∙ ap f (get_or_from_slice_get bodies n body body at)
+part_read f bodies n body at = grind (arith, common_steps, gets)
 
 pub some_at : {X : Type 0} (xs : List X) (n : ℕ) → n < length xs → (x : X) × (slice_get xs n ≡ Some x)
 some_at [] n h = absurd (omega arith)
-some_at (x ∷ xs) zero h = (x, refl)
-some_at (x ∷ xs) (suc n) h = some_at xs n (omega arith)
+some_at (x ∷ xs) n h = (get_or (x ∷ xs) n x, slice_get-get_or (x ∷ xs) n x h)
 
 -- a body that is read by its number
 pub read : (bodies : List (Rc NodeBody Global)) (n : ℕ) (body : Rc NodeBody Global)
     → n < length bodies → body ≡ get_or bodies n body → slice_get (node_bodies bodies) n ≡ Some body.value
-read bodies n body low same = slice_get_read (node_bodies bodies) (length bodies) n body.value
-    (sym (length-map bodies (λ (t : Rc NodeBody Global). t.value))) low
-    (search (rules, get_or-map))
+read bodies n body low same = grind (arith, common_steps, gets)
 
 -- the names with the numbers that a body has are those that its node uses
 module _ (shapes : Shapes) (names : List (List ℕ))

@@ -9,6 +9,7 @@ use Rattle.std.specs.Bool.{Decides}
 use Rattle.std.proofs.lemmas.Bool.Decides.{Decides-at, Decides-like, Decides-or}
 use Rattle.std.proofs.lemmas.List.Folds.{Any-from_list_any, list_any_at}
 use Rattle.std.proofs.lemmas.List.Elements.{Contains-push_cases}
+use Rattle.std.proofs.Math.Decide.{ℕ_discrete}
 use Rattle.tangle_bodies.specs.Shapes.{Title, Shapes, Uses}
 use Rattle.digraph.specs.Nodes.{Node}
 use Rattle.digraph.specs.Reach.{here, on}
@@ -22,6 +23,24 @@ pub in_front : {X : Type 0} (xs : List X) (i : ℕ) (x : X)
     → Contains (take i xs) x → (k : ℕ) × (k < i) × (k < length xs) × (get_or xs k x ≡ x)
 in_front xs i x c = search (rules, length-take, get_or-take)
 
+-- a node among the first `i + 1` that is not the one at position `i` is among the first `i`
+pub in_next : (order : List Node) (i node a : Node) → i < length order → node ≡ get_or order i node
+    → a ≢ node → Contains (take (i + 1) order) a → Contains (take i order) a
+in_next order i node a h at other c =
+    grind (arith, nat_tests, take_more order i node h, Contains-push_cases (take i order) node a)
+
+-- One step along the order. `P` holds of what is among the first `i` nodes under a premise. `Q`
+-- holds of the node at position `i`, and of another node where `P` does. So `Q` holds of what is
+-- among the first `i + 1` nodes under the premise.
+pub value_next : (order : List Node) (i node : Node) → i < length order → node ≡ get_or order i node
+    → (P Q : Node → Type 0) → ((a : Node) → a ≢ node → P a → Q a) → Q node
+    → (Premise : Type 0) (a : Node) → ((Premise → Contains (take i order) a) → P a)
+    → (Premise → Contains (take (i + 1) order) a) → Q a
+value_next order i node h at P Q stays own Premise a was into = elim (ℕ_discrete a node) [
+  | yes same ↦ subst Q (sym same) own
+  | no other ↦ stays a other (was (λ p. in_next order i node a h at other (into p)))
+]
+
 -- a node that reaches a new shape has one, or uses a name that reaches one
 first_step : (old new : Shapes) (t : Title) → ReachesNewShape old new t
     → (new t ≢ old t) ⊎ ((used : Title) × Uses new t used × ReachesNewShape old new used)
@@ -33,21 +52,8 @@ module _ (store : StoreRead) (order : List Node) (ordered : IsOrderIn store orde
   pub at_position : IsNodeIn store node
   at_position = ordered.inside node (i, inside, sym at)
 
-  pub apart : (a : Node) → Contains (take i order) a → a ≢ node
-  apart a c same = grind (arith, nat_tests, in_front order i a c)
-
   pub after_used : (m : Node) → Contains (uses_at store node) m → Contains (take i order) m
   after_used m used = search (rules, get_or_default)
-
-  -- what is true of the nodes before a position, and of the node there, is true of all up to it
-  pub value_more : (P Q : Node → Type 0) → ((a : Node) → a ≢ node → P a → Q a) → Q node
-      → ((a : Node) → Contains (take i order) a → P a) → (a : Node) → Contains (take (i + 1) order) a → Q a
-  value_more P Q stays own before a c =
-      elim (Contains-push_cases (take i order) node a (subst (λ l. Contains l a)
-      (take_more order i node inside ∙ ap (λ n. take i order ++ n ∷ []) (sym at)) c)) [
-        | inl old ↦ stays a (apart a old) (before a old)
-        | inr same ↦ subst Q same own
-      ]
 
   module _ (old new : Shapes) (is : IsStoreOf new store) (flags : List Bool)
       (are : AreFlagged old new store flags (take i order)) where
@@ -71,7 +77,8 @@ module _ (store : StoreRead) (order : List Node) (ordered : IsOrderIn store orde
         → AreFlagged old new store (set flags node (own || uses_flagged store flags node)) (take (i + 1) order)
     flagged_next own size is_new =
         let b = own || uses_flagged store flags node in
-        value_more (λ a. (flag_at flags a ≡ true) ↔ ReachesNewShape old new (title_in_store store a))
+        λ a c. value_next order i node inside at
+        (λ a. (flag_at flags a ≡ true) ↔ ReachesNewShape old new (title_in_store store a))
         (λ a. (flag_at (set flags node b) a ≡ true) ↔ ReachesNewShape old new (title_in_store store a))
         (λ a other. Decides-at _ _ (get_or-set_other flags node a b false other))
         (Decides-at _ b (get_or-set_same flags node b false (omega (arith, at_position)))
@@ -79,4 +86,5 @@ module _ (store : StoreRead) (order : List Node) (ordered : IsOrderIn store orde
           | inl differs ↦ (title_in_store store node, here, differs)
           | inr used ↦ (used.2.0, on {b = used.0} used.1 used.2.1, used.2.2)
         ]) (first_step old new (title_in_store store node))
-        (Decides-or own (uses_flagged store flags node) is_new uses_decide))) are
+        (Decides-or own (uses_flagged store flags node) is_new uses_decide)))
+        (Unit {0}) a (λ all. are a (all tt)) (λ _. c)

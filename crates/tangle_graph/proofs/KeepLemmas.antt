@@ -1,18 +1,18 @@
 -- The expansion of one more node is kept, and what is kept at the end.
 use Rattle.std.proofs.Common.{rules}
+use Rattle.std.proofs.lemmas.Bool.Decides.{nat_tests}
 use Rattle.std.proofs.Common.{◌≡◌, ◌∙◌, ◌+◌, ◌<◌, ◌≤◌, ◌++◌, ℕ, Bool, true, false, cond, List, [], ◌∷◌, length, take}
-use Rattle.std.proofs.Common.{get_or, suc, ap, sym, subst, append_assoc, arith, Contains}
-use Rattle.std.specs.Prelude.{None, unwrap_or}
+use Rattle.std.proofs.Common.{get_or, refl, suc, ap, sym, subst, append_assoc, arith, Contains}
+use Rattle.std.specs.Prelude.{None, Option, Some, unwrap_or}
 use Rattle.std.specs.List.{filter}
 use Rattle.std.proofs.lemmas.List.{take_all}
 use Rattle.std.proofs.lemmas.List.Elements.{filter_more}
-use Rattle.std.proofs.Common.{inl, inr}
-use Rattle.std.proofs.lemmas.Bool.{both_ways, cases_Bool}
+use Rattle.std.proofs.lemmas.Bool.{both_ways}
 use Rattle.tangle_graph.proofs.NameLemmas.{empty_unless}
 use Rattle.tangle_expansion.proofs.SameShapes.{used_expandable}
 use Rattle.tangle_expansion.specs.Kept.{kept_at, PutsKept}
 use Rattle.tangle_expansion.specs.Limits.{levels, heaviest, flat_of}
-use Rattle.tangle_bodies.specs.Flat.{flat, pieces_flat}
+use Rattle.tangle_bodies.specs.Flat.{Symbol, flat, pieces_flat}
 use Rattle.tangle_bodies.specs.Shapes.{Title, Named, Shape, Shapes}
 use Rattle.tangle_expansion.specs.declared.kept.Kept.{Kept}
 use Rattle.digraph.specs.Nodes.{Node}
@@ -21,13 +21,19 @@ use Rattle.tangle_graph.specs.Stores.{StoreRead, IsStoreOf, KeepsUsed, IsNodeIn,
 use Rattle.tangle_graph.specs.Stores.{title_in_store, uses_at}
 use Rattle.tangle_graph.proofs.ExpandLemmas.{expandable_at, expandable_in}
 use Rattle.tangle_graph.specs.Keeping.{IsKeptRight, KeepsJust}
-use Rattle.tangle_graph.proofs.FlagLemmas.{after_used, at_position, value_more}
+use Rattle.tangle_graph.proofs.FlagLemmas.{after_used, at_position, in_next, value_next}
 
--- the right expansion is kept for each expandable node of the list, and none for a node that is not expandable
-pub record KeepsThese (shapes : Shapes) (store : StoreRead) (nodes : List Node) (kept : Kept) : Type 0 where
-  pub expandable : (node : Node)
-      → Contains nodes node → is_expandable_at store node ≡ true → IsKeptRight shapes store kept node
-  pub others : (node : Node) → is_expandable_at store node ≡ false → kept_at kept node ≡ None
+-- what is kept of a node at the end: its expansion, if it is expandable
+abbrev right_of : Shapes → StoreRead → Node → Option (List Symbol)
+right_of shapes store node =
+    cond (is_expandable_at store node) (Some (flat_of shapes (title_in_store store node))) None
+
+-- the right expansion is kept of each expandable node among these, and none of a node that is not
+-- expandable
+abbrev pub AreKept : Shapes → StoreRead → List Node → Kept → Type 0
+AreKept shapes store nodes kept =
+    (node : Node) → (is_expandable_at store node ≡ true → Contains nodes node)
+    → kept_at kept node ≡ right_of shapes store node
 
 flat_empty : (all : Shapes) (node : Title) → all node ≡ [] → flat_of all node ≡ []
 unfolding levels
@@ -38,55 +44,42 @@ module _ {shapes : Shapes} {store : StoreRead} {order : List Node}
   module _ (i : ℕ) (h : i < length order) (node : Node) (at : node ≡ get_or order i node) where
     -- the expansion of a used name is kept, if the name has a piece, and else none
     used_kept : (kept : Kept) → is_expandable_at store node ≡ true
-        → KeepsThese shapes store (take i order) kept → KeepsUsed shapes store kept node
+        → AreKept shapes store (take i order) kept → KeepsUsed shapes store kept node
     used_kept kept flag keeps id u =
-        let name : Title = Named (get_or store.names id []) in
         let here : IsNodeIn store node = at_position store order ordered i h node at in
         let inside : IsNodeIn store (suc id) = omega arith in
         let next : Contains (uses_at store node) (suc id) = (is.uses node (suc id) here).1 (inside, u.uses) in
-        elim (cases_Bool (is_expandable_at store (suc id))) [
-          | inl on ↦ ap (λ o. unwrap_or o [])
-              (keeps.expandable (suc id) (after_used store order ordered i h node at (suc id) next) on)
-          | inr off ↦ ap (λ o. unwrap_or o []) (keeps.others (suc id) off)
-              ∙ sym (flat_empty shapes name (empty_unless (shapes name) (λ has. both_ways _ off
-              ((expandable_at shapes store is (suc id) inside).1 (used_expandable levels heaviest shapes
-              (title_in_store store node) (get_or store.names id [])
-              ((expandable_at shapes store is node here).0 flag) u.uses has)))))
-        ]
+        let used = (expandable_at shapes store is node here).0 flag in
+        let none : is_expandable_at store (suc id) ≡ false
+        → flat_of shapes (Named (get_or store.names id [])) ≡ [] =
+        λ off. flat_empty shapes _ (empty_unless _
+        (λ has. both_ways _ off ((expandable_at shapes store is (suc id) inside).1
+        (used_expandable levels heaviest shapes _ _ used u.uses has)))) in
+        let right = keeps (suc id)
+        (λ _. after_used store order ordered i h node at (suc id) next) in
+        grind (arith, nat_tests, right, none)
 
     pub kept_more : (before after : Kept) → is_expandable_at store node ≡ true
-        → KeepsThese shapes store (take i order) before
+        → AreKept shapes store (take i order) before
         → (KeepsUsed shapes store before node → PutsKept before after node (flat_of shapes (title_in_store store node)))
-        → KeepsThese shapes store (take (i + 1) order) after
-    kept_more before after flag keeps made =
+        → AreKept shapes store (take (i + 1) order) after
+    kept_more before after flag keeps made a into =
         let puts = made (used_kept before flag keeps) in
-        record {
-          expandable = value_more store order ordered i h node at
-              (λ a. is_expandable_at store a ≡ true → IsKeptRight shapes store before a)
-              (λ a. is_expandable_at store a ≡ true → IsKeptRight shapes store after a)
-              (λ a other was e. puts.others a other ∙ was e) (λ e. puts.put) keeps.expandable;
-          others = λ a e.
-              puts.others a (λ same. both_ways (is_expandable_at store a) e (ap (is_expandable_at store) same ∙ flag))
-              ∙ keeps.others a e;
-        }
+        value_next order i node h at (λ b. kept_at before b ≡ right_of shapes store b)
+        (λ b. kept_at after b ≡ right_of shapes store b) (λ b other was. puts.others b other ∙ was)
+        (puts.put ∙ rw flag refl) (is_expandable_at store a ≡ true) a (keeps a) into
 
     pub kept_same : (kept : Kept) → is_expandable_at store node ≡ false
-        → KeepsThese shapes store (take i order) kept → KeepsThese shapes store (take (i + 1) order) kept
-    kept_same kept flag keeps =
-        let Right : Node → Type 0 = λ a. is_expandable_at store a ≡ true → IsKeptRight shapes store kept a in
-        record {
-          expandable = value_more store order ordered i h node at Right Right (λ a other was. was)
-              (λ e. absurd (both_ways (is_expandable_at store node) flag e)) keeps.expandable;
-          others = keeps.others;
-        }
+        → AreKept shapes store (take i order) kept → AreKept shapes store (take (i + 1) order) kept
+    kept_same kept flag keeps a into = keeps a (λ on. in_next order i node a h at
+        (λ same. both_ways _ flag (rw same at on)) (into on))
 
   pub kept_all : (i : ℕ) (kept : Kept)
-      → length order ≤ i → KeepsThese shapes store (take i order) kept → KeepsJust shapes store kept
-  kept_all i kept h keeps = record {
-    expandable = λ node e. keeps.expandable node (subst (λ l. Contains l node) (sym (take_all i order h))
-        (ordered.expandable node (expandable_in shapes store is node e) e)) e;
-    others = keeps.others;
-  }
+      → length order ≤ i → AreKept shapes store (take i order) kept → KeepsJust shapes store kept
+  kept_all i kept h keeps =
+      let all = λ (node : Node). keeps node (λ e. rw (take_all i order h)
+      (ordered.expandable node (expandable_in shapes store is node e) e)) in
+      record { expandable = λ node e. rw e at (all node); others = λ node e. rw e at (all node) }
 
 -- one more node of the order is listed or not
 pub listed_more : (p : Node → Bool) (order : List Node) (i : ℕ) (node : Node) (b : Bool) (before work after : List Node)

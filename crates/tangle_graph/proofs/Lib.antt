@@ -3,7 +3,6 @@ pub mod NameLemmas
 mod GroupLemmas
 mod RowLemmas
 mod MeasureLemmas
-mod OrderLemmas
 mod StepLemmas
 mod ListLemmas
 mod GraphLemmas

@@ -40,9 +40,8 @@ module _ (ids : List (List ℕ)) (rows : Graph) (are : AreUsesOf ids rows) where
       let low : n < length ids = omega (arith, h, are.size) in
       λ j d l. (
       let used = Contains-get_or (row_at rows n) j d l in
-      let found = out_of_map suc (row_at ids n) (get_or (row_at rows n) j d) (((are.once n low).same _).0 used) in
-      let below : suc found.0 < length ids =
-      All-contains (λ id. suc id < length ids) (row_at ids n) found.0 (all n [] low) found.1 in
+      let found = out_of_map suc (row_at ids n) _ (((are.once n low).same _).0 used) in
+      let below = All-contains (λ id. suc id < length ids) _ found.0 (all n [] low) found.1 in
       omega (arith, below, found.2, are.size))))
 
 -- each number with 1 added to it
@@ -53,9 +52,9 @@ once_more all once is = record {
       grind (arith, nat_tests, get_or-map suc once k, get_or-map suc once));
   same = λ m. (
     λ c. (let found = out_of_map suc once m c in
-        subst (Contains (map suc all)) found.2 (into_map suc all found.0 ((is.same found.0).0 found.1))),
+        rw (← found.2) (into_map suc all found.0 ((is.same found.0).0 found.1))),
     λ c. (let found = out_of_map suc all m c in
-        subst (Contains (map suc once)) found.2 (into_map suc once found.0 ((is.same found.0).1 found.1))),
+        rw (← found.2) (into_map suc once found.0 ((is.same found.0).1 found.1))),
   );
 }
 
@@ -64,10 +63,10 @@ pub uses_push : (ids : List (List ℕ)) (rows : Graph) (used row : List ℕ)
 uses_push ids rows used row are is = record {
   size = omega (arith, length-append rows (row ∷ []), length-append ids (used ∷ []));
   once = λ n h. elim (dec_lt n (length ids)) [
-    | yes low ↦ subst (λ r. IsOnceEach (map suc r) (row_at (rows ++ row ∷ []) n))
-        (sym (get_or_append_left ids (used ∷ []) [] n low))
-        (subst (IsOnceEach (map suc (row_at ids n)))
-        (sym (get_or_append_left rows (row ∷ []) [] n (omega arith))) (are.once n low))
+    | yes low ↦ rw (
+      get_or_append_left ids (used ∷ []) [] n low,
+      get_or_append_left rows (row ∷ []) [] n (omega arith),
+    ) (are.once n low)
     | no past ↦ search (rules, length-append, get_or_push)
   ];
 }

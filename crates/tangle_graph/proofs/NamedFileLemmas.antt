@@ -5,9 +5,7 @@ use Rattle.std.specs.Prelude.{if◌then◌else◌, nat_lt}
 use Rattle.std.specs.Global.{Global}
 use Rattle.std.specs.Str.{bytes_eq}
 use Rattle.std.specs.declared.vec.Vec.{Vec}
-use Rattle.std.proofs.Common.{inl, inr}
-use Rattle.std.proofs.lemmas.Bool.{cases_Bool}
-use Rattle.std.proofs.Math.Bool.{or-false, or-true}
+use Rattle.std.proofs.lemmas.Bool.Decides.{nat_tests}
 use Rattle.std.proofs.lemmas.List.Folds.{list_any-append}
 use Rattle.std.proofs.lemmas.Slice.Eq.{bytes_eq-Decides}
 use Rattle.tangle_graph.specs.NamedFiles.{HaveForms, has_form}
@@ -26,15 +24,12 @@ use Rattle.tangle_graph.specs.NamedFiles.{flags_of}
 pub form_more : (forms : List (Vec ℕ Global)) (form : Vec ℕ Global) (other : List ℕ)
     → has_form (if has_form forms form.items then forms else forms ++ form ∷ []) other
     ≡ (has_form forms other || bytes_eq other form.items)
-form_more forms form other = elim (cases_Bool (has_form forms form.items)) [
-  | inl f ↦ rw f (elim (cases_Bool (bytes_eq other form.items)) [
-    | inl e ↦ ap (has_form forms) ((bytes_eq-Decides other form.items).0 e) ∙ f
-        ∙ sym (ap (λ b. has_form forms other || b) e ∙ or-true (has_form forms other))
-    | inr e ↦ sym (ap (λ b. has_form forms other || b) e ∙ or-false (has_form forms other))
-  ])
-  | inr f ↦ rw f (list_any-append (λ (o : Vec ℕ Global). bytes_eq other o.items) forms (form ∷ [])
-      ∙ ap (λ b. has_form forms other || b) (or-false (bytes_eq other form.items)))
-]
+form_more forms form other = grind (
+  arith,
+  nat_tests,
+  bytes_eq-Decides other form.items,
+  list_any-append (λ (o : Vec ℕ Global). bytes_eq other o.items) forms (form ∷ []),
+)
 
 -- what is recorded of a name says whether it has a piece
 pub piece_of_name : (shapes : Shapes) (table : TableRead) (measures : List Measure) (id : ℕ) → id < length table.names

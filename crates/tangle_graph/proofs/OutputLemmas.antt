@@ -38,8 +38,7 @@ one_where false x y c = absurd (omega arith)
 
 module _ (web : WebRead) (table : TableRead) (resolves : ResolvesInside table) where
   pub names_below : All (λ id. id < length table.names) (file_names web table)
-  names_below = all_flat (λ id. id < length table.names) (first_file_name table)
-      (search rules)
+  names_below = all_flat (λ id. id < length table.names) (first_file_name table) (search rules)
       (range_with_len 0 (length web.occurrences))
 
   module _ (out : List ℕ) where
@@ -62,18 +61,14 @@ module _ (web : WebRead) (table : TableRead) (resolves : ResolvesInside table) w
 
     pub outputs_fit : (output : OutputRead)
         → Contains (outputs web table out) output → IsFit (shapes web table) table.names output
-    outputs_fit output c = elim (Contains-append_cases (main_file web table out)
-        (map (named_file table) (filter (is_written web table out) (file_names web table))) output c) [
-          | inl main ↦ (let found = one_where
-              (not (shape_has_piece (shapes web table title.Program)) || is_expandable (shapes web table) title.Program)
-              (main_output web table out) output main in
-              subst (IsFit (shapes web table) table.names) found.1
-              (main_fits found.0))
-          | inr named ↦ (let found =
-              out_of_map (named_file table) (filter (is_written web table out) (file_names web table)) output named in
-              let passes = out_of_filter (is_written web table out) (file_names web table) found.0 found.1 in
-              subst (IsFit (shapes web table) table.names) found.2 (named_fits found.0 (All-contains (λ id. id < length table.names) (file_names web table) found.0 names_below passes.0) passes.1))
-        ]
+    outputs_fit output c = elim (Contains-append_cases (main_file web table out) _ output c) [
+      | inl main ↦ (let found = one_where _ _ output main in
+          subst (IsFit (shapes web table) table.names) found.1 (main_fits found.0))
+      | inr named ↦ (let found = out_of_map (named_file table) _ output named in
+          let passes = out_of_filter (is_written web table out) _ found.0 found.1 in
+          let low = All-contains (λ id. id < length table.names) _ found.0 names_below passes.0 in
+          subst (IsFit (shapes web table) table.names) found.2 (named_fits found.0 low passes.1))
+    ]
 
 -- an output file is ready to be written where what its node expands to is kept
 pub ready : (shapes : Shapes) (store : StoreRead) (kept : Kept) → IsStoreOf shapes store → KeepsJust shapes store kept

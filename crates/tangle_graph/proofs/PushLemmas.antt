@@ -1,7 +1,9 @@
 -- One more body, with its flag.
 use Rattle.std.proofs.lemmas.Bool.Decides.{nat_tests}
+use Rattle.std.proofs.lemmas.Grind.{common_steps}
+use Rattle.std.proofs.lemmas.Option.{gets}
 use Rattle.std.proofs.Common.{◌≡◌, ℕ, Bool, false, List, [], ◌∷◌, ◌++◌, length, get_or}
-use Rattle.std.proofs.Common.{subst, arith}
+use Rattle.std.proofs.Common.{arith}
 use Rattle.std.specs.Global.{Global}
 use Rattle.std.specs.declared.rc.Rc.{Rc}
 use Rattle.std.specs.Prelude.{slice_get, IfSome, None, Option, Some}
@@ -13,10 +15,6 @@ use Rattle.tangle_bodies.specs.WebShapes.{shapes}
 use Rattle.tangle_graph.specs.declared.bodies.GroupedWeb.{GroupedWeb}
 use Rattle.tangle_graph.specs.Stores.{StoreRead}
 use Rattle.std.specs.Borrow.{Bor}
-use Rattle.std.proofs.Common.{rules}
-use Rattle.std.proofs.Common.{◌<◌}
-use Rattle.std.proofs.lemmas.Option.{get_or_from_slice_get, slice_get_within}
-use Rattle.std.proofs.lemmas.List.{get_or_push, get_or_append_left, length-append}
 
 -- the node has this body, and its shape is flagged if it is not that of the old store
 abbrev pub IsBodyMade : GroupedWeb → Option (Bor StoreRead) → ℕ → Bool → NodeBody → Type 0
@@ -26,17 +24,14 @@ IsBodyMade grouped old node flag body =
 
 -- the relation holds of each position with the item there, if the position is flagged
 abbrev pub HoldsAtEach : {X : Type 0} → (ℕ → Bool → X → Type 0) → List X → List Bool → Type 0
-HoldsAtEach {X} R xs flags = (n : ℕ) (d : X) → n < length xs → R n (get_or flags n false) (get_or xs n d)
+HoldsAtEach {X} R xs flags =
+    (n : ℕ) (x : X) → slice_get xs n ≡ Some x → R n (get_or flags n false) x
 
-pub each_push : {X : Type 0} (R : ℕ → Bool → X → Type 0) (xs : List X) (flags : List Bool) (x : X) (flag : Bool)
+each_push : {X : Type 0} (R : ℕ → Bool → X → Type 0) (xs : List X) (flags : List Bool) (x : X)
+    (flag : Bool)
     → length flags ≡ length xs → HoldsAtEach R xs flags → R (length xs) flag x
     → HoldsAtEach R (xs ++ x ∷ []) (flags ++ flag ∷ [])
-each_push R xs flags x flag size all one n d h = search (rules, get_or_push, get_or_append_left, length-append)
-
-pub each_read : {X : Type 0} (R : ℕ → Bool → X → Type 0) (xs : List X) (flags : List Bool) → HoldsAtEach R xs flags
-    → (n : ℕ) (x : X) → slice_get xs n ≡ Some x → R n (get_or flags n false) x
-each_read R xs flags all n x at =
-    subst (R n (get_or flags n false)) (get_or_from_slice_get xs n x x at) (all n x (slice_get_within xs n x at))
+each_push R xs flags x flag size all one n y at = grind (arith, common_steps, gets)
 
 pub bodies_push : (R : ℕ → Bool → NodeBody → Type 0) (bodies : List (Rc NodeBody Global)) (flags : List Bool)
     (n : ℕ) (body : Rc NodeBody Global) (flag : Bool)
@@ -51,5 +46,4 @@ pub new_of_old : (grouped : GroupedWeb) (old : Option (Bor StoreRead)) (bodies :
     → HoldsAtEach (IsBodyMade grouped old) bodies flags
     → IfSome old (λ store. AreNewBodies store.now grouped.names.now bodies flags)
 new_of_old grouped None bodies flags each = tt
-new_of_old grouped (Some store) bodies flags each = λ node body has.
-    (each_read (IsBodyMade grouped (Some store)) bodies flags each node body has).1
+new_of_old grouped (Some store) bodies flags each = λ node body has. (each node body has).1

@@ -185,6 +185,7 @@ impl<'f, 's, 'a> FaultSearch<'f, 's, 'a> {
     }
 
     /// All faults of the graph.
+    #[tactic(auto, using(std::proofs::Common::append_assoc))]
     pub(crate) fn faults(&self, alloc: Global) -> Result<Vec<Fault>, NoMemory>
         requires { IsFaultSearch self.now }
         ensures { IfOk result (λ faults. faults.items

@@ -23,6 +23,7 @@ pub(crate) struct NamedFiles {
 }
 
 /// Whether the name is that of a file: an occurrence of it begins with `@(`, and it has a piece.
+#[tactic(auto, using(crate::proofs::NamedFileLemmas::piece_of_name))]
 fn is_file(table: &NameTable, measures: &[Measure], id: usize) -> bool
     requires { id < length table.now.names }
     ensures { (shapes : Shapes) → AreMeasures shapes table.now.names measures.now

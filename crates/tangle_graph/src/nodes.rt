@@ -18,6 +18,7 @@ pub(crate) fn entry<T: Copy>(entries: &[T], node: Node, none: T) -> T
 }
 
 /// The node among the old names that has the title of this node of the new names, if there is one.
+#[tactic(auto, using(crate::proofs::NodeLemmas::nodes_before))]
 pub fn node_before(old: &Names, new: &Names, node: Node) -> Option<Node>
     requires { IsNodeOf new.now node }
     ensures inside { IfSome result (IsNodeOf old.now) }

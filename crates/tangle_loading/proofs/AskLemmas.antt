@@ -7,7 +7,7 @@ use Rattle.std.specs.List.{AllByRecursion, IsDistinct, list_any}
 use Rattle.std.specs.Str.{bytes_eq}
 use Rattle.std.specs.declared.vec.Vec.{Vec}
 use Rattle.std.specs.Global.{Global}
-use Rattle.std.proofs.lemmas.Bool.{cond_both, or_cases}
+use Rattle.std.proofs.lemmas.Bool.{cond-true, cond_both, or_cases}
 use Rattle.std.proofs.lemmas.Cmp.{nat_list_eq_equiv}
 use Rattle.std.proofs.lemmas.List.{drop_more, map-append}
 use Rattle.std.proofs.lemmas.List.Folds.{list_any-append}
@@ -52,12 +52,6 @@ still_asked old new name x e = search (rules, list_any-append)
 module _ (contents : Contents) where
   abbrev pub ask_now : Bool → List (List ℕ) → FileTable → List ℕ → Load
   ask_now needed asked files name = so_far (asked ++ name ∷ []) (add_answer needed files name (contents name))
-
-  -- by whether the name was asked for
-  pub asked_is : (needed : Bool) (asked : List (List ℕ)) (files : FileTable) (name : List ℕ) (b : Bool)
-      → list_any (bytes_eq name) asked ≡ b
-      → ask contents needed asked (Ok files) name ≡ cond b (so_far asked (Ok files)) (ask_now needed asked files name)
-  asked_is needed asked files name b e = ap (λ b. cond b (so_far asked (Ok files)) (ask_now needed asked files name)) e
 
   -- what stays as names are asked for
   abbrev pub IsKept : (Load → Type 0) → Bool → Type 0
@@ -116,10 +110,10 @@ module _ (contents : Contents) where
       )
 
   -- names that were asked for are not asked for again
-  ask_same : (needed : Bool) (asked : List (List ℕ)) (loaded : Loaded) (name : List ℕ) → IsAsked asked name
+  pub ask_same : (needed : Bool) (asked : List (List ℕ)) (loaded : Loaded) (name : List ℕ) → IsAsked asked name
       → ask contents needed asked loaded name ≡ so_far asked loaded
   ask_same needed asked (Err ending) name is = refl
-  ask_same needed asked (Ok files) name is = asked_is needed asked files name true is
+  ask_same needed asked (Ok files) name is = cond-true _ _ _ is
 
   pub asked_stay : (needed : Bool) (names : List (List ℕ)) (load : Load) → AllByRecursion (IsAsked load.asked) names
       → ask_all contents needed load names ≡ load

@@ -1,23 +1,23 @@
 -- Where each included file is in the table, no name is missing.
+use Rattle.std.proofs.lemmas.Bool.Decides.{nat_tests}
+use Rattle.std.proofs.Common.{arith}
 use Rattle.std.proofs.Common.{rules}
-use Rattle.std.proofs.Common.{◌≡◌, ◌∙◌, ℕ, zero, suc, ◌+◌, ◌&&◌, Bool, false, not, List, []}
+use Rattle.std.proofs.Common.{◌≡◌, ◌∙◌, ℕ, zero, suc, ◌+◌, Bool, false, List, []}
 use Rattle.std.proofs.Common.{◌∷◌, ◌++◌, Option, Some, None, drop, refl, ap}
-use Rattle.std.specs.Prelude.{nat_lt}
-use Rattle.std.proofs.lemmas.Bool.{cond_both, or_parts}
+use Rattle.std.proofs.lemmas.Bool.{or_parts}
 use Rattle.std.proofs.lemmas.List.Folds.{list_any-append}
 use Rattle.std.specs.List.{list_any}
-use Rattle.tangle_faults.specs.declared.faults.FaultKind.TheVariants.{SourceTooLong}
 use Rattle.tangle_lines.specs.declared.changes.ChangePhase.{ChangePhase}
 use Rattle.tangle_lines.specs.declared.changes.ChangePhase.TheVariants.{Outside, InOld, InNew}
 use Rattle.tangle_lines.specs.declared.changes.LineKind.{LineKind}
-use Rattle.tangle_faults.specs.Faults.{FaultRead, PlaceRead, fault_at}
+use Rattle.tangle_faults.specs.Faults.{FaultRead, PlaceRead}
 use Rattle.tangle_lines.specs.Inclusion.{included_name}
 use Rattle.tangle_lines.specs.Change.{Change}
 use Rattle.tangle_lines.specs.Changes.{Found, before, changes_from, line_kind_of, next_phase}
 use Rattle.tangle_files.specs.Lines.{FileTable, file_number_or_count}
-use Rattle.tangle_lines.specs.Reading.{WaitingLine, after, begins, change_here, change_lines, change_number}
-use Rattle.tangle_lines.specs.Reading.{change_step, changes_in, source_line_limit}
-use Rattle.tangle_lines.specs.Reading.{line_step, mismatch_faults, place_of, plain_step, reads_in}
+use Rattle.tangle_lines.specs.Reading.{WaitingLine, after, change_lines, change_number}
+use Rattle.tangle_lines.specs.Reading.{change_step, changes_in}
+use Rattle.tangle_lines.specs.Reading.{mismatch_faults, plain_step, reads_in}
 use Rattle.tangle_lines.specs.Reading.{waiting_lines}
 use Rattle.tangle_lines.specs.Reading.{ReadingStep, Reads, State, step_of}
 use Rattle.tangle_lines.specs.Reading.ReadingStep.{Ends, Goes}
@@ -73,11 +73,15 @@ module _ (files : FileTable) (no_missing : IncludesNoMissing files) where
       → IsFine (changes_from file phase n lines)
   changes_fine file phase n [] h none = search rules
   changes_fine file phase n (line ∷ lines) h none =
-      let both = or_parts (misses_file files line) (list_any (misses_file files) lines) none in
-      let next = next_misses_none file phase n line (line_kind_of line) h both.0 in
-      fine_before (next_phase file phase n line (line_kind_of line)).1
-      (changes_from file (next_phase file phase n line (line_kind_of line)).0 (n + 1) lines)
-      next.1 (changes_fine file (next_phase file phase n line (line_kind_of line)).0 (n + 1) lines next.0 both.1)
+      let next = next_misses_none file phase n line (line_kind_of line) in
+      search (
+        rules,
+        fine_before,
+        or_parts,
+        next,
+        changes_fine file
+            (next_phase file phase n line (line_kind_of line)).0 (n + 1) lines,
+      )
 
   change_lines_miss_alike : (file depth : ℕ) (ls : List (ℕ × List ℕ))
       → list_any misses_waiting (change_lines file depth ls) ≡ list_any (λ (l : ℕ × List ℕ). misses_file files l.1) ls
@@ -115,20 +119,14 @@ module _ (files : FileTable) (no_missing : IncludesNoMissing files) where
     step_is_clean [] [] t changes none = refl
     step_is_clean [] (c ∷ cs) t changes none = refl
     step_is_clean (w ∷ ws) [] t changes none =
-        let both = or_parts (misses_waiting w) (list_any misses_waiting ws) none in
-        cond_both (nat_lt t source_line_limit) (line_step files file w ws [] t None)
-        (Ends (fault_at SourceTooLong (place_of files w.origin) ∷ [])) StepIsClean
-        (λ _. plain_is_clean w ws [] t (included_name w.bytes) both.0 changes both.1) (λ _. refl)
+        grind (arith, nat_tests, plain_is_clean w ws [] t (included_name w.bytes))
     step_is_clean (w ∷ ws) (c ∷ cs) t changes none =
-        let both = or_parts (misses_waiting w) (list_any misses_waiting ws) none in
-        let them = or_parts (new_misses c) (list_any new_misses cs) changes in
-        cond_both (nat_lt t source_line_limit) (line_step files file w ws (c ∷ cs) t (change_here (c ∷ cs) w))
-        (Ends (fault_at SourceTooLong (place_of files w.origin) ∷ [])) StepIsClean
-        (λ _. cond_both (not w.changed && begins c.old_lines w.bytes) (Some c) None
-        (λ o. StepIsClean (line_step files file w ws (c ∷ cs) t o))
-        (λ _. change_is_clean c w ws cs t them.0 them.1 none)
-        (λ _. plain_is_clean w ws (c ∷ cs) t (included_name w.bytes) both.0 changes both.1))
-        (λ _. refl)
+        grind (
+          arith,
+          nat_tests,
+          plain_is_clean w ws (c ∷ cs) t (included_name w.bytes),
+          change_is_clean c w ws cs t,
+        )
 
     after_misses_none : (f : State → Reads) (step : ReadingStep) → StepIsClean step
         → ((s : State) → IsClean s → missed_in (f s).faults ≡ []) → missed_in (after files file step f).faults ≡ []

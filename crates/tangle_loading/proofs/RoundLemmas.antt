@@ -1,6 +1,7 @@
 -- Rounds of loading, and its end.
 use Rattle.std.proofs.Common.{rules}
-use Rattle.std.proofs.Common.{◌≡◌, ◌∙◌, inl, inr, ℕ, zero, suc, ◌<◌, ◌+◌, Bool, true, false, List, [], ◌∷◌}
+use Rattle.std.proofs.Common.{◌≡◌, ◌∙◌, ◌⊎◌, inl, inr, ℕ, zero, suc, ◌<◌, Bool, true, false, List}
+use Rattle.std.proofs.Common.{[], ◌∷◌}
 use Rattle.std.proofs.Common.{Option, None, Some, Ok, Err, ap, sym, refl, length, arith, Contains}
 use Rattle.std.specs.List.{AllByRecursion, IsDistinct}
 use Rattle.std.proofs.lemmas.Bool.{cases_lt}
@@ -12,7 +13,7 @@ use Rattle.tangle_loading.specs.Loading.{Contents, Load, LoadEnd, Loaded, ask_al
 use Rattle.tangle_loading.specs.Loading.{load_of, load_unless, missing_in, missing_of, named_in, round_after}
 use Rattle.tangle_loading.specs.Loading.{rounds_after, so_far}
 use Rattle.tangle_loading.proofs.AskLemmas.{AreThere, AsksOnce, Extends, HasFew, IsAsked, IsKept, all_extend}
-use Rattle.tangle_loading.proofs.AskLemmas.{all_keep, asked_stay, become_asked, extend_more, extends_same, few_more}
+use Rattle.tangle_loading.proofs.AskLemmas.{all_keep, asked_stay, become_asked, few_more}
 use Rattle.tangle_loading.proofs.AskLemmas.{once_more, rounds_keep, there_more}
 use Rattle.tangle_loading.proofs.TableLemmas.{same_table}
 
@@ -25,10 +26,6 @@ module _ (contents : Contents) (roles : RolesRead) where
 
   pub round_extends : (load : Load) → Extends load (round load)
   round_extends load = all_extend contents false (missing_in load.loaded roles) load
-
-  pub rounds_extend : (n : ℕ) (load : Load) → Extends load (rounds n load)
-  rounds_extend n load =
-      rounds_keep contents (Extends load) roles (extend_more contents load false) n load (extends_same load)
 
   rounds_swap : (n : ℕ) (load : Load) → round (rounds n load) ≡ rounds n (round load)
   unfolding rounds_after
@@ -49,39 +46,30 @@ module _ (contents : Contents) (roles : RolesRead) where
       ∙ asked_stay contents false (missing_in load.loaded roles) (round load)
       (become_asked contents false (missing_in load.loaded roles) load files new)
 
-  -- enough rounds are left
-  abbrev HasRounds : ℕ → Load → Type 0
-  HasRounds n load = (files : FileTable) → load.loaded ≡ Ok files → most_files < n + length files
+  -- a round that changes something adds a file
+  abbrev IsLastOrGrown : ℕ → Load → Type 0
+  IsLastOrGrown n load =
+      (round load ≡ load) ⊎ ((files : FileTable) × (load.loaded ≡ Ok files) × (n < length files))
 
-  rounds_end : (n : ℕ) (load : Load) → HasFew contents load → HasRounds n load
-      → round (rounds n load) ≡ rounds n load
+  round_grows : (n : ℕ) (load : Load) (loaded : Loaded) → (round load).loaded ≡ loaded
+      → IsLastOrGrown n load
+      → IsLastOrGrown (suc n) (round load)
+  round_grows n load (Err ending) e before = inl ((round_extends (round load)).ended ending e)
+  round_grows n load (Ok files) e (inl stays) = inl (ap round stays)
+  round_grows n load (Ok files) e (inr (old, is, more)) =
+      let before = (round_extends load).files files e in
+      let same : before.0 ≡ old = cc in
+      elim (cases_lt (length before.0) (length files)) [
+        | inl longer ↦ inr (files, e, omega (arith, ap length same))
+        | inr none ↦ inl (round_stays load before.0 before.1
+            (e ∙ ap Ok (same_table before.0 files before.2 none)))
+      ]
+
+  rounds_grow : (n : ℕ) (load : Load) → IsLastOrGrown 0 load → IsLastOrGrown n (rounds n load)
   unfolding rounds_after
-  rounds_end zero load few enough = by load.loaded refl
-    where
-      by : (loaded : Loaded) → load.loaded ≡ loaded → round load ≡ load
-      by (Err ending) e = (round_extends load).ended ending e
-      by (Ok files) e = let a = few files e in let b = enough files e in absurd (omega arith)
-  rounds_end (suc n) load few enough =
-      by (λ more. rounds_end n (round load) few_after more) (round load).loaded refl
-    where
-      few_after : HasFew contents (round load)
-      few_after = all_keep contents (HasFew contents) false (few_more contents false) (missing_in load.loaded roles) load few
-
-      by : (HasRounds n (round load) → round (rounds n (round load)) ≡ rounds n (round load))
-          → (loaded : Loaded) → (round load).loaded ≡ loaded → round (rounds n (round load)) ≡ rounds n (round load)
-      by end (Err ending) e = end (λ files k. absurd (cc))
-      by end (Ok files) e =
-          let old = (round_extends load).files files e in
-          let first = enough old.0 old.1 in
-          elim (cases_lt (length old.0) (length files)) [
-            | inl more ↦ end (λ table k.
-                let same : table ≡ files = cc in
-                omega (arith, ap length same))
-            | inr none ↦ (let same = same_table old.0 files old.2 none in
-                let stays = round_stays load old.0 old.1 (e ∙ ap Ok same) in
-                let still = rounds_stay n (round load) stays in
-                ap round still ∙ stays ∙ sym still)
-          ]
+  rounds_grow zero load first = first
+  rounds_grow (suc n) load first =
+      rw (← rounds_swap n load) (round_grows n (rounds n load) _ refl (rounds_grow n load first))
 
   -- after the first round the table has the web and the change file
   first_there : (files : FileTable) → (first_round contents roles).loaded ≡ Ok files
@@ -99,26 +87,12 @@ module _ (contents : Contents) (roles : RolesRead) where
       by None all = refl
       by (Some name) all = first_there files e name all.0
 
-  first_few : HasFew contents (first_round contents roles)
-  first_few = search (rules, all_keep, few_more)
-
-  has_some : (files : FileTable) (name : List ℕ) → has_file files name ≡ true → 0 < length files
-  has_some [] name e = absurd (cc)
-  has_some (file ∷ files) name e = omega arith
-
-  pub one_more : round (load_of contents roles) ≡ load_of contents roles
-  one_more = by (bad_name roles)
-    where
-      by : (bad : Option (List ℕ)) → round (load_unless contents bad roles) ≡ load_unless contents bad roles
-      by (Some bad) = refl
-      by None = rounds_end most_files (first_round contents roles) first_few (λ files e.
-          let web : has_file files roles.web ≡ true = search (rules, first_fits) in
-          let some = has_some files roles.web web in omega arith)
-
-  -- what the rounds are that are left, after one more
-  pub leads_on : (load : Load) → load_of contents roles ≡ rounds most_files load
-      → load_of contents roles ≡ rounds most_files (round load)
-  leads_on load e = sym one_more ∙ ap round e ∙ rounds_swap most_files load
+  -- the table has the web after the first round
+  first_grown : (loaded : Loaded) → (first_round contents roles).loaded ≡ loaded
+      → IsLastOrGrown 0 (first_round contents roles)
+  first_grown (Err ending) e = inl ((round_extends (first_round contents roles)).ended ending e)
+  first_grown (Ok []) e = let fits = first_fits [] e in absurd (cc)
+  first_grown (Ok (file ∷ files)) e = inr (file ∷ files, e, omega arith)
 
   -- what each name keeps, loading keeps
   pub load_keeps : (P : Load → Type 0) → ((needed : Bool) → IsKept contents P needed)
@@ -129,6 +103,23 @@ module _ (contents : Contents) (roles : RolesRead) where
       by (Some bad) = ended _
       by None = rounds_keep contents P roles (kept false) most_files (first_round contents roles)
           (all_keep contents P true (kept true) (roles.web ∷ named_in roles.change) (so_far [] (Ok [])) start)
+
+  pub one_more : round (load_of contents roles) ≡ load_of contents roles
+  one_more = by (bad_name roles)
+      (load_keeps (HasFew contents) (few_more contents) (λ files e. search rules) (λ ending files e. absurd (cc)))
+    where
+      by : (bad : Option (List ℕ)) → HasFew contents (load_unless contents bad roles)
+          → round (load_unless contents bad roles) ≡ load_unless contents bad roles
+      by (Some bad) few = refl
+      by None few = elim (rounds_grow most_files (first_round contents roles) (first_grown _ refl)) [
+        | inl stays ↦ stays
+        | inr (files, e, more) ↦ (let most = few files e in absurd (omega arith))
+      ]
+
+  -- what the rounds are that are left, after one more
+  pub leads_on : (load : Load) → load_of contents roles ≡ rounds most_files load
+      → load_of contents roles ≡ rounds most_files (round load)
+  leads_on load e = sym one_more ∙ ap round e ∙ rounds_swap most_files load
 
   pub load_once : AsksOnce contents (load_of contents roles)
   unfolding IsDistinct

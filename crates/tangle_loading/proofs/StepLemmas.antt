@@ -1,13 +1,14 @@
 -- One step of loading, and one after another.
 use Rattle.std.proofs.Common.{rules}
-use Rattle.std.proofs.Common.{◌≡◌, ◌∙◌, inl, inr, ℕ, ◌<◌, suc, Bool, cond, List, [], ◌∷◌, ◌++◌}
+use Rattle.std.proofs.Common.{◌≡◌, ◌∙◌, inl, inr, ℕ, ◌<◌, suc, Bool, false, cond, List, [], ◌∷◌}
+use Rattle.std.proofs.Common.{◌++◌}
 use Rattle.std.proofs.Common.{Option, Some, None, Ok, Err, ap, subst, sym, refl, length, append_assoc, append-nil, arith}
 use Rattle.std.proofs.Common.{replicate}
 use Rattle.std.specs.Prelude.{IfSome, IsSomeAnd}
 use Rattle.std.specs.Str.{bytes_eq}
 use Rattle.std.specs.Global.{Global}
 use Rattle.std.specs.declared.vec.Vec.{Vec}
-use Rattle.std.proofs.lemmas.Bool.{cond_both, or_parts}
+use Rattle.std.proofs.lemmas.Bool.{cond-false, cond_both, or_parts}
 use Rattle.std.proofs.lemmas.Bool.Decides.{nat_tests}
 use Rattle.std.proofs.lemmas.List.{length-replicate}
 use Rattle.std.proofs.lemmas.List.Folds.{list_any-append}
@@ -16,11 +17,14 @@ use Rattle.std.proofs.lemmas.Slice.Eq.{bytes_eq-Decides}
 use Rattle.tangle_files.specs.Lines.{FileTable}
 use Rattle.tangle_folders.specs.declared.folder.FolderFault.TheVariants.{Missing, TooBig}
 use Rattle.tangle_folders.specs.Folder.{File, FolderRead, IsFileAnswer, file_bytes, file_limit, with_name_added}
-use Rattle.tangle_loading.specs.Loading.{Contents, Load, LoadEnd, Loaded, add_answer, ask_all, so_far}
+use Rattle.tangle_loading.specs.Loading.{Contents, Load, LoadEnd, Loaded, add_answer, ask_all, rounds_after, so_far}
 use Rattle.tangle_loading.specs.Loading.LoadEnd.{CannotRead, NoMemory}
-use Rattle.tangle_loading.specs.Endings.{EndsEarly, HasContents, IsGiven, Knows, Step, after_asking, after_failing}
+use Rattle.tangle_loading.specs.Endings.{HasEndedEarly, EndsEarly, IsGiven, Stands, Step}
+use Rattle.tangle_loading.specs.Endings.{WholeLoading}
+use Rattle.tangle_loading.specs.Endings.{after_asking, after_failing}
 use Rattle.tangle_loading.specs.Endings.EndsEarly.{HasFailed, IsItsEnd, IsShort}
-use Rattle.tangle_loading.proofs.AskLemmas.{Extends, IsFresh, all_extend, asked_is, missed_next}
+use Rattle.tangle_loading.proofs.AskLemmas.{Extends, IsAsked, IsFresh, all_extend, ask_same, extend_more}
+use Rattle.tangle_loading.proofs.AskLemmas.{missed_next, rounds_keep}
 
 -- what a folder reports, by each of its clauses
 pub folder_is : {new : FolderRead} {files created : Option (List File)} {asked failed : Option (List (List ℕ))}
@@ -40,70 +44,60 @@ pub later : (a b : Load) (old new : FolderRead) (ending : LoadEnd)
 later a b old new ending x (IsItsEnd e is) =
     subst (λ l. EndsEarly l old new ending) (sym (x.ended ending e)) (IsItsEnd e is)
 later a b old new ending x (HasFailed front rest name split is which) =
-    HasFailed front (rest ++ x.more) name
-    (x.asked ∙ ap (λ l. l ++ x.more) split ∙ append_assoc front (name ∷ rest) x.more) is which
+    HasFailed front (rest ++ x.more) name (search (rules, append_assoc, x.asked)) is which
 later a b old new ending x (IsShort front rest split is e) =
-    IsShort front (rest ++ x.more) (x.asked ∙ ap (λ l. l ++ x.more) split ∙ append_assoc front rest x.more) is e
+    IsShort front (rest ++ x.more) (search (rules, append_assoc, x.asked)) is e
 
 -- contents that are as the folder reports
-pub its : {start : FolderRead} {known : Contents → Contents} {asked : List (List ℕ)} {now : FolderRead}
-    → Knows start known asked now → (contents : Contents) × HasContents start (known contents)
-its {start = start} {known = known} knows = by start.files refl
-  where
-    by : (reported : Option (List File)) → start.files ≡ reported
-        → (contents : Contents) × IfSome reported (λ files. known contents ≡ file_bytes files)
-    by None e = (λ name. None, tt)
-    by (Some files) e = (file_bytes files, knows.are_its files e)
+pub some_contents : (reported : Option (List File))
+    → (contents : Contents) × IfSome reported (λ files. contents ≡ file_bytes files)
+some_contents None = (λ name. None, tt)
+some_contents (Some files) = (file_bytes files, refl)
+
+-- loading that stands where it has ended
+ends : {whole : WholeLoading} {needed : Bool} {names : List (List ℕ)} {mid new : FolderRead}
+    {load : Load} {ending : LoadEnd}
+    → Stands whole needed names mid load → EndsEarly load whole.start new ending
+    → HasEndedEarly whole new ending
+ends {whole = whole} {needed = needed} {names = names} {new = new} {load = load} {ending = ending} at early =
+    let some = some_contents whole.start.files in
+    let contents = at.known some.0 in
+    let x = rounds_keep contents (Extends load) whole.roles (extend_more contents load false) whole.rounds _
+    (all_extend contents needed names load) in
+    (contents, at.knows.are_its some.0 some.1, rw (at.leads some.0) (later load _ whole.start new ending x early))
 
 -- nothing more is asked for
-pub step_same : {needed : Bool} {names left : List (List ℕ)} {old : FolderRead} {asked : List (List ℕ)}
-    {files : FileTable}
-    → ((contents : Contents) → ask_all contents needed (so_far asked (Ok files)) names
-    ≡ ask_all contents needed (so_far asked (Ok files)) left)
-    → Step needed names left old (so_far asked (Ok files)) old (so_far asked (Ok files))
-step_same same = record { to = λ start known knows. (λ contents. contents, knows, λ contents. same (known contents)) }
+pub step_same : {needed : Bool} {name : List ℕ} {old : FolderRead} {asked : List (List ℕ)} {files : FileTable}
+    → IsAsked asked name → Step needed (name ∷ []) [] old (so_far asked (Ok files)) old (so_far asked (Ok files))
+step_same {needed = needed} {name = name} {asked = asked} {files = files} is = record {
+  to = λ whole later at. record {
+    known = at.known;
+    knows = at.knows;
+    leads = λ contents. at.leads contents
+        ∙ ap (λ l. rounds_after (at.known contents) whole.roles whole.rounds (ask_all (at.known contents) needed l later))
+        (ask_same (at.known contents) needed asked (Ok files) name is);
+  };
+}
 
 pub step_begins : {needed : Bool} {names : List (List ℕ)} {old : FolderRead} {asked : List (List ℕ)} {files : FileTable}
     → Step needed names names old (so_far asked (Ok files)) old (so_far asked (Ok files))
-step_begins = step_same (λ contents. refl)
+step_begins = record { to = λ whole later at. at }
 
 pub step_short : (needed : Bool) (names : List (List ℕ)) (old : FolderRead) (before : Load) (new : FolderRead)
     (now : List (List ℕ)) → new ≡ old → Step needed names [] old before new (so_far now (Err NoMemory))
 step_short needed names old before new now same = record {
-  to = λ start known knows.
-      let i = its knows in
-      let x = all_extend (known i.0) needed names before in
-      (i.0, i.1, IsShort before.asked x.more x.asked (same ∙ knows.folder) refl);
+  to = λ whole later at. ends at (IsShort before.asked [] (sym (append-nil before.asked)) (same ∙ at.knows.folder) refl);
 }
 
 -- the first of the names that are left is asked for
 pub step_next : {needed : Bool} {name : List ℕ} {names left : List (List ℕ)} {old mid new : FolderRead} {before : Load}
-    {now end : List (List ℕ)} {table : FileTable} {loaded : Loaded}
+    {now : List (List ℕ)} {table : FileTable} {after : Load}
     → Step needed names (name ∷ left) old before mid (so_far now (Ok table))
-    → Step needed (name ∷ []) [] mid (so_far now (Ok table)) new (so_far end loaded)
-    → Step needed names left old before new (so_far end loaded)
-step_next {needed = needed} {left = left} {loaded = Ok files} first second = record {
-  to = λ start known knows.
-      let f = first.to start known knows in
-      let s = second.to start (λ contents. known (f.0 contents)) f.1 in
-      let e = λ (c : Contents). f.2 (s.0 c) ∙ ap (λ l. ask_all (known (f.0 (s.0 c))) needed l left) (s.2 c) in
-      (λ contents. f.0 (s.0 contents), s.1, e);
+    → Step needed (name ∷ []) [] mid (so_far now (Ok table)) new after
+    → Step needed names left old before new after
+step_next {left = left} first second = record {
+  to = λ whole later at. second.to whole (left ++ later) (first.to whole later at);
 }
-step_next {needed = needed} {name = name} {left = left} {new = new} {now = now} {table = table} {loaded = Err ending}
-    first second = record {
-      to = λ start known knows.
-          let f = first.to start known knows in
-          let s = second.to start (λ contents. known (f.0 contents)) f.1 in
-          let asks = ask_all (known (f.0 s.0)) needed in
-          let x = all_extend (known (f.0 s.0)) needed left (asks (so_far now (Ok table)) (name ∷ [])) in
-          (f.0 s.0, s.1, subst (λ l. EndsEarly l start new ending) (sym (f.2 s.0)) (later _ _ start new ending x s.2));
-    }
-
--- loading has ended, whatever is left
-pub step_early : {needed : Bool} {names left : List (List ℕ)} {old new : FolderRead} {before : Load}
-    {now : List (List ℕ)} {ending : LoadEnd} → Step needed names left old before new (so_far now (Err ending))
-    → Step needed names [] old before new (so_far now (Err ending))
-step_early step = record { to = step.to }
 
 -- contents in which the folder's answer about a name is put
 abbrev with_answer : List ℕ → Option (List ℕ) → Contents → Contents
@@ -118,46 +112,49 @@ pub some_answer : (reported : Option (List File)) (name : List ℕ)
 some_answer None name = (None, tt)
 some_answer (Some all) name = (file_bytes all name, refl)
 
+its_answer : (reported : Option (List File)) (name : List ℕ) (answer : Option (List ℕ)) (contents : Contents)
+    → IfSome reported (λ all. file_bytes all name ≡ answer) → IfSome reported (λ all. contents ≡ file_bytes all)
+    → IfSome reported (λ all. with_answer name answer contents ≡ file_bytes all)
+its_answer reported name answer contents says are = search (rules, with_its_answer)
+
 -- the folder is asked for a name for which it was not asked before
 module _ (needed : Bool) (name : List ℕ) (old : FolderRead) (asked : List (List ℕ)) (files : FileTable)
     (new : FolderRead) (fresh : IsFresh asked name) where
   answered : (answer : Option (List ℕ)) → IfSome old.files (λ all. file_bytes all name ≡ answer)
-      → (start : FolderRead) (known : Contents → Contents) → Knows start known asked old
-      → Knows start (λ c. known (with_answer name answer c)) (asked ++ name ∷ []) (after_asking old (name ∷ []))
-      × ((c : Contents) → ask_all (known (with_answer name answer c)) needed (so_far asked (Ok files)) (name ∷ [])
-      ≡ so_far (asked ++ name ∷ []) (add_answer needed files name answer))
-  answered answer are start known knows = (
-    record {
-      folder = ap (λ f. after_asking f (name ∷ [])) knows.folder ∙ after_both start asked (name ∷ []);
-      are_its = λ all e.
-          let is = subst (λ o. IfSome o (λ all. file_bytes all name ≡ answer)) (ap (λ f. f.files) knows.folder ∙ e) are in
-          ap (λ a. known (with_answer name a (file_bytes all))) (sym is)
-          ∙ ap known (with_its_answer name (file_bytes all)) ∙ knows.are_its all e;
-      others = search (rules, or_parts, list_any-append);
-    },
-    λ c. search (rules, asked_is),
-  )
+      → {whole : WholeLoading} {later : List (List ℕ)}
+      → Stands whole needed (name ∷ later) old (so_far asked (Ok files))
+      → Stands whole needed later (after_asking old (name ∷ []))
+      (so_far (asked ++ name ∷ []) (add_answer needed files name answer))
+  answered answer says {whole = whole} {later = later} at = record {
+    known = λ c. at.known (with_answer name answer c);
+    knows = record {
+      folder = ap (λ f. after_asking f (name ∷ [])) at.knows.folder ∙ after_both whole.start asked (name ∷ []);
+      are_its = λ c has. at.knows.are_its (with_answer name answer c) (its_answer whole.start.files name answer c
+          (subst (λ f. IfSome f.files (λ all. file_bytes all name ≡ answer)) at.knows.folder says) has);
+      others = search (rules, or_parts, list_any-append, at.knows.others);
+    };
+    leads = λ c.
+        let all = at.known (with_answer name answer c) in
+        let is : all name ≡ answer = search (rules, at.knows.others, bytes_eq-Decides) in
+        at.leads (with_answer name answer c)
+        ∙ ap (λ l. rounds_after all whole.roles whole.rounds (ask_all all needed l later))
+        (cond-false _ _ _ fresh ∙ ap (λ a. so_far (asked ++ name ∷ []) (add_answer needed files name a)) is);
+  }
 
   -- a file is added, or there is none, or the table refuses it, or memory runs out
   pub step_answered : (answer : Option (List ℕ)) → IfSome old.files (λ all. file_bytes all name ≡ answer)
       → new ≡ after_asking old (name ∷ []) → (loaded : Loaded) → IsGiven (add_answer needed files name answer) loaded
       → Step needed (name ∷ []) [] old (so_far asked (Ok files)) new (so_far (asked ++ name ∷ []) loaded)
-  step_answered answer are asks (Ok next) why = record {
-    to = λ start known knows.
-        let a = answered answer are start known knows in
-        let e = ap (so_far (asked ++ name ∷ [])) (elim why [ inl e ↦ sym e | inr e ↦ absurd (cc) ]) in
-        rw asks (with_answer name answer, a.0, λ c. a.1 c ∙ e);
-  }
-  step_answered answer are asks (Err ending) why = record {
-    to = λ start known knows.
-        let a = answered answer are start known knows in
-        let i = its a.0 in
-        let ends : EndsEarly (so_far (asked ++ name ∷ []) (add_answer needed files name answer)) start new ending =
-        elim why [
-          | inl e ↦ IsItsEnd (sym e) (asks ∙ a.0.folder)
-          | inr e ↦ IsShort (asked ++ name ∷ []) [] (sym (append-nil (asked ++ name ∷ []))) (asks ∙ a.0.folder) (cc)
-        ] in
-        (with_answer name answer i.0, i.1, subst (λ l. EndsEarly l start new ending) (sym (a.1 i.0)) ends);
+  step_answered answer says asks (Ok next) why =
+      let e : Ok next ≡ add_answer needed files name answer = elim why [ inl e ↦ e | inr e ↦ absurd (cc) ] in
+      record { to = λ whole later at. rw (asks, e) (answered answer says at) }
+  step_answered answer says asks (Err ending) why = record {
+    to = λ whole later at.
+        let a = answered answer says at in
+        ends a (elim why [
+          | inl e ↦ IsItsEnd (sym e) (asks ∙ a.knows.folder)
+          | inr e ↦ IsShort (asked ++ name ∷ []) [] (sym (append-nil (asked ++ name ∷ []))) (asks ∙ a.knows.folder) (cc)
+        ]);
   }
 
   -- the folder failed
@@ -165,15 +162,10 @@ module _ (needed : Bool) (name : List ℕ) (old : FolderRead) (asked : List (Lis
       → IsGiven (Err (CannotRead name)) (Err ending)
       → Step needed (name ∷ []) [] old (so_far asked (Ok files)) new (so_far (asked ++ name ∷ []) (Err ending))
   step_failed ending failing which = record {
-    to = λ start known knows.
+    to = λ whole later at.
         let some = some_answer old.files name in
-        let a = answered some.0 some.1 start known knows in
-        let i = its a.0 in (
-          with_answer name some.0 i.0,
-          i.1,
-          HasFailed asked [] name (ap (λ l. l.asked) (a.1 i.0))
-              (failing ∙ ap (λ f. after_failing f name) a.0.folder) which,
-        );
+        let a = answered some.0 some.1 at in
+        ends a (HasFailed asked [] name refl (failing ∙ ap (λ f. after_failing f name) a.knows.folder) which);
   }
 
 pub is_found : (reported : Option (List File)) (name : List ℕ) (bytes : Vec ℕ Global)
@@ -204,4 +196,4 @@ is_too_big (Some all) needed files name h =
 
 pub ruleset next_name = (step_begins, step_next, missed_next)
 
-pub ruleset once = (step_same, asked_is, step_short, folder_is, step_failed)
+pub ruleset once = (step_same, step_short, folder_is, step_failed)

@@ -10,11 +10,11 @@ use Rattle.tangle_files.specs.Lines.{FileTable, file_number, lines_at}
 use Rattle.tangle_files.specs.Roles.{RolesRead}
 use Rattle.tangle_lines.specs.Inclusion.{included_name}
 use Rattle.tangle_streams.specs.Streams.{one_more_failure}
-use Rattle.tangle_folders.specs.Folder.{File, FolderRead, file_bytes, with_name_added}
+use Rattle.tangle_folders.specs.Folder.{FolderRead, file_bytes, with_name_added}
 use Rattle.tangle_loading.specs.declared.loading.LoadFault.{LoadFault}
 use Rattle.tangle_loading.specs.declared.loading.LoadFault.TheVariants as fault
 use Rattle.tangle_loading.specs.Loading.{Contents, Load, LoadEnd, Loaded, ask_all}
-use Rattle.tangle_loading.specs.Loading.{load_of, so_far}
+use Rattle.tangle_loading.specs.Loading.{load_of, rounds_after, so_far}
 use Rattle.tangle_loading.specs.Loading.LoadEnd.{CannotRead, NoMemory, Refused}
 
 -- the folder after it was asked for these names; nothing else in it changes
@@ -71,35 +71,51 @@ ending_of fault.NoMemory = NoMemory
 abbrev pub given : {T : Type 0} → FileTable → Result T LoadFault → Loaded
 given files result = result_map_both (λ done. files) ending_of result
 
+-- the loading of which a step is a part: the folder with which it begins, its roles, and the number
+-- of rounds after its first names; `final` is its end, by the contents of the folder
+pub record WholeLoading : Type 0 where
+  pub start : FolderRead
+  pub roles : RolesRead
+  pub rounds : ℕ
+  pub final : Contents → Load
+
 -- The folder was asked for these names since loading began. `known` puts what it answered into any
 -- contents; it leaves other names as they are.
 pub record Knows (start : FolderRead) (known : Contents → Contents) (asked : List (List ℕ))
     (now : FolderRead) : Type 0 where
   pub folder : now ≡ after_asking start asked
-  pub are_its : (files : List File) → start.files ≡ Some files
-      → known (file_bytes files) ≡ file_bytes files
+  pub are_its : (contents : Contents) → HasContents start contents
+      → HasContents start (known contents)
   pub others : (name : List ℕ) → list_any (bytes_eq name) asked ≡ false
       → (contents : Contents) → known contents name ≡ contents name
 
--- where a step has come to, with what is known now put into any contents: these names are left, or
--- loading has ended
-abbrev pub StepTo : (Contents → Load) → (Contents → Load → Load) → FolderRead
-    → (Contents → Contents) → FolderRead → List (List ℕ) → Loaded → Type 0
-StepTo load rest start known new asked (Ok files) =
-    (more : Contents → Contents) × Knows start (λ contents. known (more contents)) asked new
-    × ((contents : Contents) → load (known (more contents))
-    ≡ rest (known (more contents)) (so_far asked (Ok files)))
-StepTo load rest start known new asked (Err ending) =
-    (contents : Contents) × HasContents start (known contents)
-    × EndsEarly (load (known contents)) start new ending
+-- with what is known put into any contents, these names are left, and then the rounds
+pub record Stands (whole : WholeLoading) (needed : Bool) (names : List (List ℕ)) (now : FolderRead)
+    (load : Load) : Type 0 where
+  pub known : Contents → Contents
+  pub knows : Knows whole.start known load.asked now
+  pub leads : (contents : Contents) → whole.final (known contents)
+      ≡ rounds_after (known contents) whole.roles whole.rounds
+      (ask_all (known contents) needed load names)
 
--- a step of loading, which asks for these names until others are left
+-- loading has ended early
+abbrev pub HasEndedEarly : WholeLoading → FolderRead → LoadEnd → Type 0
+HasEndedEarly whole now ending =
+    (contents : Contents) × HasContents whole.start contents
+    × EndsEarly (whole.final contents) whole.start now ending
+
+abbrev pub StandsOrEnds : WholeLoading → Bool → List (List ℕ) → FolderRead → List (List ℕ) → Loaded
+    → Type 0
+StandsOrEnds whole needed names now asked (Ok files) =
+    Stands whole needed names now (so_far asked (Ok files))
+StandsOrEnds whole needed names now asked (Err ending) = HasEndedEarly whole now ending
+
+-- a step of loading, which asks for these names until others are left, whatever comes later
 pub record Step (needed : Bool) (names left : List (List ℕ)) (old : FolderRead) (before : Load)
     (new : FolderRead) (after : Load) : Type 0 where
-  pub to : (start : FolderRead) (known : Contents → Contents)
-      → Knows start known before.asked old
-      → StepTo (λ contents. ask_all contents needed before names)
-      (λ contents load. ask_all contents needed load left) start known new after.asked after.loaded
+  pub to : (whole : WholeLoading) (later : List (List ℕ))
+      → Stands whole needed (names ++ later) old before
+      → StandsOrEnds whole needed (left ++ later) new after.asked after.loaded
 
 -- whether a line includes a file that isn't in the table
 abbrev pub misses_name : FileTable → Option (List ℕ) → Bool

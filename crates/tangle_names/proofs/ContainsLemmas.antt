@@ -1,5 +1,5 @@
 -- What a list contains, after a map or a filter, too.
-use Rattle.std.proofs.lemmas.Bool.{cond_both}
+use Rattle.std.proofs.lemmas.Bool.{cases_Bool}
 use Rattle.std.proofs.Common.{rules}
 use Rattle.std.proofs.lemmas.Bool.Decides.{nat_tests}
 use Rattle.std.proofs.Common.{◌≡◌, ◌⊎◌, Bool, true, List, [], ◌∷◌, map, filter, refl}
@@ -23,12 +23,13 @@ cons_cases x xs t c = search rules
 pub into_filter : {X : Type 0} (q : X → Bool) (xs : List X) (t : X)
     → Contains xs t → q t ≡ true → Contains (filter q xs) t
 into_filter q [] t c h = c
-into_filter q (x ∷ xs) t c h = elim (cons_cases x xs t c) [
-  | inl e ↦ search rules
-  | inr d ↦
-      let m = into_filter q xs t d h in
-      cond_both (q x) (x ∷ filter q xs) (filter q xs) (λ l. Contains l t) (λ _. there x (filter q xs) t m) (λ _. m)
-]
+into_filter q (x ∷ xs) t c h =
+    let m = into_filter q xs t in
+    elim (cons_cases x xs t c) [
+      | inl e ↦ search rules
+      | inr d ↦
+          elim (cases_Bool (q x)) [ inl y ↦ rw y (there x _ t (m d h)) | inr n ↦ rw n (m d h) ]
+    ]
 
 pub out_of_filter : {X : Type 0} (q : X → Bool) (xs : List X) (t : X)
     → Contains (filter q xs) t → Contains xs t × (q t ≡ true)
@@ -44,3 +45,9 @@ pub out_of_map : {X Y : Type 0} (f : X → Y) (xs : List X) (y : Y)
     → Contains (map f xs) y → (x : X) × Contains xs x × (f x ≡ y)
 out_of_map f [] y c = absurd (no_item y c)
 out_of_map f (x ∷ xs) y c = grind (arith, nat_tests, out_of_map f xs y, there x xs)
+
+pub map_same : {X Y : Type 0} (f g : X → Y) (xs : List X)
+    → ((x : X) → Contains xs x → f x ≡ g x) → map f xs ≡ map g xs
+map_same f g [] same = refl
+map_same f g (x ∷ xs) same =
+    λ i. same x (here x xs) i ∷ map_same f g xs (λ y c. same y (there x xs y c)) i

@@ -1,12 +1,13 @@
 -- The first occurrences of names.
 use Rattle.std.proofs.Common.{rules}
 use Rattle.std.proofs.lemmas.Bool.Decides.{nat_tests}
-use Rattle.std.proofs.Common.{◌≡◌, ◌<◌, ◌∙◌, inl, inr, ℕ, Bool, true, false, cond, ◌&&◌}
-use Rattle.std.proofs.Common.{List, [], length, get_or, refl, ap, sym, subst, arith, Option, Some, None, position}
+use Rattle.std.proofs.Common.{◌≡◌, ◌<◌, ◌∙◌, inl, inr, ℕ, Bool, true, false, ◌&&◌}
+use Rattle.std.proofs.Common.{List, [], length, get_or, ap, sym, subst, arith, Option, Some, None, position}
 use Rattle.std.specs.Prelude.{slice_get, nat_lt, IsSome, find}
 use Rattle.std.specs.List.{position_or_len}
 use Rattle.std.specs.Bool.{Decides}
 use borrow.Author.Tests.{ltb-true}
+use Rattle.std.proofs.lemmas.Bool.{cond_both}
 use Rattle.std.proofs.lemmas.Option.{slice_get_cases, slice_get_within, get_or_from_slice_get}
 use Rattle.std.proofs.lemmas.List.Elements.{Contains-get_or}
 use Rattle.std.proofs.lemmas.List.Folds.{find_at}
@@ -42,15 +43,14 @@ module _ (q : OccurrenceRead → Bool) (P : OccurrenceRead → Type 0) (os : Lis
       }
 
   first_or_none : IsFirstIfAny P os (position q os)
-  first_or_none = by (nat_lt (position_or_len q os) (length os)) refl
-    where
-      by : (b : Bool) → nat_lt (position_or_len q os) (length os) ≡ b
-          → IsFirstIfAny P os (cond b (Some (position_or_len q os)) None)
-      by true is = elim (slice_get_cases os (position_or_len q os)).1 [
+  first_or_none =
+      let n = position_or_len q os in
+      cond_both (nat_lt n (length os)) (Some n) None (IsFirstIfAny P os)
+      (λ is. elim (slice_get_cases os n).1 [
         | inl found ↦ first_at found.0 found.2
-        | inr past ↦ absurd (omega (arith, ltb-true (position_or_len q os) (length os) is))
-      ]
-      by false is = λ o c holds. grind (arith, nat_tests, decides o, none_passes q os o)
+        | inr past ↦ absurd (omega (arith, ltb-true n (length os) is))
+      ])
+      (λ is o c holds. grind (arith, nat_tests, decides o, none_passes q os o))
 
 -- an occurrence resolves to a name if it means the name
 numbered : (id : ℕ) (r : Resolved) → Decides (is_number id r) (r ≡ Name id)

@@ -11,7 +11,7 @@ use Rattle.std.proofs.lemmas.List.Sums.{passes_at_first}
 use Rattle.std.proofs.lemmas.Map.Views.{list_any-from_Contains}
 use Rattle.std.proofs.lemmas.Bool.{not-true}
 use Rattle.tangle_lexer.specs.Occurrences.{OccurrenceRead}
-use Rattle.tangle_names.specs.Names.{NameText, Meaning, Nothing, One, Several, full_names, meaning, means}
+use Rattle.tangle_names.specs.Names.{NameText, Meaning, One, full_names, meaning, means}
 use Rattle.tangle_names.specs.Names.{only_with, prefix}
 use Rattle.tangle_names.specs.Resolving.{first_occurrence, names_in_order, resolve, resolved_meaning}
 use Rattle.tangle_names.specs.Resolving.{resolves_to}
@@ -64,9 +64,8 @@ prefix_law-by : (os : List OccurrenceRead) (p : NameText) (m : Meaning)
     → Fits (Begins (full_names os) p) m
     → ((t : NameText) → m ≡ One t → list_any (bytes_eq t) (names_in_order os) ≡ true)
     → ResolvesPrefix (names_in_order os) (full_names os) p (resolved_meaning (names_in_order os) m)
-prefix_law-by os p Nothing f named = f
 prefix_law-by os p (One t) f named = (t, number-at t (names_in_order os) (named t refl), f)
-prefix_law-by os p Several f named = f
+prefix_law-by os p m f named = f
 
 pub prefix_law : (os : List OccurrenceRead) (o : OccurrenceRead) → Contains os o → o.is_abbreviation ≡ true
     → ResolvesPrefix (names_in_order os) (full_names os) (prefix o.text) (resolve os o)

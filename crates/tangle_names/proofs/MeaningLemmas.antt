@@ -1,7 +1,7 @@
 -- Whether a list has no text, one or several, and whether an item of it passes a test.
 use Rattle.std.proofs.lemmas.Bool.Decides.{nat_tests}
 use Rattle.std.proofs.Common.{◌≡◌, ◌≢◌, ◌∙◌, ◌&&◌, not, Bool, true, false, filter, List, [], ◌∷◌, refl, ap, sym}
-use Rattle.std.proofs.Common.{inl, inr, Contains, map, ◌||◌, arith, get_or, length, ◌<◌, ◌≤◌}
+use Rattle.std.proofs.Common.{Contains, map, ◌||◌, arith, get_or, length, ◌<◌, ◌≤◌}
 use Rattle.std.specs.List.{list_all, list_any, position_or_len}
 use Rattle.std.proofs.lemmas.List.Elements.{All-contains, Contains-get_or}
 use Rattle.std.proofs.lemmas.List.Folds.{list_any-from_Any, list_any_none}
@@ -12,7 +12,7 @@ use Rattle.std.proofs.lemmas.Slice.Eq.{bytes_eq-Decides}
 use Rattle.tangle_names.specs.Names.{NameText, Meaning, Nothing, One, Several, begins_with, only, only_with}
 use Rattle.tangle_names.specs.Laws.{Begins, HasSeveral, IsOnly}
 use Rattle.tangle_names.specs.Sorted.{SameTexts, is_several}
-use Rattle.std.proofs.lemmas.Bool.{and_parts, cases_Bool, cond_both, false_from_ne_true}
+use Rattle.std.proofs.lemmas.Bool.{cond_both}
 use Rattle.tangle_names.specs.Faults.{begins_another}
 use Rattle.tangle_names.proofs.ContainsLemmas.{here, there, no_item, cons_cases, into_filter, out_of_filter}
 
@@ -28,16 +28,13 @@ Fits P Several = HasSeveral P
 as_first : (x : NameText) (xs : List NameText)
     → list_all (bytes_eq x) xs ≡ true → (v : NameText) → Contains (x ∷ xs) v → v ≡ x
 as_first x xs h v e =
-    elim (cons_cases x xs v e)
-    [ inl f ↦ sym f | inr f ↦ sym ((bytes_eq-Decides x v).0 (list_all-at (bytes_eq x) xs v h f)) ]
+    let one = list_all-at (bytes_eq x) xs v h in
+    grind (arith, nat_tests, cons_cases x xs v e, bytes_eq-Decides x v, one)
 
 fails : (q : NameText → Bool) (xs : List NameText)
     → list_all q xs ≡ false → (v : NameText) × Contains xs v × (q v ≡ false)
 fails q [] h = absurd (cc)
-fails q (x ∷ xs) h = elim (cases_Bool (q x)) [
-  | inl e ↦ let v = fails q xs (grind (arith, nat_tests)) in (v.0, there x xs v.0 v.1, v.2)
-  | inr e ↦ (x, here x xs, e)
-]
+fails q (x ∷ xs) h = grind (arith, nat_tests, fails q xs, here x xs, there x xs)
 
 -- of the names that begin with a prefix, by a list with the same texts
 pub only_with-fits : (full texts : List NameText) (p : NameText) → SameTexts full texts
@@ -60,26 +57,16 @@ only_with-fits full texts p same =
         (x, other.0, out x (here x xs), out other.0 (there x xs other.0 other.1), differ))
 
 fits-once : (P : NameText → Type 0) (m n : Meaning) → Fits P m → Fits P n → m ≡ n
-fits-once P Nothing Nothing f g = refl
-fits-once P Nothing (One u) f g = absurd (f u g.0)
-fits-once P Nothing Several f g = absurd (f g.0 g.2)
-fits-once P (One t) Nothing f g = absurd (g t f.0)
-fits-once P (One t) (One u) f g = ap One (g.1 t f.0)
-fits-once P (One t) Several f g = absurd (g.4 (f.1 g.0 g.2 ∙ sym (f.1 g.1 g.3)))
-fits-once P Several Nothing f g = absurd (g f.0 f.2)
-fits-once P Several (One u) f g = absurd (f.4 (g.1 f.0 f.2 ∙ sym (g.1 f.1 f.3)))
-fits-once P Several Several f g = refl
+fits-once P m n f g = grind (arith, nat_tests)
 
 pub itself : (texts : List NameText) → SameTexts texts texts
 itself texts = record { over = λ t c. c; back = λ t c. c }
 
-pub meant : (texts : List NameText) (p : NameText) (m : Meaning) → Fits (Begins texts p) m → m ≡ only_with texts p
-meant texts p m f = fits-once (Begins texts p) m _ f (only_with-fits texts texts p (itself texts))
-
 pub only_with-same : (full texts : List NameText) (p : NameText) → SameTexts full texts
     → only_with texts p ≡ only_with full p
 only_with-same full texts p same =
-    meant full p (only_with texts p) (only_with-fits full texts p same)
+    fits-once (Begins full p) _ _ (only_with-fits full texts p same)
+    (only_with-fits full full p (itself full))
 
 pub list_any-none : {X : Type 0} (q : X → Bool) (xs : List X)
     → ((v : X) → Contains xs v → q v ≡ false) → list_any q xs ≡ false
@@ -106,15 +93,13 @@ begins-several full texts name same c = by (only_with texts name) (only_with-fit
 
     by : (m : Meaning) → Fits (Begins full name) m → begins_another full name ≡ is_several m
     by Nothing f = absurd (f name own)
-    by (One t) f = list_any-none _ full (λ u d. false_from_ne_true _ (λ is.
-        let both = and_parts (begins_with name u) (not (bytes_eq name u)) is in
-        let same : u ≡ name = f.1 u (record { is_full = d; begins = both.0 }) ∙ sym (f.1 name own) in
-        grind (arith, nat_tests, bytes_eq-Decides name u)))
-    by Several f = elim (cases_Bool (bytes_eq name f.0)) [
-      | inl is ↦ list_any-some _ full f.1 f.3.is_full
-          (grind (arith, nat_tests, bytes_eq-Decides name f.0, bytes_eq-Decides name f.1))
-      | inr is ↦ list_any-some _ full f.0 f.2.is_full (λ i. f.2.begins i && not (is i))
-    ]
+    by (One t) f = list_any-none _ full (λ u d.
+        let only = λ (b : begins_with name u ≡ true). f.1 u (record { is_full = d; begins = b }) in
+        let same = f.1 name own in grind (arith, nat_tests, bytes_eq-Decides name u))
+    by Several f =
+        let some = list_any-some (λ u. begins_with name u && not (bytes_eq name u)) full in
+        let is = bytes_eq-Decides name in
+        grind (arith, nat_tests, some f.0 f.2.is_full, some f.1 f.3.is_full, is f.0, is f.1)
 
 pub any-map : {X Y : Type 0} (q : Y → Bool) (f : X → Y) (xs : List X)
     → list_any q (map f xs) ≡ list_any (λ x. q (f x)) xs

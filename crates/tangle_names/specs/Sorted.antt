@@ -1,6 +1,7 @@
 -- The full names of a web in the order of their bytes. Only private contracts cite these
 -- definitions.
-use Rattle.std.specs.Prelude.{◌≡◌, ◌<◌, ℕ, Bool, true, false, List, [], length, map, slice_index_or, Contains}
+use Rattle.std.specs.Prelude.{◌&&◌, ℕ, Bool, true, false, List, [], length, map, nat_lt}
+use Rattle.std.specs.Prelude.{slice_index_or, Contains}
 use Rattle.std.specs.Ordering.{nat_cmp}
 use Rattle.std.specs.Cmp.Lexicographic.{slice_cmp}
 use Rattle.std.specs.List.Sorted.{IsStrictlySortedBy}
@@ -33,6 +34,6 @@ pub record SameTexts (xs ys : List NameText) : Type 0 where
   pub back : (t : NameText) → Contains ys t → Contains xs t
 
 -- the text at this position begins with the prefix
-abbrev pub BeginsAt : List NameText → NameText → ℕ → Type 0
-BeginsAt texts p position =
-    (position < length texts) × (begins_with p (slice_index_or texts position []) ≡ true)
+abbrev pub begins_at : List NameText → NameText → ℕ → Bool
+begins_at texts p position =
+    nat_lt position (length texts) && begins_with p (slice_index_or texts position [])

@@ -1,9 +1,8 @@
 //! Finds the names that begin another name.
-ghost use Rattle.std.specs.Prelude.{◌≡◌, ◌||◌, Bool, IfOk, map};
-ghost use Rattle.std.specs.List.{IsDistinct};
+ghost use Rattle.std.specs.Prelude.{◌≡◌, IfOk, length, map, slice_set, true};
+ghost use Rattle.std.specs.List.{IsDistinct, position_or_len};
 ghost use Rattle.std.specs.Str.{bytes_eq};
 ghost use Rattle.tangle_names.specs.Faults.{begins_another};
-ghost use Rattle.tangle_names.specs.Names.{NameText};
 ghost use Rattle.tangle_names.specs.Sorted.{IsInOrder, SameTexts, borrowed_names};
 
 use crate::keys::{NameSet, find};
@@ -12,14 +11,12 @@ use std::alloc::{AllocError, Global};
 
 /// Flags the name with this text.
 fn flag(flags: &mut Vec<bool>, names: &NameSet, text: &[u8])
-    requires { IsDistinct bytes_eq names.now.keys }
-    ensures { (flag : NameText → Bool) → flags.old.items ≡ map flag names.now.keys
-        → flags.new.items ≡ map (λ name. flag name || bytes_eq text.now name) names.now.keys }
+    requires { length flags.old.items ≡ length names.now.keys }
+    ensures { flags.new.items
+        ≡ slice_set flags.old.items (position_or_len (bytes_eq text.now) names.now.keys) true }
 {
     if let Some(id) = find(names, text) {
-        if id < flags.len() {
-            flags[id] = true;
-        }
+        flags[id] = true;
     }
 }
 

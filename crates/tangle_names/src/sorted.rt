@@ -1,10 +1,10 @@
 //! The full names of a web in the order of their bytes, and the meaning of an occurrence among
 //! them.
-ghost use Rattle.std.specs.Prelude.{◌≡◌, ◌↔◌, IfOk, IsTrue, map};
+ghost use Rattle.std.specs.Prelude.{◌≡◌, IfOk, map};
 ghost use Rattle.std.specs.Ordering.{nat_cmp, is_lt};
 ghost use Rattle.std.specs.Cmp.Lexicographic.{slice_cmp};
 ghost use Rattle.tangle_names.specs.Names.{full_names, meaning, only_with, prefix};
-ghost use Rattle.tangle_names.specs.Sorted.{BeginsAt, IsInOrder, SameTexts, meaning_of};
+ghost use Rattle.tangle_names.specs.Sorted.{IsInOrder, SameTexts, begins_at, meaning_of};
 ghost use Rattle.tangle_names.specs.Sorted.{borrowed_names};
 
 use std::alloc::{AllocError, Global};
@@ -47,7 +47,7 @@ fn is_below(text: &[u8], prefix: &[u8]) -> bool
 
 /// Whether the name at this position begins with the prefix.
 pub(crate) fn begins_at(sorted: &[&[u8]], position: usize, prefix: &[u8]) -> bool
-    ensures { IsTrue result ↔ BeginsAt (borrowed_names sorted.now) prefix.now position }
+    ensures { result ≡ begins_at (borrowed_names sorted.now) prefix.now position }
 {
     position < sorted.len() && sorted[position].starts_with(prefix)
 }

@@ -12,9 +12,7 @@ pub mod TextLemmas
 pub mod GatheredLemmas
 pub mod MadeLemmas
 pub mod RunTags
-pub mod LeftLemmas
 pub mod RuleLemmas
 pub mod RunItems
-pub mod ScanLemmas
 pub mod SpacedTokens
 pub mod SpacingLemmas

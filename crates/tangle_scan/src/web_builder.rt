@@ -13,6 +13,7 @@ ghost use Rattle.tangle_lexer.specs.declared.tokens.Token.TheVariants as token;
 ghost use Rattle.tangle_scan.specs.MacroBytes.{macro_bytes};
 ghost use Rattle.tangle_scan.specs.Rules.{texts_of};
 ghost use Rattle.tangle_scan.specs.WebBuilder.{IsGathered, nothing_stored, part_head};
+ghost use Rattle.tangle_scan.specs.WebBuilder.{with_macro, with_section};
 
 use crate::faults::{add_fault, add_faults, add_macro_faults};
 use crate::items::OccurrenceNumber;
@@ -122,11 +123,7 @@ impl WebBuilder {
     ) -> Result<(), NoMemory>
         requires limit { self.old.sections + 1 < 2 ^ 64 }
         requires runs { All (IsRunIn (texts_of source.now.lines)) tokens.now }
-        ensures { OnOk result (self.new ≡ record self.old {
-          sections = self.old.sections + 1;
-          faults = self.old.faults
-              ++ web.token_faults source.now.files source.now.lines None tokens.now;
-        }) }
+        ensures { OnOk result (self.new ≡ with_section source.now tokens.now self.old) }
     {
         self.sections += 1;
         add_faults(alloc, source, &mut self.faults, tokens)?;
@@ -178,16 +175,9 @@ impl WebBuilder {
     ) -> Result<(), NoMemory>
         requires runs { All (IsRunIn (texts_of source.now.lines)) tokens.now }
         requires alone { first_is_alone tokens.now ≡ true }
-        ensures { OnOk result (let items = rules.macro_items (texts_of source.now.lines)
-            (unfolded (texts_of source.now.lines) tokens.now) in
-            let is_macro = rules.is_macro (texts_of source.now.lines) items in
-            self.new ≡ record self.old {
-              macros = self.old.macros
-                  ++ (if is_macro then macro_bytes (texts_of source.now.lines) items else []);
-              faults = (self.old.faults ++ (if is_macro then []
-                  else web.fault_on source.now.files source.now.lines fault.MacroName line ∷ []))
-                  ++ web.macro_token_faults source.now.files source.now.lines tokens.now;
-            }) }
+        ensures { OnOk result (let texts = texts_of source.now.lines in
+            self.new ≡ with_macro source.now line tokens.now
+            (rules.macro_items texts (unfolded texts tokens.now)) self.old) }
     {
         let spaced = tokens_of_macro(alloc, source, tokens)?;
         if is_macro(source, &spaced) {

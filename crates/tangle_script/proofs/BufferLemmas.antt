@@ -8,6 +8,7 @@ use Rattle.std.proofs.lemmas.List.{take_at, drop_at, take-append-le, drop-take, 
 use Rattle.std.proofs.lemmas.List.Edits.{take-paste}
 use Rattle.std.specs.Io.KnownBytes.{Consumes, IsAtEnd}
 use Rattle.tangle_streams.specs.Feeds.{Gives}
+use Rattle.std.proofs.Math.Nat.{pow-le-pow_right}
 use borrow.Rule.Slice.PartMut.{put_mid, post_of}
 use lib.Seq.{paste, take-add}
 
@@ -37,3 +38,5 @@ moved all from len n sum within =
     rw (left, parts) (ap (λ k. take k (paste all 0 (drop from all) n)) none
     ∙ take-paste all 0 (drop from all) n (omega arith) (omega (arith, length-drop from all))
     ∙ sym (drop-take from n all))
+
+pub ruleset powers = (pow-le-pow_right)

@@ -4,12 +4,12 @@ use Rattle.std.proofs.lemmas.Bool.Decides.{nat_tests}
 use Rattle.std.proofs.Common.{◌≡◌, ◌∙◌, ℕ, ◌<◌, ◌==◌, true, false, cond, suc, length}
 use Rattle.std.proofs.Common.{take, drop, take-append-drop, get_or, List, [], ◌∷◌, ◌++◌, Option}
 use Rattle.std.proofs.Common.{Some, None, ap, subst, sym, refl, append_assoc, append-nil, arith}
-use Rattle.std.proofs.Common.{length-append, drop-cons}
+use Rattle.std.proofs.Common.{drop-cons, length-drop, ◌-◌}
 use Rattle.std.specs.Prelude.{nat_lt}
-use Rattle.std.proofs.lemmas.List.{get_or-take, length-take-le, nil_from_length}
+use Rattle.std.proofs.lemmas.List.{get_or-take, length-take-le, nil_from_length, drop-drop}
 use Rattle.std.proofs.lemmas.Grind.{common_steps}
 use Rattle.tangle_script.specs.Requests.{takes_text}
-use Rattle.tangle_script.specs.Commands.{OnlyWaits, Waits, after_waiting_line, all_commands}
+use Rattle.tangle_script.specs.Commands.{IsEnd, OnlyWaits, Waits, after_waiting_line, all_commands}
 use Rattle.tangle_script.specs.Commands.{commands_of, ended, ended_commands, found_commands}
 use Rattle.tangle_script.specs.Commands.{last_text, pending, unended, waiting}
 
@@ -91,20 +91,13 @@ split xs ys =
     let after = waits_after None [] xs tt refl in
     grind (arith, nat_tests, read_after, ended-append, lines-append None, unended-append, append_assoc)
 
--- bytes in which no command has ended, and more bytes without a line feed
-waits_more : (xs ys : List ℕ) → OnlyWaits xs → nat_lt 0 (length (ended [] ys)) ≡ false
-    → (ended_commands (xs ++ ys) ≡ []) × (pending (xs ++ ys) ≡ xs ++ ys)
-waits_more xs ys h none =
-    let again = read_more xs ys h in
-    search (rules, no_feed, nil_from_length, append_assoc)
-
 -- all bytes wait if some at the front wait, and those after them have no line feed
 pub waits_in : (n : ℕ) (xs : List ℕ) → OnlyWaits (take n xs)
     → nat_lt 0 (length (ended [] (drop n xs))) ≡ false
     → (ended_commands xs ≡ []) × (pending xs ≡ xs)
 waits_in n xs waits none =
-    subst (λ (l : List ℕ). (ended_commands l ≡ []) × (pending l ≡ l)) (take-append-drop n xs)
-    (waits_more (take n xs) (drop n xs) waits none)
+    let again = read_more (take n xs) (drop n xs) waits in
+    rw (← take-append-drop n xs) (search (rules, no_feed, nil_from_length, append_assoc))
 
 -- the first line of some bytes
 
@@ -119,26 +112,23 @@ pub line_at : (bs : List ℕ) (i : ℕ) → i < length bs
     → ((k : ℕ) → k < i → (get_or bs k 0 == 10) ≡ false) → get_or bs i 0 ≡ 10
     → (ended [] bs ≡ take i bs ∷ ended [] (drop (suc i) bs))
     × (unended [] bs ≡ unended [] (drop (suc i) bs)) × (bs ≡ take i bs ++ 10 ∷ drop (suc i) bs)
+    × IsEnd (drop (suc i) bs) bs × (length (drop (suc i) bs) < length bs)
 line_at bs i less before at =
     let line = take i bs in
     let rest = drop (suc i) bs in
     let whole : bs ≡ line ++ 10 ∷ rest = search (rules, take-append-drop, drop-cons) in
-    grind (arith, nat_tests, after_line line, line_none, length-take-le i bs, get_or-take i bs)
+    let size = length-drop (suc i) bs in
+    let lines : (ended [] bs ≡ line ∷ ended [] rest) × (unended [] bs ≡ unended [] rest) =
+    grind (arith, nat_tests, after_line line, line_none, length-take-le i bs, get_or-take i bs) in
+    let left : suc i ≡ length bs - length rest = omega arith in
+    (lines.0, lines.1, whole, (omega arith, ap (λ n. drop n bs) left), omega arith)
 
-pub front_one : (bytes line rest : List ℕ) → bytes ≡ line ++ 10 ∷ rest
-    → (x : List ℕ) × (bytes ≡ x ++ rest) × (0 < length x)
-front_one bytes line rest e = (
-  line ++ 10 ∷ [],
-  search (rules, append_assoc),
-  omega (arith, length-append line (10 ∷ [])),
+pub end_trans : (bytes mid rest : List ℕ) → IsEnd mid bytes → IsEnd rest mid → IsEnd rest bytes
+end_trans bytes mid rest h k = (
+  omega arith,
+  k.1 ∙ ap (drop (length mid - length rest)) h.1 ∙ drop-drop (length mid - length rest) _ bytes
+      ∙ ap (λ n. drop n bytes) (omega arith),
 )
-
-pub front_two : (bytes line mid text rest : List ℕ) → bytes ≡ line ++ 10 ∷ mid
-    → mid ≡ text ++ 10 ∷ rest → (x : List ℕ) × (bytes ≡ x ++ rest) × (0 < length x)
-front_two bytes line mid text rest e f =
-    let a = front_one bytes line mid e in
-    let b = front_one mid text rest f in
-    grind (arith, nat_tests, append_assoc a.0 b.0 rest, length-append a.0 b.0)
 
 -- the command at the end of a script
 

@@ -2,16 +2,17 @@
 use Rattle.std.proofs.Common.{arith}
 use Rattle.std.proofs.lemmas.Bool.Decides.{nat_tests}
 use Rattle.std.proofs.Common.{rules}
-use Rattle.std.proofs.Common.{◌≡◌, ◌∙◌, ℕ, ◌<◌, true, false, length, List, [], ◌∷◌, ◌++◌}
+use Rattle.std.proofs.Common.{◌≡◌, ◌∙◌, ℕ, true, false, length, List, [], ◌∷◌, ◌++◌}
 use Rattle.std.proofs.Common.{◌≤◌, Option, ap, subst, sym, refl, append_assoc, length-append}
 use Rattle.std.proofs.lemmas.List.{nil_from_length}
 use Rattle.std.proofs.lemmas.List.Folds.{list_any-append}
 use Rattle.tangle_streams.specs.Streams.{TakesAll}
 use Rattle.tangle_streams.proofs.StreamLemmas.{Appends-append}
 use Rattle.tangle_script.specs.Requests.{Command, Request, is_quit, request_of}
-use Rattle.tangle_script.specs.Commands.{ended_commands, found_commands, is_no_command, pending}
+use Rattle.tangle_script.specs.Commands.{IsEnd, ended_commands, found_commands, is_no_command, pending}
 use Rattle.tangle_script.specs.Script.{AreAnswered, Dialogue, Exchange, GoesOn, HasLast, IsAnswer, IsQuitAnswered}
 use Rattle.tangle_script.specs.Turns.{EndsScript, ends_at}
+use Rattle.tangle_script.proofs.CommandLemmas.{end_trans}
 use Rattle.tangle_script.specs.declared.answering.End.{End}
 use Rattle.tangle_script.specs.declared.answering.End.TheVariants.{Done, Failed as IsFailed}
 
@@ -104,8 +105,7 @@ module _ {State : Type 0} {answers : State → Request → List ℕ → State �
 pub record IsUnder {State : Type 0} (answers : State → Request → List ℕ → State → Type 0)
     (old now : Exchange State) (bytes rest : List ℕ) : Type 0 where
   pub done : List Command
-  pub front : List ℕ
-  pub bytes_are : bytes ≡ front ++ rest
+  pub is_end : IsEnd rest bytes
   pub commands : ended_commands bytes ≡ done ++ ended_commands rest
   pub pending_is : pending bytes ≡ pending rest
   pub goes_on : GoesOn answers old now done
@@ -113,7 +113,7 @@ pub record IsUnder {State : Type 0} (answers : State → Request → List ℕ �
 pub under_at_first : {State : Type 0} (answers : State → Request → List ℕ → State → Type 0)
     (a : Exchange State) (bytes : List ℕ) → IsUnder answers a a bytes bytes
 under_at_first answers a bytes = record
-    { done = []; front = []; bytes_are = refl; commands = refl; pending_is = refl; goes_on = goes_nowhere a [] refl }
+    { done = []; is_end = search rules; commands = refl; pending_is = refl; goes_on = goes_nowhere a [] refl }
 
 module _ {State : Type 0} {answers : State → Request → List ℕ → State → Type 0}
     {a b : Exchange State} {bytes rest : List ℕ} (h : IsUnder answers a b bytes rest)
@@ -123,12 +123,10 @@ module _ {State : Type 0} {answers : State → Request → List ℕ → State �
   all_done = h.commands ∙ ap (λ l. h.done ++ l) commands
 
   pub under_more : pending rest ≡ pending next
-      → (front : List ℕ) × (rest ≡ front ++ next) × (0 < length front)
-      → GoesOn answers b c found → IsUnder answers a c bytes next
-  under_more same front on = record {
+      → IsEnd next rest → GoesOn answers b c found → IsUnder answers a c bytes next
+  under_more same is on = record {
     done = h.done ++ found;
-    front = h.front ++ front.0;
-    bytes_are = search (rules, append_assoc);
+    is_end = end_trans bytes rest next h.is_end is;
     commands = all_done ∙ sym (append_assoc h.done found (ended_commands next));
     pending_is = h.pending_is ∙ same;
     goes_on = goes_on_then h.goes_on on;
@@ -139,3 +137,5 @@ module _ {State : Type 0} {answers : State → Request → List ℕ → State �
   under_last k = last_within (ended_commands next) all_done h.goes_on k
 
 pub ruleset line_answers = (goes_nowhere, line_quits, line_goes_on, one_last, found_one)
+
+pub ruleset commands_under = (under_at_first, under_more)

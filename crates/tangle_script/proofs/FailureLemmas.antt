@@ -44,14 +44,11 @@ fits_first (Some h) (b ∷ bs) [] = omega (arith, length-append h (10 ∷ b ∷ 
 fits_first (Some h) u (y ∷ ys) =
     grind (arith, common_steps, fits_first (Some h) (u ++ y ∷ []) ys)
 
-all_right : (P : Command → Type 0) (cs ds : List Command) → All P (cs ++ ds) → All P ds
-all_right P [] ds all = all
-all_right P (c ∷ cs) ds all = all_right P cs ds (All-tail P c (cs ++ ds) all)
-
-first_fits : (cs : List Command) → All (λ c. command_size c ≤ short_command) cs
-    → first_size cs ≤ short_command
-first_fits [] all = omega arith
-first_fits (c ∷ cs) all = all 0 c (omega arith)
+first_fits : (cs ds : List Command) → All (λ c. command_size c ≤ short_command) (cs ++ ds)
+    → first_size ds ≤ short_command
+first_fits [] [] all = omega arith
+first_fits [] (d ∷ ds) all = all 0 d (omega arith)
+first_fits (c ∷ cs) ds all = first_fits cs ds (All-tail (λ c. command_size c ≤ short_command) c (cs ++ ds) all)
 
 -- no more bytes wait than a short command has
 pending_fits : (xs ys : List ℕ) → HasShortCommands (xs ++ ys) → length (pending xs) ≤ short_command
@@ -61,9 +58,8 @@ pending_fits xs ys short =
     let all : all_commands (xs ++ ys) ≡ ended_commands xs ++ later_commands waits.head waits.last ys =
     (split xs ys).all
     ∙ (λ i. ended_commands xs ++ (again.commands i ++ last_commands (again.waits i) (again.rest i))) in
-    let fits = first_fits (later_commands waits.head waits.last ys)
-    (all_right (λ c. command_size c ≤ short_command) (ended_commands xs) _
-    (subst (All (λ c. command_size c ≤ short_command)) all short)) in
+    let fits = first_fits (ended_commands xs) (later_commands waits.head waits.last ys)
+    (subst (All (λ c. command_size c ≤ short_command)) all short) in
     omega (arith, fits_first waits.head waits.last ys, ap length waits.are)
 
 -- the bytes are more than a script may have, or a command longer than a short one waits at their end

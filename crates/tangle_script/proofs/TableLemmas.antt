@@ -1,11 +1,12 @@
 -- The request of a command is that of its row of the table.
 use Rattle.std.proofs.Common.{rules}
-use Rattle.std.proofs.Common.{◌≡◌, ◌∙◌, ◌⊎◌, inl, inr, ℕ, ◌<◌, ◌≤◌, ◌+◌, ◌-◌, ◌*◌, ◌==◌, Bool, true}
-use Rattle.std.proofs.Common.{false, cond, length, List, [], ◌∷◌, ◌++◌, Option, Some}
+use Rattle.std.proofs.Common.{◌≡◌, ◌∙◌, ◌⊎◌, inl, inr, ℕ, ◌<◌, ◌≤◌, ◌+◌, ◌-◌, ◌*◌, ◌==◌, true}
+use Rattle.std.proofs.Common.{length, List, [], ◌∷◌, ◌++◌, Option, Some}
 use Rattle.std.proofs.Common.{None, ap, subst, sym, refl, arith, take-append-drop}
 use Rattle.std.specs.Prelude.{◌&&◌, codes, nat_lt}
 use Rattle.std.specs.List.{list_all}
-use Rattle.std.proofs.lemmas.Bool.{and_parts, lt-ltb}
+use Rattle.std.proofs.lemmas.Bool.{and_parts, cond_both, lt-ltb}
+use Rattle.std.proofs.lemmas.Bool.Decides.{nat_tests}
 use borrow.Author.Tests.{ltb-true}
 use Rattle.tangle_script.specs.Requests.{Command, Request, after_word}
 use Rattle.tangle_script.specs.Requests.{number_and_file, numbered, request_of, request_with, row}
@@ -28,37 +29,22 @@ read_number count n (d ∷ ds) file all few some =
 
 -- what is read as a number and a file is digits, one space and the file
 
-pub record IsNumberRead (count n : ℕ) (rest : List ℕ) (number : ℕ) (file : List ℕ) : Type 0 where
-  pub digits : List ℕ
-  pub all : list_all is_digit digits ≡ true
-  pub few : length digits ≤ 9 - count
-  pub some : 0 < count + length digits
-  pub value : value_after n digits ≡ number
-  pub whole : rest ≡ digits ++ 32 ∷ file
-
-number_read : (count n : ℕ) (rest : List ℕ) (p : ℕ × List ℕ) → number_and_file count n rest ≡ Some p
-    → IsNumberRead count n rest p.0 p.1
-number_read count n [] p e = absurd (cc)
-number_read count n (b ∷ bs) p e =
-    by (is_digit b && nat_lt count 9) refl e (number_read (count + 1) (n * 10 + (b - 48)) bs p)
-  where
-    by : (t : Bool) → (is_digit b && nat_lt count 9) ≡ t
-        → cond t (number_and_file (count + 1) (n * 10 + (b - 48)) bs)
-        (cond ((b == 32) && nat_lt 0 count) (Some (n, bs)) None) ≡ Some p
-        → (number_and_file (count + 1) (n * 10 + (b - 48)) bs ≡ Some p
-        → IsNumberRead (count + 1) (n * 10 + (b - 48)) bs p.0 p.1) → IsNumberRead count n (b ∷ bs) p.0 p.1
-    by true is e h =
-        let k = h e in
-        let digit = and_parts (is_digit b) (nat_lt count 9) is in
-        record {
-          digits = b ∷ k.digits;
-          all = ap (λ t. t && list_all is_digit k.digits) digit.0 ∙ k.all;
-          few = omega (arith, ltb-true count 9 digit.1);
-          some = omega arith;
-          value = k.value;
-          whole = ap (λ l. b ∷ l) k.whole;
-        }
-    by false is e h = search rules
+module _ (P : Option (ℕ × List ℕ) → Type 0) where
+  number_cases : (count n : ℕ) (rest : List ℕ)
+      → ((digits file : List ℕ) → list_all is_digit digits ≡ true → length digits ≤ 9 - count → 0 < count + length digits
+      → rest ≡ digits ++ 32 ∷ file → P (Some (value_after n digits, file)))
+      → P None → P (number_and_file count n rest)
+  number_cases count n [] some none = none
+  number_cases count n (b ∷ bs) some none =
+      cond_both (is_digit b && nat_lt count 9) _ _ P
+      (λ is.
+      let digit = and_parts (is_digit b) (nat_lt count 9) is in
+      let less = ltb-true count 9 digit.1 in
+      number_cases (count + 1) (n * 10 + (b - 48)) bs
+      (λ ds file all few many whole. some (b ∷ ds) file (ap (λ t. t && list_all is_digit ds) digit.0 ∙ all)
+      (omega arith) (omega arith) (ap (λ l. b ∷ l) whole)) none)
+      (λ _. cond_both ((b == 32) && nat_lt 0 count) (Some (n, bs)) None P
+      (λ is. some [] bs refl (omega arith) (grind (arith, nat_tests, is)) (grind (arith, nat_tests, is))) (λ _. none))
 
 -- a row is read as its request
 
@@ -86,40 +72,37 @@ module _ (c : Command) where
 abbrev IsRowOrBad : Command → Request → Type 0
 IsRowOrBad c r = IsRow c r ⊎ (r ≡ BadCommand)
 
-module _ (P : Request → Type 0) where
-  at_number : (request : ℕ → List ℕ → Request) (rest : List ℕ)
-      → ((n : ℕ) (file : List ℕ) → IsNumberRead 0 0 rest n file → P (request n file)) → P BadCommand
-      → P (numbered request (number_and_file 0 0 rest))
-  at_number request rest h k = search (rules, number_read)
+module _ (line : List ℕ) (text : Option (List ℕ)) where
+  abbrev Asks : Request → Type 0
+  Asks r = IsRowOrBad (record { line = line; text = text }) r
 
-  at_row : (word line : List ℕ) (request : List ℕ → Request) (other : Request)
-      → ((rest : List ℕ) → line ≡ word ++ rest → P (request rest)) → P other
-      → P (row (after_word word line) request other)
-  at_row word line request other h k = search (rules, take-append-drop)
+  at_row : (word : List ℕ) (request : List ℕ → Request) (other : Request)
+      → ((rest : List ℕ) → line ≡ word ++ rest → Asks (request rest)) → Asks other
+      → Asks (row (after_word word line) request other)
+  at_row word request other h k = search (rules, take-append-drop)
 
-  at_numbered : (word line : List ℕ) (request : ℕ → List ℕ → Request) (other : Request)
-      → ((n : ℕ) (file : List ℕ) → IsNumbered word n file line → P (request n file)) → P BadCommand → P other
-      → P (row (after_word word line) (λ rest. numbered request (number_and_file 0 0 rest)) other)
-  at_numbered word line request other h bad k = at_row word line _ other
-      (λ rest is. at_number request rest (λ n file read. h n file (search (rules, is, read))) bad) k
+  at_numbered : (word : List ℕ) (request : ℕ → List ℕ → Request) (other : Request)
+      → ((n : ℕ) (file : List ℕ) → IsNumbered word n file line → Asks (request n file)) → Asks other
+      → Asks (row (after_word word line) (λ rest. numbered request (number_and_file 0 0 rest)) other)
+  at_numbered word request other h k = at_row word _ other
+      (λ rest is. number_cases (λ o. Asks (numbered request o)) 0 0 rest
+      (λ digits file all few some whole. h (value_after 0 digits) file (record {
+        digits = digits;
+        is_number = record { some = omega arith; few = few; decimal = all };
+        value = refl;
+        whole = is ∙ ap (λ l. word ++ l) whole;
+      })) (inr refl)) k
 
-row_with : (line : List ℕ) (text : Option (List ℕ))
-    → IsRowOrBad (record { line = line; text = text }) (request_with line text)
+row_with : (line : List ℕ) (text : Option (List ℕ)) → Asks line text (request_with line text)
 row_with line None =
-    at_numbered P (codes "remove ") line Remove _ (λ n file h. inl (h, refl)) (inr refl)
-    (at_row P (codes "create ") line _ _ (λ rest is. inl (is, refl))
-    (at_row P (codes "discard ") line _ _ (λ rest is. inl (is, refl))
+    at_numbered line None (codes "remove ") Remove _ (λ n file h. inl (h, refl))
+    (at_row line None (codes "create ") _ _ (λ rest is. inl (is, refl))
+    (at_row line None (codes "discard ") _ _ (λ rest is. inl (is, refl))
     (search rules)))
-  where
-    P : Request → Type 0
-    P r = IsRowOrBad (record { line = line; text = None }) r
 row_with line (Some text) =
-    at_numbered P (codes "insert ") line (λ at file. Insert at file text) _ (λ n file h. inl (h, refl)) (inr refl)
-    (at_numbered P (codes "replace ") line (λ at file. Replace at file text) _ (λ n file h. inl (h, refl)) (inr refl)
+    at_numbered line (Some text) (codes "insert ") (λ at file. Insert at file text) _ (λ n file h. inl (h, refl))
+    (at_numbered line (Some text) (codes "replace ") (λ at file. Replace at file text) _ (λ n file h. inl (h, refl))
     (inr refl))
-  where
-    P : Request → Type 0
-    P r = IsRowOrBad (record { line = line; text = Some text }) r
 
 module _ (c : Command) where
   row_or_bad : IsRowOrBad c (request_of c)

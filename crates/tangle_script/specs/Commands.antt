@@ -1,6 +1,6 @@
 -- The bytes of a script: its lines, and the commands that have ended.
 use Rattle.std.specs.Prelude.{◌≡◌, ℕ, ◌==◌, Bool, true, false, List, [], ◌∷◌, ◌++◌, Option, None}
-use Rattle.std.specs.Prelude.{Some, if◌then◌else◌}
+use Rattle.std.specs.Prelude.{Some, if◌then◌else◌, ◌≤◌, ◌-◌, length, drop}
 use Rattle.tangle_script.specs.Requests.{Command, takes_text}
 
 -- the lines that end in these bytes; `before` is the beginning of the first line
@@ -73,6 +73,11 @@ found_commands line (Some text) = record { line = line; text = Some text } ∷ [
 abbrev pub is_no_command : List ℕ → Option (List ℕ) → Bool
 is_no_command [] None = true
 is_no_command _ _ = false
+
+-- the bytes at the end of others
+abbrev pub IsEnd : List ℕ → List ℕ → Type 0
+IsEnd rest bytes =
+    (length rest ≤ length bytes) × (rest ≡ drop (length bytes - length rest) bytes)
 
 -- the line takes a text, and it has ended
 abbrev pub Waits : Option (List ℕ) → Type 0

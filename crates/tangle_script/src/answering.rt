@@ -62,6 +62,7 @@ fn answer_line<P: Project, S: Sink>(
 ///
 /// `End::Done` where one of them is `quit`, which is answered; `End::Failed` where the sink failed
 /// before it took all of an answer.
+#[tactic(auto, using(crate::proofs::ConversationLemmas::commands_under))]
 pub fn answer_all<P: Project, S: Sink>(
     alloc: Global,
     session: &mut P::Session,

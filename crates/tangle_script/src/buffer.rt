@@ -27,6 +27,7 @@ pub struct Buffer {
 
 // Reads at most `most` bytes into the space, after the first `len`. Returns the number of bytes
 // read: 0 at the end, `None` where the reader failed.
+#[tactic(auto, using(crate::proofs::BufferLemmas::read_after))]
 fn fill_after<R: Feed>(feed: &mut R, space: &mut [u8], len: usize, most: usize) -> Option<usize>
     requires some { 0 < most }
     requires within { len + most ≤ length space.old }
@@ -43,6 +44,7 @@ fn fill_after<R: Feed>(feed: &mut R, space: &mut [u8], len: usize, most: usize) 
 }
 
 // Moves the bytes from `from` to `len` to the front of the space.
+#[tactic(auto, using(crate::proofs::BufferLemmas::moved))]
 fn move_to_front(space: &mut [u8], from: usize, len: usize)
     requires ordered { from ≤ len }
     requires within { len ≤ length space.old }

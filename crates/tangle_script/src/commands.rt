@@ -1,8 +1,8 @@
 //! Finds the commands in a part of a script.
-ghost use Rattle.std.specs.Prelude.{◌≡◌, ◌<◌, ℕ, List, [], ◌∷◌, ◌++◌, length, nat_lt, IfSome};
+ghost use Rattle.std.specs.Prelude.{◌≡◌, ◌<◌, [], ◌∷◌, ◌++◌, length, nat_lt, IfSome};
 ghost use Rattle.std.specs.Prelude.{IfNone};
 ghost use Rattle.std.specs.Option.{option_copied};
-ghost use Rattle.tangle_script.specs.Commands.{OnlyWaits, all_commands, ended};
+ghost use Rattle.tangle_script.specs.Commands.{IsEnd, OnlyWaits, all_commands, ended};
 ghost use Rattle.tangle_script.specs.Commands.{ended_commands, found_commands, last_text, pending};
 ghost use Rattle.tangle_script.specs.Commands.{unended};
 
@@ -21,7 +21,8 @@ pub struct Found<'a> {
 fn split_line(bytes: &[u8]) -> Option<(&[u8], &[u8])>
     ensures some { IfSome result (λ p. (ended [] bytes.now ≡ p.0.now ∷ ended [] p.1.now)
         × (unended [] bytes.now ≡ unended [] p.1.now)
-        × (bytes.now ≡ p.0.now ++ 10 ∷ p.1.now)) }
+        × (bytes.now ≡ p.0.now ++ 10 ∷ p.1.now)
+        × IsEnd p.1.now bytes.now × (length p.1.now < length bytes.now)) }
     ensures none { IfNone result ((ended [] bytes.now ≡ []) × (unended [] bytes.now ≡ bytes.now)) }
 {
     match memchr(b'\n', bytes) {
@@ -45,8 +46,8 @@ pub fn first_command(bytes: &[u8]) -> Option<Found<'_>>
     ensures commands { IfSome result (λ f. ended_commands bytes.now
         ≡ found_commands f.line.now (option_copied f.text) ++ ended_commands f.rest.now) }
     ensures pending { IfSome result (λ f. pending bytes.now ≡ pending f.rest.now) }
-    ensures rest { IfSome result (λ f. (front : List ℕ)
-        × (bytes.now ≡ front ++ f.rest.now) × (0 < length front)) }
+    ensures rest { IfSome result (λ f. IsEnd f.rest.now bytes.now) }
+    ensures fewer { IfSome result (λ f. length f.rest.now < length bytes.now) }
     ensures none { IfNone result
         ((ended_commands bytes.now ≡ []) × (pending bytes.now ≡ bytes.now)) }
 {

@@ -75,6 +75,7 @@ fn after_word<'a>(line: &'a [u8], word: &[u8]) -> Option<&'a [u8]>
 }
 
 // Reads one to nine digits and a space. Returns their number and the rest of the line.
+#[tactic(auto, using(crate::proofs::BufferLemmas::powers))]
 fn number_and_file(rest: &[u8]) -> Option<(u32, &[u8])>
     ensures { option_map (λ p. (p.0, p.1.now)) result ≡ number_and_file 0 0 rest.now }
 {

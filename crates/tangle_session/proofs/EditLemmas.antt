@@ -9,7 +9,7 @@ use Rattle.std.specs.Option.{option_map}
 use Rattle.std.specs.Str.{bytes_eq}
 use Rattle.std.proofs.lemmas.Map.{keys-set_value}
 use Rattle.std.proofs.lemmas.Map.Made.{is_some-lookup}
-use Rattle.tangle_files.specs.Edited.{edited, edited_all, with_lines_edited}
+use Rattle.tangle_files.specs.Edited.{edited, with_lines_edited}
 use Rattle.tangle_files.specs.Lines.{FileTable}
 use Rattle.tangle_files.specs.Adding.{has_file}
 use Rattle.tangle_files.specs.Roles.{RolesRead, fits}
@@ -50,24 +50,6 @@ stays_there files edit other h s = search (rules, stays_edited, has_file-append,
 pub fits_edited : (files : FileTable) (roles : RolesRead) (edit : Edit)
     → fits files roles ≡ true → None ≡ session_refusal files roles edit → fits (edited files edit) roles ≡ true
 fits_edited files roles edit h none = search (rules, stays_there)
-
--- where no edit of a list is refused, neither the first nor a later one is
-none_first : (first : Option Refusal) (after : Option ListRefusal) → first_refused first after ≡ None
-    → (None ≡ first) × (after ≡ None)
-none_first first after h = search rules
-
--- the web and the change file are there after a list that is not refused
-fits_all : (files : FileTable) (roles : RolesRead) (edits : List Edit) → fits files roles ≡ true
-    → list_refusal files roles edits ≡ None → fits (edited_all files edits) roles ≡ true
-fits_all files roles [] h none = h
-fits_all files roles (edit ∷ edits) h none =
-    let parts = none_first (session_refusal files roles edit) (list_refusal (edited files edit) roles edits) none in
-    fits_all (edited files edit) roles edits (fits_edited files roles edit h parts.0) parts.1
-
-pub fits_made : (files made : FileTable) (roles : RolesRead) (edits : List Edit)
-    → made ≡ edited_all files edits
-    → fits files roles ≡ true → list_refusal files roles edits ≡ None → fits made roles ≡ true
-fits_made files made roles edits is h none = search (rules, fits_all)
 
 -- The first refusal of the remaining edits, the first of which has this number.
 abbrev pub refused_at : ℕ → Option Refusal → Option ListRefusal → Option ListRefusal

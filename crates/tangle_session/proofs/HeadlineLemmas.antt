@@ -10,7 +10,7 @@ use Rattle.tangle_files.specs.Roles.{RolesRead}
 use Rattle.tangle_files.specs.declared.edits.Edit.{Edit}
 use Rattle.tangle_session.specs.Headline.{AreMade, Call, Apply, ApplyAll, History, Started, Answered, IsAnswered}
 use Rattle.tangle_session.specs.Headline.{ByStart, ByLast, HasMade, list_calls}
-use Rattle.tangle_session.specs.Headline.{accepted, files_after, roles_with, web_after, web_at}
+use Rattle.tangle_session.specs.Headline.{accepted, files_after, roles_with}
 use Rattle.tangle_session.specs.Sessions.{SessionRead}
 use Rattle.tangle_session.specs.declared.refusing.ListRefusal.{ListRefusal}
 
@@ -45,11 +45,12 @@ module _ (files : FileTable) (roles : RolesRead) (lists : List (List Edit)) (bef
       search (rules, joined_one, files_then) in
       let roles_now : after.roles ≡ roles_with roles (lists ++ edits ∷ []) =
       search (rules, joined_one, roles_then) in
-      let web_before : web_at before.files before.roles ≡ web_after files roles lists =
-      λ i. web_at (so_far.files_are i) (so_far.roles_are i) in
-      let web_now : web_at after.files after.roles ≡ web_after files roles (lists ++ edits ∷ []) =
-      λ i. web_at (files_now i) (roles_now i) in
-      record { files_are = files_now; roles_are = roles_now; work = ByLast lists edits (search rules) }
+      record {
+        files_are = files_now;
+        roles_are = roles_now;
+        work = ByLast lists edits (rw (so_far.files_are, so_far.roles_are, files_now, roles_now) at
+            are.work);
+      }
 
   unmade : after ≡ before → HasMade files roles (lists ++ []) after
   unmade same = search rules

@@ -1,6 +1,7 @@
 -- The laws of the headline: no cycle below an output, and each cycle reported.
 use Rattle.std.proofs.Common.{rules}
-use Rattle.std.proofs.Common.{◌≡◌, ◌∙◌, ◌<◌, ℕ, zero, suc, true, List, [], ◌∷◌, length}
+use Rattle.std.proofs.lemmas.Bool.Decides.{nat_tests}
+use Rattle.std.proofs.Common.{◌≡◌, ◌∙◌, ◌<◌, ℕ, true, List, [], ◌∷◌, length}
 use Rattle.std.proofs.Common.{flat_map, get_or, refl, sym, subst, arith}
 use Rattle.std.specs.Prelude.{Some, Contains, slice_get}
 use Rattle.std.proofs.lemmas.List.{get_or-map, get_or_default}
@@ -66,10 +67,13 @@ no_cycle files roles output other listed =
 in_mapped : (g : ℕ → List FaultRead) (ns : List ℕ) (k : ℕ) (x : FaultRead)
     → Contains ns k → Contains (g k) x → Contains (flat_map g ns) x
 in_mapped g [] k x c d = absurd (omega arith)
-in_mapped g (n ∷ ns) k x (zero, h, e) d =
-    Contains-append_left (g n) (flat_map g ns) x (subst (λ m. Contains (g m) x) (sym e) d)
-in_mapped g (n ∷ ns) k x (suc i, h, e) d =
-    Contains-append_right (g n) (flat_map g ns) x (in_mapped g ns k x (i, omega arith, e) d)
+in_mapped g (n ∷ ns) k x c d = grind (
+  arith,
+  nat_tests,
+  in_mapped g ns k x,
+  Contains-append_left (g n) (flat_map g ns) x,
+  Contains-append_right (g n) (flat_map g ns) x,
+)
 
 module _ (web : WebRead) (out : List ℕ) (id : ℕ) (name : List ℕ) (o : OccurrenceRead)
     (low : id < length (table_of web).names) (text : get_or (table_of web).names id [] ≡ name)

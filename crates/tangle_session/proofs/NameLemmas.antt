@@ -110,13 +110,8 @@ module _ (web : WebRead) (out : List ℕ) where
     first : is_earlier_file (shapes web table) table out id ≡ false
 
   own : (id : ℕ) → is_some (first_file_occurrence table id) ≡ true → is_written web table out id ≡ true → IsOwn id
-  own id marked is =
-      let title = Named (name_at table id) in
-      let tests = owned (shape_has_piece (shapes web table title))
-      (nat_lt (depth levels (shapes web table) title) levels && nat_le (weight levels (shapes web table) title) heaviest)
-      (is_some (first_file_occurrence table id)) (bytes_eq (form_at table id) (plain_form out))
-      (is_earlier_file (shapes web table) table out id) marked is in
-      record { named = tests.0; first = tests.1 }
+  own id marked is = (let tests = owned _ _ _ _ _ marked is in record
+      { named = tests.0; first = tests.1 })
 
   ids_own : All IsOwn ids
   ids_own i d h = own (get_or ids i d) (ids_marked i d h) (ids_written i d h)
@@ -127,11 +122,9 @@ module _ (web : WebRead) (out : List ℕ) where
       let test = λ (e : ℕ). is_named_file (shapes web table) table out e
       && bytes_eq (form_at table b) (form_at table e) in
       let found = in_range b a less in
-      let passes : test a ≡ true = and_from (is_named_file (shapes web table) table out a)
-      (bytes_eq (form_at table b) (form_at table a)) x.named
-      ((bytes_eq-Decides (form_at table b) (form_at table a)).1 same) in
-      true≢false (sym (and_from (is_named_file (shapes web table) table out b) (list_any test (range_with_len 0 b))
-      y.named (list_any-from_Any test (range_with_len 0 b) (found.0, a, found.1, found.2, passes))) ∙ y.first)
+      let passes : test a ≡ true = and_from _ _ x.named ((bytes_eq-Decides _ _).1 same) in
+      true≢false (sym (and_from _ _ y.named (list_any-from_Any test (range_with_len 0 b)
+      (found.0, a, found.1, found.2, passes))) ∙ y.first)
 
   forms_apart : (a b : ℕ) → a ≢ b → IsOwn a → IsOwn b → form_at table a ≢ form_at table b
   forms_apart a b other x y same = elim (dec_lt a b) [
@@ -151,11 +144,9 @@ module _ (web : WebRead) (out : List ℕ) where
       (sym (get_or-map (form_at table) ids i 0 d low) ∙ same ∙ get_or-map (form_at table) ids j 0 d high)))
 
   not_main : (id : ℕ) → IsOwn id → plain_form out ≢ form_at table id
-  not_main id is same =
-      let clash = (bytes_eq-Decides (form_at table id) (plain_form out)).1 (sym same) in
-      let both = and_parts (is_file (shapes web table) table id)
-      (not (bytes_eq (form_at table id) (plain_form out))) is.named in
-      true≢false (sym clash ∙ of_not (bytes_eq (form_at table id) (plain_form out)) both.1)
+  not_main id is same = true≢false (sym ((bytes_eq-Decides (form_at table id) (plain_form out)).1
+      (sym same))
+      ∙ of_not _ (and_parts _ _ is.named).1)
 
   main_apart : All (λ x. plain_form out ≢ x) (map plain_form (map name_of (map (named_file table) ids)))
   main_apart = subst (All (λ x. plain_form out ≢ x)) (sym named_forms) (All-map (λ x. plain_form out ≢ x) (form_at table)

@@ -1,9 +1,9 @@
 -- The bytes of each output file of a web, and finding one by its name.
 use Rattle.std.proofs.Common.{rules}
-use Rattle.std.proofs.Common.{◌≡◌, ◌∙◌, ◌<◌, suc, ℕ, Bool, true, List, [], ◌∷◌, length, map, get_or}
-use Rattle.std.proofs.Common.{refl, sym, subst, arith, inl, inr}
-use Rattle.std.specs.Prelude.{Some, None, Contains, find}
-use Rattle.std.specs.List.{IsDistinct}
+use Rattle.std.proofs.Common.{◌≡◌, ◌∙◌, ◌<◌, ℕ, Bool, true, List, [], ◌∷◌, length, map, get_or}
+use Rattle.std.proofs.Common.{refl, sym, subst, arith}
+use Rattle.std.specs.Prelude.{Some, Contains, find}
+use Rattle.std.specs.List.{IsDistinct, position_or_len}
 use Rattle.std.specs.Map.{lookup}
 use Rattle.std.specs.Option.{option_map}
 use Rattle.std.specs.Str.{bytes_eq}
@@ -11,7 +11,8 @@ use Rattle.std.proofs.lemmas.Cmp.{nat_list_eq_equiv}
 use Rattle.std.proofs.lemmas.Iterator.Adapters.{option_map_id}
 use Rattle.std.proofs.lemmas.Map.Views.{lookup-from_Contains}
 use Rattle.std.proofs.lemmas.Slice.Eq.{bytes_eq-Decides}
-use Rattle.std.proofs.lemmas.Bool.{cases_Bool}
+use Rattle.std.proofs.lemmas.List.Folds.{find_at}
+use Rattle.std.proofs.lemmas.Option.{get_or_from_slice_get, slice_get_within}
 use Rattle.std.proofs.lemmas.Grind.{common_steps}
 use Rattle.std.proofs.lemmas.Simd.{map-map}
 use Rattle.tangle_files.specs.Lines.{FileTable}
@@ -49,11 +50,9 @@ look_up bytes_of name (o ∷ os) = grind (arith, common_steps, look_up bytes_of 
 
 -- an item that is found in a list is an item of the list
 pub found_in : {X : Type 0} (p : X → Bool) (xs : List X) (x : X) → find p xs ≡ Some x → Contains xs x
-found_in p [] x e = absurd (let no : None ≡ Some x = e in cc)
-found_in p (y ∷ xs) x e = elim (cases_Bool (p y)) [
-  | inl is ↦ search rules
-  | inr not ↦ (let rest = found_in p xs x (search rules) in (suc rest.0, (omega arith), rest.2))
-]
+found_in p xs x e =
+    let at = sym (find_at p xs) ∙ e in
+    (position_or_len p xs, slice_get_within xs _ x at, get_or_from_slice_get xs _ x x at)
 
 -- the names of the outputs are the names of the output files
 pub names_written : {Y : Type 0} (bytes_of : OutputRead → Y) (os : List OutputRead)

@@ -35,7 +35,7 @@ use Rattle.tangle_bodies.proofs.InsideLemmas.{table_inside}
 use Rattle.tangle_graph.proofs.ExpandLemmas.{expandable_at}
 use Rattle.tangle_graph.proofs.OutputLemmas.{IsFit, outputs_fit, ready}
 use Rattle.tangle_session.specs.Headline.{output_at, output_bytes, source_at, web_at}
-use Rattle.tangle_session.specs.Sessions.{ListsAffectedOfWebs, ListsExpandableOfWeb, SessionRead}
+use Rattle.tangle_session.specs.Sessions.{ListsExpandableOfWeb, SessionRead}
 use Rattle.tangle_session.specs.Sessions.{shapes_of, start_refusal}
 use Rattle.tangle_session.specs.States.{AgreesWithFiles}
 use Rattle.tangle_session.specs.Writes.{IsTrueFile, WritesOut, WritesOutput}
@@ -62,11 +62,6 @@ pub same_web : (files : FileTable) (roles : RolesRead) (marks : MarkMode)
     → web_at files (record roles { marks = marks }) ≡ web_at files roles
 unfolding web_at source_at
 same_web files roles marks = refl
-
--- an edit that leaves the web unchanged affects no node
-pub expands_nothing : (web : WebRead) (nodes : List Node) → ListsAffectedOfWebs web web nodes → nodes ≡ []
-expands_nothing web [] lists = refl
-expands_nothing web (node ∷ nodes) lists = absurd (((lists.just node).0 (0, omega arith, refl)).1.changed refl)
 
 -- why a session is not to be started
 
@@ -111,10 +106,12 @@ module _ {state : SessionState} {roles : RolesRead} {session : SessionRead} (vie
 
   -- no two outputs of the store have the same name
   pub names_apart : IsDistinct bytes_eq (map (λ (o : OutputRead). o.name) state.analysis.store.outputs)
-  names_apart =
-      subst (λ os. IsDistinct bytes_eq (map (λ (o : OutputRead). o.name) os)) (sym hold.analysis.store.outputs)
-      (subst (IsDistinct bytes_eq) (sym (names_written bytes_of (outputs web (table_of web) roles.out)))
-      (names_distinct state.files roles))
+  names_apart = rw (
+    hold.analysis.store.outputs,
+    names_written bytes_of
+        (outputs web (table_of web) roles.out),
+  )
+      (names_distinct state.files roles)
 
   looked_up : output_at session.files session.roles name
       ≡ option_map bytes_of (find named state.analysis.store.outputs)
@@ -123,46 +120,47 @@ module _ {state : SessionState} {roles : RolesRead} {session : SessionRead} (vie
       ∙ look_up bytes_of name (outputs web (table_of web) roles.out)
       ∙ ap (λ os. option_map bytes_of (find named os)) (sym hold.analysis.store.outputs)
 
-  pub none_at : find named state.analysis.store.outputs ≡ None → output_at session.files session.roles name ≡ None
-  none_at e = looked_up ∙ ap (option_map bytes_of) e
+  module _ (found : Option (Bor OutputRead)) (by_name : option_copied found
+      ≡ find named state.analysis.store.outputs) where
+    pub none_at : found ≡ None → output_at session.files session.roles name ≡ None
+    none_at e = looked_up ∙ ap (option_map bytes_of) (sym by_name ∙ ap option_copied e)
 
-  pub writes_none : (old new : Stream) → find named state.analysis.store.outputs ≡ None → new ≡ old
-      → WritesOutput (output_at session.files session.roles name) old new (Err refusal.NoOutput)
-  writes_none old new e same =
-      subst (λ x. WritesOutput x old new (Err refusal.NoOutput)) (sym (none_at e)) (refl, same)
+    pub writes_none : (old new : Stream) → found ≡ None → new ≡ old
+        → WritesOutput (output_at session.files session.roles name) old new (Err refusal.NoOutput)
+    writes_none old new e same = rw (none_at e) (refl, same)
 
-  module _ (output : OutputRead) (found : find named state.analysis.store.outputs ≡ Some output) where
-    some_at : output_at session.files session.roles name ≡ Some (bytes_of output)
-    some_at = looked_up ∙ ap (option_map bytes_of) found
+    module _ (output : Bor OutputRead) (is : found ≡ Some output) where
+      some_at : output_at session.files session.roles name ≡ Some (bytes_of output.now)
+      some_at = looked_up ∙ ap (option_map bytes_of) (sym by_name ∙ ap option_copied is)
 
-    found_there : find named (outputs web (table_of web) roles.out) ≡ Some output
-    found_there = ap (find named) (sym hold.analysis.store.outputs) ∙ found
+      found_there : find named (outputs web (table_of web) roles.out) ≡ Some output.now
+      found_there = rw hold.analysis.store.outputs at (sym by_name ∙ ap option_copied is)
 
-    fit : IsFit (shapes_of web) state.analysis.store.names output
-    fit = subst (λ names. IsFit (shapes_of web) names output) (sym hold.analysis.store.names)
-        (outputs_fit web (table_of web) (table_inside web) roles.out output
-        (found_in named (outputs web (table_of web) roles.out) output found_there))
+      fit : IsFit (shapes_of web) state.analysis.store.names output.now
+      fit = rw hold.analysis.store.names (outputs_fit web (table_of web) (table_inside web)
+          roles.out output.now
+          (found_in named (outputs web (table_of web) roles.out) output.now found_there))
 
-    pub is_ready : IsReady output state.kept
-    is_ready = ready (shapes_of web) state.analysis.store
-        state.kept hold.analysis.store.store hold.kept output fit (λ shapes node e. e.light)
+      pub is_ready : IsReady output.now state.kept
+      is_ready = ready (shapes_of web) state.analysis.store
+          state.kept hold.analysis.store.store hold.kept output.now fit (λ shapes node e. e.light)
 
-    abbrev bytes : List ℕ
-    bytes = kept_output_bytes state.analysis.numbers state.kept output
+      abbrev bytes : List ℕ
+      bytes = kept_output_bytes state.analysis.numbers state.kept output.now
 
-    pub is_its : output_at session.files session.roles name ≡ Some bytes
-    is_its = some_at ∙ ap Some (sym (ap (λ n. kept_output_bytes n state.kept output) hold.analysis.numbers
-        ∙ same_bytes state.files roles state.analysis.store state.kept
-        hold.analysis.store.store hold.analysis.store.names hold.kept output fit))
+      pub is_its : output_at session.files session.roles name ≡ Some bytes
+      is_its = some_at ∙ ap Some (sym (rw hold.analysis.numbers
+          (same_bytes state.files roles state.analysis.store state.kept
+          hold.analysis.store.store hold.analysis.store.names hold.kept output.now fit)))
 
-    pub writes_it : (old new : Stream) (r : Result ℕ Refusal) → WritesOut old new bytes r
-        → WritesOutput (output_at session.files session.roles name) old new r
-    writes_it old new r puts = subst (λ x. WritesOutput x old new r) (sym is_its) puts
+      pub writes_it : (old new : Stream) (r : Result ℕ Refusal) → WritesOut old new bytes r
+          → WritesOutput (output_at session.files session.roles name) old new r
+      writes_it old new r puts = rw is_its puts
 
-    pub truth_at : session.roles.marks ≡ Full → IsTrueFile session.files session.roles name
-    truth_at full = subst (λ (s : SessionRead). IsTrueFile s.files s.roles name) view (record {
-      output = output;
-      named = found_there;
-      are_its = ap (λ (s : SessionRead). output_at s.files s.roles name) view ∙ some_at;
-      origins = located state.files roles (title_at (table_of web).names output.node);
-    })
+      pub truth_at : session.roles.marks ≡ Full → IsTrueFile session.files session.roles name
+      truth_at full = subst (λ (s : SessionRead). IsTrueFile s.files s.roles name) view (record {
+        output = output.now;
+        named = found_there;
+        are_its = ap (λ (s : SessionRead). output_at s.files s.roles name) view ∙ some_at;
+        origins = located state.files roles (title_at (table_of web).names output.now.node);
+      })

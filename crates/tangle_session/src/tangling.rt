@@ -1,9 +1,10 @@
 //! The state of a session: files with what tangling makes of them.
-ghost use Rattle.std.specs.Prelude.{◌≡◌, ◌⊎◌, None, Some, find, map, IfErr, IfOk, OnOk};
+ghost use Rattle.std.specs.Prelude.{◌≡◌, ◌⊎◌, None, Some, true, find, map, IfErr, IfOk, OnOk};
 ghost use Rattle.std.specs.List.{IsDistinct};
 ghost use Rattle.std.specs.Option.{option_copied};
 ghost use Rattle.std.specs.Str.{bytes_eq};
 ghost use Rattle.tangle_files.specs.Edited.{edited_all, roles_after};
+ghost use Rattle.tangle_files.specs.Roles.{fits};
 ghost use Rattle.tangle_session.specs.Edits.{list_memory, list_refusal};
 ghost use Rattle.tangle_session.specs.Headline.{web_at};
 ghost use Rattle.tangle_session.specs.Sessions.{ListsAffectedOfWebs};
@@ -67,7 +68,9 @@ pub(crate) fn mode_after(roles: &Roles, edits: &[Edit]) -> MarkMode
 
 /// Copies the files and makes the edits in the copy, each in what the earlier ones left.
 fn edited_copy(files: &Files, roles: &Roles, edits: &[Edit]) -> Result<Files, ListRefusal>
+    requires { fits files.now roles.now ≡ true }
     ensures made { IfOk result (λ copy. copy ≡ edited_all files.now edits.now) }
+    ensures fits { IfOk result (λ copy. fits copy roles.now ≡ true) }
     ensures unrefused { OnOk result (list_refusal files.now roles.now edits.now ≡ None) }
     ensures refused { IfErr result (λ refused.
         (list_refusal files.now roles.now edits.now ≡ Some refused) ⊎ (refused ≡ list_memory)) }

@@ -70,6 +70,11 @@ pub front-byte : (lines : List SourceLine) (bytes : List ℕ) (line column : ℕ
     (record { byte = slice_get bytes column; next = slice_get bytes (column + 1) })
 front-byte lines bytes line column done is h = grind (arith, nat_tests, rest_of-byte, rest_of-cell)
 
+-- the first byte of a line
+pub first_of_line : (lines : List SourceLine) (n : ℕ) → n < length lines
+    → byte_at 0 (text_from n (drop n lines)) ≡ slice_get (get_or lines n no_line).bytes 0
+first_of_line lines n h = rw (text_from-line lines n h, rest_of-cell lines (get_or lines n no_line).bytes n 0) refl
+
 -- a reader that is at a byte
 pub record IsAtByte (r : Inside) (text : List Cell) : Type 0 where
   pub done : r.is_done ≡ false
@@ -87,3 +92,6 @@ pub byte_at-drop : (n : ℕ) (text : List Cell) → byte_at n text ≡ byte_at 0
 byte_at-drop zero text = refl
 byte_at-drop (suc n) [] = refl
 byte_at-drop (suc n) (c ∷ cs) = byte_at-drop n cs
+
+-- what the functions of the reader take from here
+pub ruleset ahead_steps = (nat_tests, rest_of-cell, at-byte, byte_at-drop, advance-byte)

@@ -27,23 +27,15 @@ in-name b next h = rw h refl
 pub in-prose : PassesAll region.Prose
 in-prose b next h = rw h refl
 
-units-line : (line column : ℕ) (bs : List ℕ) (rest : List Cell) (n : ℕ)
+chunk-line : (r : Region) → PassesAll r → (line column : ℕ) (bs : List ℕ) (rest : List Cell) (n : ℕ)
     → n ≤ length bs → ((k : ℕ) → k < n → get_or bs k 0 ≡ 64 → ⊥)
-    → from_units name_bytes_of region.Name 0 (line_text line column bs ++ rest)
-    ≡ take n bs ++ from_units name_bytes_of region.Name 0 (drop n (line_text line column bs ++ rest))
-units-line line column bs rest zero h other = refl
-units-line line column [] rest (suc n) h other = absurd (omega arith)
-units-line line column (b ∷ bs) rest (suc n) h other =
-    let more = units-line line (column + 1) bs rest n (omega arith) (λ k lt. other (suc k) (omega arith)) in
-    grind (arith, nat_tests, ne_eqb b 64 (other 0 (omega arith)), more)
-
-end-line : (r : Region) → PassesAll r → (line column : ℕ) (bs : List ℕ) (rest : List Cell) (n : ℕ)
-    → n ≤ length bs → ((k : ℕ) → k < n → get_or bs k 0 ≡ 64 → ⊥)
-    → region_end r (drop n (line_text line column bs ++ rest)) ≡ region_end r (line_text line column bs ++ rest)
-end-line r one line column bs rest zero h other = refl
-end-line r one line column [] rest (suc n) h other = absurd (omega arith)
-end-line r one line column (b ∷ bs) rest (suc n) h other =
-    let more = end-line r one line (column + 1) bs rest n (omega arith) (λ k lt. other (suc k) (omega arith)) in
+    → (region_end r (drop n (line_text line column bs ++ rest)) ≡ region_end r (line_text line column bs ++ rest))
+    × (from_units name_bytes_of r 0 (line_text line column bs ++ rest)
+    ≡ take n bs ++ from_units name_bytes_of r 0 (drop n (line_text line column bs ++ rest)))
+chunk-line r one line column bs rest zero h other = (refl, refl)
+chunk-line r one line column [] rest (suc n) h other = absurd (omega arith)
+chunk-line r one line column (b ∷ bs) rest (suc n) h other =
+    let more = chunk-line r one line (column + 1) bs rest n (omega arith) (λ k lt. other (suc k) (omega arith)) in
     grind (arith, nat_tests, one b, region_end-one, ne_eqb b 64 (other 0 (omega arith)), more)
 
 -- the text ahead after a range of a line that has no `@`
@@ -60,12 +52,16 @@ module _ (lines : List SourceLine) (bytes : List ℕ) (line column end : ℕ) (l
 
   pub region_end-after : (r : Region) → PassesAll r → (done : Bool)
       → region_end r (rest_of lines bytes line end done) ≡ region_end r (rest_of lines bytes line column done)
-  region_end-after r one done = grind (arith, nat_tests, rest_of-after, end-line, length-drop, other-after)
+  region_end-after r one done = grind (arith, nat_tests, rest_of-after, chunk-line, length-drop, other-after)
 
-  pub bytes_begin : BeginsName (take (end - column) (drop column bytes))
-      (rest_of lines bytes line column false) (rest_of lines bytes line end false)
-  bytes_begin = record {
-    units = grind (arith, nat_tests, name_bytes-are, rest_of-after false, units-line, length-drop, other-after);
+  pub shorter-after : (done : Bool)
+      → length (rest_of lines bytes line end done) ≤ length (rest_of lines bytes line column done)
+  shorter-after done = grind (arith, rest_of-after done, length-drop)
+
+  pub bytes_begin : (read : List ℕ) → read ≡ take (end - column) (drop column bytes)
+      → BeginsName read (rest_of lines bytes line column false) (rest_of lines bytes line end false)
+  bytes_begin read is = record {
+    units = grind (arith, nat_tests, name_bytes-are, rest_of-after false, chunk-line region.Name in-name, length-drop, other-after);
     end = sym (region_end-after region.Name in-name false);
-    shorter = grind (arith, nat_tests, rest_of-after false, length-drop);
+    shorter = shorter-after false;
   }

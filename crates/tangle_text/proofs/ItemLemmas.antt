@@ -3,8 +3,8 @@ use Rattle.std.proofs.Common.{rules}
 use Rattle.std.proofs.lemmas.Bool.Decides.{nat_tests}
 use Rattle.std.proofs.Common.{◌≡◌, ℕ, ◌+◌, ◌<◌, ◌≤◌, ◌==◌, not, zero, suc, Bool, true, false, List, [], ◌∷◌, inl, inr}
 use Rattle.std.proofs.Common.{cond, if◌then◌else◌, ◌&&◌, drop, get_or, length, refl, ap, ◌∙◌, ◌-◌, arith}
-use Rattle.std.proofs.Common.{drop-drop, ◌⊎◌}
-use Rattle.std.proofs.lemmas.List.{get_or-drop, at_drop_more, drop_more}
+use Rattle.std.proofs.Common.{drop-drop}
+use Rattle.std.proofs.lemmas.List.{get_or-drop, drop_more}
 use Rattle.std.proofs.Math.Numerals.{one-add}
 use Rattle.std.proofs.lemmas.Bool.{cases_Bool}
 use Rattle.std.specs.List.{prefix_len}
@@ -74,13 +74,15 @@ run-byte : (b : ℕ) (bs : List ℕ) (k : ℕ) → suc k ≤ passing is_run_byte
     → (is_run_byte b bs ≡ true) × (k ≤ passing is_run_byte bs)
 run-byte b bs k h = grind (arith, nat_tests)
 
-free-back : (b c : ℕ) (cs : List ℕ) → is_run_byte c cs ≡ true → is_free c cs ≡ true → is_free b (c ∷ cs) ≡ true
-free-back b c cs h free =
-    by (b == space) (is_word_byte b) (is_word_byte c) (is_before_quote cs) (is_quote c) (run-no_quote c cs h)
-    (free-word c cs free)
+-- it is free to go over a byte, if the byte after it is in no word before a quoted text
+free-before : (b c : ℕ) (cs : List ℕ) → (is_word_byte c ≡ true → is_before_quote cs ≡ false)
+    → (is_word_byte c ≡ false → is_word_byte b ≡ true → is_quote c ≡ false) → is_free b (c ∷ cs) ≡ true
+free-before b c cs word other =
+    by (b == space) (is_word_byte b) (is_word_byte c) (is_before_quote cs) (is_quote c) word other
   where
-    by : (s v w t q : Bool) → q ≡ false → (w ≡ true → t ≡ false) → cond s (not (w && t)) (not (v && cond w t q)) ≡ true
-    by s v w t q other free = grind arith
+    by : (s v w t q : Bool) → (w ≡ true → t ≡ false) → (w ≡ false → v ≡ true → q ≡ false)
+        → cond s (not (w && t)) (not (v && cond w t q)) ≡ true
+    by s v w t q word other = grind arith
 
 run-to : (b : ℕ) (bs : List ℕ) (k : ℕ) → k ≤ passing is_run_byte bs
     → is_free (get_or (b ∷ bs) k 0) (drop k bs) ≡ true
@@ -90,15 +92,19 @@ run-to b [] (suc k) h free = absurd (omega arith)
 run-to b (c ∷ cs) (suc k) h free =
     let byte = run-byte c cs k h in
     let more = run-to c cs k byte.1 free in
-    (free-back b c cs byte.0 more.0, omega (arith, size-byte c cs byte.0 more.0, more.1))
+    let free = free-before b c cs (free-word c cs more.0) (λ x y. run-no_quote c cs byte.0) in
+    (free, omega (arith, size-byte c cs byte.0 more.0, more.1))
 
-space-size : (b : ℕ) (bs : List ℕ) → (b == space) ≡ true
-    → run_size 0 (b ∷ bs) ≡ cond (begins_item bs) (1 + run_size 0 bs) 0
-space-size b bs is = grind (arith, nat_tests)
+-- no run is at a word that a quoted text follows, nor at a space before it
+word-first : (b : ℕ) (bs : List ℕ) → is_word_byte b ≡ true → is_before_quote bs ≡ true
+    → (run_size 0 (b ∷ bs) ≡ 0) × (run_size 0 (space ∷ b ∷ bs) ≡ 0)
+word-first b bs word before = grind (arith, nat_tests, word-byte b word)
 
-item-size : (b : ℕ) (bs : List ℕ) → (b == space) ≡ false
-    → run_size 0 (b ∷ bs) ≡ cond (begins_item (b ∷ bs)) (1 + run_size (part_more b bs) bs) 0
-item-size b bs other = grind (arith, nat_tests)
+-- a quoted text, and one after a space
+quote-first : (b m : ℕ) (bs : List ℕ) → is_quote b ≡ true → m ≡ part_more b bs
+    → (run_size 0 (b ∷ bs) ≡ cond (m == 0) 0 (1 + m + run_size 0 (drop m bs)))
+    × (run_size 0 (space ∷ b ∷ bs) ≡ cond (m == 0) 0 (2 + m + run_size 0 (drop m bs)))
+quote-first b m bs is size = grind (arith, nat_tests, quote-byte b is, run-after m bs, part-fits b bs)
 
 -- The same at columns of a line.
 
@@ -117,12 +123,7 @@ end-free : (b : ℕ) (bs : List ℕ) → passing is_run_byte bs ≡ 0
     → (is_word_byte b ≡ true → is_quote (get_or bs 0 0) ≡ false) → is_free b bs ≡ true
 end-free b [] stops apart = grind arith
 end-free b (c ∷ cs) stops apart =
-    by (b == space) (is_word_byte b) (is_word_byte c) (is_before_quote cs) (is_quote c) _ (stop-byte c cs stops).0
-    (word-single c cs) apart
-  where
-    by : (s v w t q p : Bool) → p ≡ false → (w ≡ true → p ≡ true) → (v ≡ true → q ≡ false)
-        → cond s (not (w && t)) (not (v && cond w t q)) ≡ true
-    by s v w t q p single word apart = grind arith
+    free-before b c cs (λ word. cc (word-single c cs word, (stop-byte c cs stops).0)) (λ other. apart)
 
 space-free : (b : ℕ) (bs : List ℕ) → is_free b (space ∷ bs) ≡ true
 space-free b bs = grind arith
@@ -166,21 +167,18 @@ module _ (bytes : List ℕ) (from end : ℕ) (single : end ≡ from + passing is
       × ((get_or bytes (start - 1) 0 == space) ≡ false))
       → start ≡ from + run_size 0 (drop from bytes))
   column-word start low high inside word before =
-      let b : ℕ = get_or bytes start 0 in
-      let bs : List ℕ = drop (start + 1) bytes in
-      let ends : run_size 0 (drop start bytes) ≡ 0 = grind (arith, nat_tests, at_drop_more (run_size 0) bytes start 0 (omega arith), item-size b bs, word-byte b word) in (
+      let none = word-first (get_or bytes start 0) (drop (start + 1) bytes) word before in
+      let at : drop start bytes ≡ get_or bytes start 0 ∷ drop (start + 1) bytes = drop_more bytes start 0 (omega arith) in (
         λ some is.
             let blank : drop (start - 1) bytes ≡ space ∷ drop start bytes
-            = grind (arith, at_drop_more (λ l. l) bytes (start - 1) 0 (omega arith)) in
-            let none : begins_item (drop start bytes) ≡ false = grind (arith, nat_tests, at_drop_more begins_item bytes start 0 (omega arith)) in
-            let here : run_size 0 (drop (start - 1) bytes) ≡ 0 = rw (blank, none) refl in
-            omega (
+            = grind (arith, drop_more bytes (start - 1) 0 (omega arith)) in
+            grind (
               arith,
-              here,
+              none,
               column-to (start - 1) (omega arith) (omega arith)
                   (λ more. rw blank (space-free (get_or bytes (start - 1 - 1) 0) (drop start bytes))),
             ),
-        λ free. omega (arith, ends, column-to start low (omega arith) (λ more. rw ((free more).1, (free more).0) refl)),
+        λ free. grind (arith, none, column-to start low (omega arith) (λ more. rw ((free more).1, (free more).0) refl)),
       )
 
 -- a quoted text at a column, or after a space there
@@ -194,7 +192,7 @@ no-run : (bs : List ℕ) → passing is_run_byte bs ≡ 0
     → (run_size 0 bs ≡ 0) × (is_quote (get_or bs 0 0) ≡ false)
 no-run [] stops other = (refl, refl)
 no-run (b ∷ bs) stops other =
-    grind (arith, stop-byte b bs stops, no-item bs, no-item (b ∷ bs), space-size b bs, item-size b bs, quote-byte b)
+    grind (arith, nat_tests, stop-byte b bs stops, no-item bs, no-item (b ∷ bs), quote-byte b)
 
 -- there is none
 pub no-quote : (bytes : List ℕ) (from start : ℕ) → passing is_run_byte (drop from bytes) ≡ 0
@@ -210,32 +208,16 @@ pub quote-over : (bytes : List ℕ) (from start end : ℕ) → start ≡ from + 
     → (end ≡ start + 1 → run_size 0 (drop from bytes) ≡ 0)
     × ((end ≡ start + 1 → ⊥) → end + run_size 0 (drop end bytes) ≡ from + run_size 0 (drop from bytes))
 quote-over bytes from start end at inside is ends =
-    let b : ℕ = get_or bytes start 0 in
-    let bs : List ℕ = drop (start + 1) bytes in
-    let m : ℕ = part_more b bs in
-    let front : drop start bytes ≡ b ∷ bs = drop_more bytes start 0 inside in
-    let item : is_run_item b bs ≡ not (m == 0) = rw ((quote-byte b is).0, is) refl in
-    let more : run_size m bs ≡ m + run_size 0 (drop end bytes) = grind (arith, run-after m bs (part-fits b bs), drop-drop m (start + 1) bytes) in
-    let first : (run_size 0 (drop from bytes) ≡ cond (is_run_item b bs) (1 + run_size 0 (b ∷ bs)) 0)
-    × (start ≡ from + 1)
-    ⊎ (run_size 0 (drop from bytes) ≡ run_size 0 (b ∷ bs)) × (start ≡ from)
+    let m : ℕ = part_more (get_or bytes start 0) (drop (start + 1) bytes) in
+    let after : drop m (drop (start + 1) bytes) ≡ drop end bytes = grind (arith, drop-drop m (start + 1) bytes) in
+    let first = quote-first (get_or bytes start 0) m (drop (start + 1) bytes) is refl in
+    let here = drop_more bytes start 0 inside in
+    let all : run_size 0 (drop from bytes) ≡ cond (m == 0) 0 (start - from + (1 + m + run_size 0 (drop end bytes)))
     = elim (cases_Bool (get_or bytes from 0 == space)) [
       | inl blank ↦
           let next : start ≡ from + 1 = rw blank at at in
-          inl (
-            grind (
-              arith,
-              at_drop_more (run_size 0) bytes from 0 (omega arith),
-              space-size (get_or bytes from 0) (drop (from + 1) bytes) blank,
-              front,
-            ),
-            next,
-          )
-      | inr other ↦ let here : start ≡ from = omega (arith, rw other at at) in inr (grind (arith, front), here)
+          grind (arith, nat_tests, first, here, after, next, drop_more bytes from 0 (omega arith))
+      | inr other ↦
+          let same : start ≡ from = omega (arith, rw other at at) in grind (arith, first, here, after, same)
     ] in
-    finish m _ _ _ _ from start end (is_run_item b bs) item (item-size b bs (quote-byte b is).1) more first ends
-  where
-    finish : (m f g n r from start end : ℕ) (u : Bool) → u ≡ not (m == 0) → g ≡ cond u (1 + n) 0 → n ≡ m + r
-        → (f ≡ cond u (1 + g) 0) × (start ≡ from + 1) ⊎ (f ≡ g) × (start ≡ from) → end ≡ start + 1 + m
-        → (end ≡ start + 1 → f ≡ 0) × ((end ≡ start + 1 → ⊥) → end + r ≡ from + f)
-    finish m f g n r from start end u item size more first ends = grind (arith, nat_tests)
+    grind (arith, nat_tests, all)

@@ -21,15 +21,13 @@ part-fits b bs = grind (arith, nat_tests, prefix_len-le-length, quote-fits)
 
 prefix-taken : (test : ℕ → Bool) (n : ℕ) (bs : List ℕ)
     → prefix_len test bs ≤ n → prefix_len test (take n bs) ≡ prefix_len test bs
-prefix-taken test zero [] h = refl
-prefix-taken test zero (b ∷ bs) h = grind (arith, nat_tests)
+prefix-taken test zero bs h = omega arith
 prefix-taken test (suc n) [] h = refl
 prefix-taken test (suc n) (b ∷ bs) h = grind (arith, nat_tests, prefix-taken test n bs)
 
 quote-taken : (close : ℕ) (escaped : Bool) (n : ℕ) (bs : List ℕ)
     → quote_size close escaped bs ≤ n → quote_size close escaped (take n bs) ≡ quote_size close escaped bs
-quote-taken close escaped zero [] h = refl
-quote-taken close escaped zero (b ∷ bs) h = grind (arith, nat_tests)
+quote-taken close escaped zero bs h = omega arith
 quote-taken close escaped (suc n) [] h = refl
 quote-taken close escaped (suc n) (b ∷ bs) h =
     grind (arith, nat_tests, quote-taken close (b == backslash && not escaped) n bs)

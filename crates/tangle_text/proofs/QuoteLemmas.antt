@@ -1,7 +1,7 @@
 -- Where a quoted text is closed.
 use Rattle.std.proofs.lemmas.Bool.Decides.{nat_tests}
 use Rattle.std.proofs.Common.{◌≡◌, ℕ, ◌+◌, ◌-◌, ◌==◌, ◌&&◌, not, Bool, zero, suc, true, false, List, [], ◌∷◌, drop, drop-drop, get_or, length, ◌≤◌, ◌<◌}
-use Rattle.std.proofs.Common.{arith, refl, ◌∙◌}
+use Rattle.std.proofs.Common.{arith, refl}
 use Rattle.std.proofs.Math.Numerals.{one-add}
 use Rattle.std.proofs.lemmas.List.{at_drop_more}
 use Rattle.std.specs.List.{prefix_len}
@@ -14,12 +14,6 @@ use Rattle.tangle_text.specs.Runs.{is_quote, quote_size}
 abbrev pub after_some : ℕ → ℕ → ℕ
 after_some k zero = 0
 after_some k (suc n) = suc (k + n)
-
--- a byte of a quoted text
-quote-step : (close : ℕ) (escaped : Bool) (b : ℕ) (bs : List ℕ) → (b == at_sign) ≡ false
-    → (b == close && not escaped) ≡ false
-    → quote_size close escaped (b ∷ bs) ≡ after_some 1 (quote_size close (b == backslash && not escaped) bs)
-quote-step close escaped b bs at other = grind arith
 
 module _ (close : ℕ) (is : is_quote close ≡ true) where
   -- ordinary bytes
@@ -42,7 +36,4 @@ module _ (close : ℕ) (is : is_quote close ≡ true) where
         → next ≡ end + 1 + prefix_len is_ordinary (drop (end + 1) bytes)
         → quote_size close false (drop from bytes) ≡ after_some (next - from) (quote_size close false (drop next bytes))
     quote-on escaped from end next low inside at other takes so_far is =
-        let bs : List ℕ = drop (end + 1) bytes in
-        let step = at_drop_more (quote_size close escaped) bytes end 0 inside
-        ∙ quote-step close escaped (get_or bytes end 0) bs at other in
-        grind (arith, step, ordinary-to (end + 1) next is)
+        grind (arith, nat_tests, at_drop_more (quote_size close escaped) bytes end 0 inside, ordinary-to (end + 1) next is)

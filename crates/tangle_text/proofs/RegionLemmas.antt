@@ -30,14 +30,10 @@ pub region_end-one : (r : Region) (text : List Cell)
     → unit_at r text ≡ unit.One → region_end r text ≡ region_end r (drop 1 text)
 region_end-one r text h = grind (arith, nat_tests, region_end-counted, drop-more)
 
-region_end-two : (r : Region) (text : List Cell)
-    → unit_at r text ≡ unit.Two → region_end r text ≡ region_end r (drop 1 (drop 1 text))
-region_end-two r text h = grind (arith, nat_tests, region_end-counted, drop-more)
-
 -- a unit that isn't the end of a region is skipped
 pub region_end-go : (r : Region) (text : List Cell) (u : Unit-of) → unit_at r text ≡ u → (u ≡ unit.Stop → ⊥) →
     region_end r text ≡ region_end r (drop (more_by u) (drop 1 text))
-region_end-go r text u h go = grind (arith, nat_tests, region_end-one, region_end-two)
+region_end-go r text u h go = grind (arith, nat_tests, region_end-counted, drop-more)
 
 -- the unit at the front of a text, by the first two bytes
 pub unit_at-front : (r : Region) (text : List Cell) (front : Front) (u : Unit-of)
@@ -47,3 +43,6 @@ unit_at-front r text front u here is = rw (here.byte, here.next) (sym is)
 pub region_end-is : (r : Region) (text : List Cell) → region_end r text ≡ drop (count_before r text) text
 unfolding region_end
 region_end-is r text = refl
+
+-- what the functions that skip regions take from here
+pub ruleset region_steps = (nat_tests, unit_at-front, region_end-stop, region_end-one, region_end-go, region_end-nothing)

@@ -1,10 +1,10 @@
 -- Runs: how many bytes and cells they have.
 use Rattle.std.proofs.lemmas.Bool.Decides.{nat_tests}
 use Rattle.std.proofs.Common.{◌≡◌, ℕ, ◌+◌, ◌<◌, ◌≤◌, zero, suc, Bool, false, List, [], ◌∷◌, ◌++◌}
-use Rattle.std.proofs.Common.{Option, Some, None, ◌||◌, ◌&&◌, ◌==◌, not, sym, if◌then◌else◌, cond, length, drop, get_or, slice_get, refl, ap, ◌∙◌, arith}
-use Rattle.std.proofs.lemmas.List.{at_drop_more, get_or_past}
-use Rattle.std.proofs.lemmas.Bool.{cases_Bool}
-use Rattle.std.proofs.Common.{inl, inr}
+use Rattle.std.proofs.Common.{Option, Some, None, ◌||◌, ◌&&◌, ◌==◌, not, if◌then◌else◌, cond, length, drop, get_or, slice_get, refl, ap, arith}
+use Rattle.std.proofs.lemmas.List.{at_drop_more, drop_more, get_or_past}
+use Rattle.std.proofs.lemmas.Option.{slice_get_cases, slice_get-get_or}
+use Rattle.std.proofs.Math.ListN.{drop_of_length-le}
 use mir.Val.{bool_byte}
 use Rattle.tangle_files.specs.Bytes.{space}
 use Rattle.tangle_lines.specs.Reading.{SourceLine}
@@ -36,9 +36,7 @@ run_size-fits zero (b ∷ bs) =
     fits-by (goes_over b bs) _ (length bs) (run_size-fits (part_more b bs) bs)
 
 pub get_drop : (bytes : List ℕ) (column : ℕ) → slice_get (drop column bytes) 0 ≡ slice_get bytes column
-get_drop bytes zero = refl
-get_drop [] (suc column) = refl
-get_drop (b ∷ bs) (suc column) = get_drop bs column
+get_drop bytes column = grind (arith, slice_get_cases, drop_more, drop_of_length-le)
 
 -- a run of bytes that pass a test goes over the byte at a column, or ends there
 pub passing_step : (test : ℕ → List ℕ → Bool) (bytes : List ℕ) (column : ℕ) → column < length bytes
@@ -54,16 +52,11 @@ single_by (Some b) next = is_plain b || b == slash && not (holds asterisk next |
 
 pub single_at : (bytes : List ℕ) (column : ℕ)
     → begins_single (drop column bytes) ≡ single_by (slice_get bytes column) (slice_get bytes (column + 1))
-single_at [] zero = refl
-single_at [] (suc column) = refl
-single_at (b ∷ bs) zero = refl
-single_at (b ∷ bs) (suc column) =
-    let next : suc (column + 1) ≡ suc column + 1 = omega arith in
-    single_at bs column ∙ ap (λ n. single_by (slice_get bs column) (slice_get (b ∷ bs) n)) next
+single_at bytes column =
+    grind (arith, nat_tests, slice_get_cases, drop_more, drop_of_length-le, get_drop)
 
 -- a space is at a column
 pub blank_at : (bytes : List ℕ) (column : ℕ)
     → bool_byte (holds space (slice_get bytes column)) ≡ (if get_or bytes column 0 == space then 1 else 0)
-blank_at [] column = ap (λ b. if b == space then 1 else 0) (sym (get_or_past {X = ℕ} [] column 0 (omega arith)))
-blank_at (b ∷ bs) zero = elim (cases_Bool (b == space)) [ inl is ↦ rw is refl | inr is ↦ rw is refl ]
-blank_at (b ∷ bs) (suc column) = blank_at bs column
+blank_at bytes column =
+    grind (arith, nat_tests, slice_get_cases, slice_get-get_or bytes column 0, get_or_past bytes column 0)

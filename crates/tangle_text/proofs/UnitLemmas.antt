@@ -27,11 +27,6 @@ count-is r [] = refl
 count-is r (c ∷ []) = grind (arith, nat_tests)
 count-is r (c ∷ d ∷ cs) = grind (arith, nat_tests, count-is r (d ∷ cs), count-is r cs)
 
--- by the unit at the front
-pub count-one : (r : Region) (c : Cell) (cs : List Cell)
-    → unit_at r (c ∷ cs) ≡ unit.One → count_before r (c ∷ cs) ≡ 1 + count_before r cs
-count-one r c cs e = rw (count-is r (c ∷ cs), e, count-is r cs) refl
-
 -- What `f` gives for each unit of a region, in order. `k` cells at the front belong to an earlier unit.
 abbrev pub from_units : {A : Type 0} → (Unit-of → Cell → Option ℕ → List A) → Region → ℕ → List Cell → List A
 from_units f r k [] = []

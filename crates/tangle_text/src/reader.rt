@@ -114,6 +114,7 @@ fn white_end(bytes: &[u8], from: usize) -> usize
 }
 
 /// The first byte of a line; `None` if the line is empty, or if there is no such line.
+#[tactic(auto, using(crate::proofs::AheadLemmas::first_of_line))]
 fn first_byte(source: &Source, line: usize) -> Option<u8>
     ensures { result ≡ byte_at 0 (text_from line (drop line source.now.lines)) }
 {
@@ -124,6 +125,7 @@ fn first_byte(source: &Source, line: usize) -> Option<u8>
     }
 }
 
+#[tactic(auto, using(crate::proofs::AheadLemmas::ahead_steps))]
 impl<'s, 'a> Reader<'s, 'a> {
     /// Reads the whole text of a source.
     pub fn new(source: &'s Source<'a>) -> Self
@@ -254,6 +256,7 @@ impl<'s, 'a> Reader<'s, 'a> {
     }
 
     /// Advances to the first position where the region ends.
+    #[tactic(auto, using(crate::proofs::RegionLemmas::region_steps))]
     pub fn skip_to_end(&mut self, region: Region)
         ensures { self.new ≡ region_end region self.old }
     {
@@ -402,6 +405,7 @@ impl<'s, 'a> Reader<'s, 'a> {
     }
 
     /// Advances to the next `@`, which may be on a later line.
+    #[tactic(auto, using(crate::proofs::RegionLemmas::region_steps))]
     pub fn skip_prose(&mut self)
         ensures { self.new ≡ region_end region.Prose self.old }
     {

@@ -230,6 +230,7 @@ fn part_end(bytes: &[u8], from: usize) -> usize
 }
 
 /// This column, or the next one if a space is here.
+#[tactic(auto, using(crate::proofs::RunPartLemmas::blank_at))]
 #[inline(always)]
 fn item_start(bytes: &[u8], column: usize) -> usize
     requires { column ≤ length bytes.now }

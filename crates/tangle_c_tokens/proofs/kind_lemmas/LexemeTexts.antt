@@ -147,14 +147,24 @@ module _ (texts : List (List ℕ)) (clear : AreClear texts) where
       → IsTextAt texts at (c ∷ cs)
       → Shows kind c.byte → AreWhole (c_lexeme kind s (c ∷ cs)).tokens
   kind-whole (lexeme_kind.Control code) s at c cs is shows = code-whole code s at c cs is shows
-  kind-whole lexeme_kind.DoubleQuote s at c cs is shows = quoted-whole _ (string-text texts clear s at c cs is shows)
-  kind-whole lexeme_kind.Apostrophe s at c cs is shows =
-      quoted-whole _ (character-text texts clear s at c cs is shows)
-  kind-whole lexeme_kind.HeaderName s at c cs is shows = quoted-whole _ (header-text texts clear s at c cs is shows)
   kind-whole lexeme_kind.Word s at c cs is shows = word-whole at c cs is c.byte refl shows
   kind-whole lexeme_kind.Other s at c cs is shows = sign-whole at c cs is c.byte refl shows
   kind-whole kind s at c cs is shows =
-      search (rules, others-whole, seen, no-white, no-line_ends, no-fault)
+      let string = string-text texts clear s at c cs is in
+      let character = character-text texts clear s at c cs is in
+      let header = header-text texts clear s at c cs is in
+      search (
+        rules,
+        quoted-whole,
+        string,
+        character,
+        header,
+        others-whole,
+        seen,
+        no-white,
+        no-line_ends,
+        no-fault,
+      )
 
   documentation-whole : (kind : ControlCode) (s : LexerState) (text : List Cell)
       → AreWhole (documentation_code kind s text).tokens
@@ -196,7 +206,6 @@ module _ (texts : List (List ℕ)) (clear : AreClear texts) where
   lexemes-whole (suc k) s at (c ∷ cs) is = lexemes-whole k s (after_cell c) cs is.1
   lexemes-whole zero s at (c ∷ cs) is =
       let here = lexeme s (c ∷ cs) in
-      let others : List Token = flat_map (λ l. l.tokens) (lexemes here.more here.after cs) in
-      subst (AreTexts texts) (sym (faults-append here.tokens others))
-      (texts-append texts (without_faults here.tokens) (without_faults others) (lexeme-whole s at c cs is).are
+      rw (faults-append here.tokens (flat_map (λ l. l.tokens) (lexemes here.more here.after cs)))
+      (texts-append texts (without_faults here.tokens) _ (lexeme-whole s at c cs is).are
       (lexemes-whole here.more here.after (after_cell c) cs is.1))

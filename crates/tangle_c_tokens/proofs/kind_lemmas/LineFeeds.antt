@@ -35,7 +35,7 @@ raw-have (b ∷ bs) = grind (arith, nat_tests, raw-have bs)
 pub cut_have : (bytes : List ℕ) → AllByRecursion TextHasNoLineFeed (cut bytes)
 cut_have bytes =
     all-map TextHasNoLineFeed trimmed (raw_lines bytes)
-    (all-each TextHasNoLineFeed (λ l. TextHasNoLineFeed (trimmed l)) (raw_lines bytes) trimmed-has (raw-have bytes))
+    (all-each _ _ (raw_lines bytes) trimmed-has (raw-have bytes))
 
 -- What is true of each line of each file, with its number, is true of the lines that are read.
 module _ (P : ℕ → List ℕ → Type 0) where
@@ -81,8 +81,13 @@ module _ (P : ℕ → List ℕ → Type 0) where
   changes-have file phase n [] h all = search rules
   changes-have file phase n (l ∷ ls) h all =
       let next = phase-has file phase n l (line_kind_of l) h all.0 in
-      all-append HasLines (next_phase file phase n l (line_kind_of l)).1.changes _ next.1
-      (changes-have file (next_phase file phase n l (line_kind_of l)).0 (n + 1) ls next.0 all.1)
+      search (
+        rules,
+        all-append,
+        next,
+        changes-have file
+            (next_phase file phase n l (line_kind_of l)).0 (n + 1) ls,
+      )
 
   -- reading
 

@@ -1,5 +1,6 @@
 -- The bytes of spans are those of the cells of a text, of which none is a line feed.
-use Rattle.std.proofs.Common.{◌≡◌, ℕ, zero, suc, ◌+◌, ◌-◌, ◌<◌, ◌≤◌, true, false, List, [], ◌∷◌, ◌++◌}
+use Rattle.std.proofs.Common.{rules, ◌≡◌, ℕ, zero, suc, ◌+◌, ◌-◌, ◌<◌, ◌≤◌, true, false, List, []}
+use Rattle.std.proofs.Common.{◌∷◌, ◌++◌}
 use Rattle.std.proofs.Common.{Option, Some, None, get_or, take, drop, drop-cons, get_or-drop, take-suc, refl, ap, sym, ◌∙◌, arith}
 use Rattle.std.proofs.Common.{subst}
 use Rattle.std.proofs.Common.{length, length-drop}
@@ -62,14 +63,18 @@ module _ (texts : List (List ℕ)) (clear : AreClear texts) where
       let next = text-next texts at c cs is (subst IsByte (sym e) tt) in
       let within = text-within texts (point_at c.line (c.column + 1)) cs next in
       let first : source_byte texts c.line c.column ≡ b = source-is texts at c b e is.0 in
-      record {
-        next = next;
-        within = within;
-        bytes = grind (arith, nat_tests, drop-cons (get_or texts c.line []) c.column 0);
-        first = first;
-        feed = subst (λ b. (b == line_feed) ≡ false) first (clear c.line c.column);
-        next_feed = no-feed (point_at c.line (c.column + 1)) cs next;
-      }
+      let bytes : drop c.column (get_or texts c.line [])
+      ≡ b ∷ drop (c.column + 1) (get_or texts c.line []) =
+      grind (arith, nat_tests, drop-cons (get_or texts c.line []) c.column 0) in
+      search (
+        rules,
+        next,
+        within,
+        bytes,
+        first,
+        clear c.line c.column,
+        no-feed (point_at c.line (c.column + 1)) cs next,
+      )
 
   pub span-bytes : (n : ℕ) (at : Point) (text : List Cell) → IsTextAt texts at text → HoldsBytes n text
       → take n (drop at.column (get_or texts at.line [])) ≡ take n (line_bytes text)
@@ -95,7 +100,10 @@ module _ (texts : List (List ℕ)) (clear : AreClear texts) where
       let n = c.column - start in
       let size : c.column + 1 - start ≡ suc n = omega arith in
       let at : start + n ≡ c.column = omega arith in
-      ap (λ k. take k (drop start line)) size
-      ∙ take-suc (drop start line) n 0 (omega (arith, length-drop start line, is.within))
-      ∙ ap (λ d. take n (drop start line) ++ d ∷ [])
-      (get_or-drop start line n 0 ∙ ap (λ k. get_or line k 0) at ∙ is.first)
+      grind (
+        arith,
+        length-drop start line,
+        take-suc (drop start line) n 0,
+        get_or-drop start line n 0,
+        is,
+      )

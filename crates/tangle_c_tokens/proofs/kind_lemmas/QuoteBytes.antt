@@ -84,12 +84,7 @@ module _ (close : ℕ) (no_sign : (at_sign == close) ≡ false) (no_back : (back
   module _ (r : Region) (is : (b n : Option ℕ) → unit_of r b n ≡ quoted_unit close b n) (cut : IsCut r)
       (kind : kind_in r ≡ span_kind.Quoted) where
     pub quote-region : IsQuoteRegion r close
-    quote-region = record {
-      cut = cut;
-      kind = kind;
-      stops = λ b n e. grind (arith, nat_tests);
-      pairs = λ b n e pair. grind (arith, nat_tests);
-    }
+    quote-region = search (rules, cut, kind, nat_tests)
 
     one-by : (ends back : Bool) (b : ℕ) (q : List ℕ) → (b == backslash) ≡ back → (b == close) ≡ false
         → (b == line_feed) ≡ false
@@ -114,8 +109,11 @@ module _ (close : ℕ) (no_sign : (at_sign == close) ≡ false) (no_back : (back
           (or_parts (are_bytes at_sign at_sign (Some b) n) (b == backslash && not (holds at_sign n)) goes.1).1 h);
       signs = λ ends q next h. grind (arith, nat_tests, gives-byte ends at_sign (spliced q) refl no_sign refl h);
       others = λ ends b y q e sign feed next h.
-          subst (GivesQuoted ends) (sym (kept-first b (y ∷ q) feed ∙ ap (λ t. b ∷ t) (kept-first y q next)
-          ∙ ap (λ k. k ∷ y ∷ spliced q) (quote-region.pairs b (Some y) e (rw sign refl))))
+          rw (
+            kept-first b (y ∷ q) feed,
+            kept-first y q next,
+            quote-region.pairs b (Some y) e (rw sign refl),
+          )
           (gives-escape ends y (spliced q) feed h);
       broken = λ ends b q e h. grind (arith, nat_tests);
     }
@@ -133,12 +131,7 @@ header-byte : (ends : Bool) (b : ℕ) (q : List ℕ) → (b == greater_sign) ≡
 header-byte ends b q closing feed = gives-more ends_header_name b refl (over-header b closing feed) ends q
 
 pub header-region : IsQuoteRegion region.HeaderName greater_sign
-header-region = record {
-  cut = header_name-cut;
-  kind = refl;
-  stops = λ b n e. grind (arith, nat_tests);
-  pairs = λ b n e pair. grind (arith, nat_tests);
-}
+header-region = search (rules, header_name-cut, nat_tests)
 
 pub header-units : IsByUnits region.HeaderName greater_sign (λ ends q. Gives ends ends_header_name q)
 header-units = record {

@@ -39,8 +39,7 @@ module _ (texts : List (List ℕ)) (clear : AreClear texts) (r : Region) (close 
     others = λ ends b y q e sign feed next line.
         one-byte b (y ∷ q) (ap (λ c. c == line_feed) (region.pairs b (Some y) e (rw sign refl))) feed
         (one-byte y q feed next line);
-    broken = λ ends b q e line.
-        subst (λ c. IsOneLine (c ∷ line_feed ∷ q)) (sym (region.pairs b None e (and-false (b == at_sign)))) line;
+    broken = λ ends b q e line. rw (region.pairs b None e (and-false (b == at_sign))) line;
   }
 
   pub text-lines : (at : Point) (c : Cell) (cs : List Cell) (b : ℕ) → c.byte ≡ Some b → IsTextAt texts at (c ∷ cs)
@@ -48,5 +47,5 @@ module _ (texts : List (List ℕ)) (clear : AreClear texts) (r : Region) (close 
       → IsOneLine (group_text texts (without_faults (cut_tokens (quote_end r close last_line) r 0 c.column cs)))
   text-lines at c cs b x is back feed =
       let whole = text-whole texts clear r close last_line region (λ ends q. IsOneLine q) line-units at c cs b x is in
-      subst IsOneLine (sym whole.bytes)
-      (subst TextHasNoLineFeed (sym (spliced-other b whole.ahead back)) (grind (arith, nat_tests, feed, whole.closes)))
+      rw (whole.bytes, spliced-other b whole.ahead back)
+      (grind (arith, nat_tests, feed, whole.closes))

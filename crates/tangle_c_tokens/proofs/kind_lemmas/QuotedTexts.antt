@@ -146,7 +146,7 @@ module _ (texts : List (List ℕ)) (clear : AreClear texts) (r : Region) (close 
   stop-holds : (text : List Cell) → unit_at r text ≡ unit.Stop → Holds 0 text
   stop-holds [] e at start is low =
       let none : range texts at.line start at.column ≡ [] = grind (arith, nat_tests) in
-      subst (λ t. Ends t None (tokens_of start [])) (sym none) (search (rules, units.unended))
+      rw none (search (rules, units.unended))
   stop-holds (c ∷ cs) e at start is low = from-cell 0 c cs (search (rules, cut-stop, stop-by)) at start is low
 
   -- a unit of one byte
@@ -199,8 +199,8 @@ module _ (texts : List (List ℕ)) (clear : AreClear texts) (r : Region) (close 
           let same : tokens_of start (c ∷ d ∷ cs) ≡ cut_range r c.line start
           (c.column + 1) ++ token.QuoteBreak c.line ∷ tokens_of 0 cs =
           grind (arith, nat_tests, tokens, region.cut.takes) in
-          subst (Ends before c.byte) (sym same)
-          (add-ends before (first ++ line_feed ∷ []) _ b (line_feed ∷ []) _ _ _ (tokens_of 0 cs) (record {
+          rw same (add-ends before (first ++ line_feed ∷ []) _ b (line_feed ∷ []) _ _ _
+          (tokens_of 0 cs) (record {
             text = own.text ∙ sym (append_assoc first (line_feed ∷ []) _);
             ranges = own.ranges;
             full = own.full;

@@ -62,13 +62,13 @@ module _ (texts : List (List ℕ)) (clear : AreClear texts) (s : LexerState) (at
       → bytes ≡ first_byte ∷ q → IsQuoted bytes) → c.byte ≡ Some first_byte → IsText r close
   text-of r close first_byte region Closes units feed back other quoted x =
       let whole = text-whole texts clear r close s.last_line region Closes units at c cs first_byte x is in
-      record {
-        ranges = whole.ranges;
-        bytes = whole.full;
-        quoted = quoted whole.ends whole.ahead
-            (group_text texts (without_faults (tokens_in r close))) whole.closes whole.last whole.bytes;
-        one_line = text-lines texts clear r close s.last_line region feed at c cs first_byte x is back other;
-      }
+      search (
+        rules,
+        whole,
+        quoted,
+        text-lines texts clear r close s.last_line region feed at c cs
+            first_byte x is,
+      )
 
   pub string-text : c.byte ≡ Some double_quote → IsText region.DoubleQuote double_quote
   string-text =

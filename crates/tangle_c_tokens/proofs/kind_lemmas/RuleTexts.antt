@@ -103,13 +103,12 @@ module _ (texts : List (List ℕ)) where
       (AreTexts texts) (λ e. made (run ++ t ∷ []) (all-append (λ t. (is_range t ≡ false) × HasItsKind texts t) run (t ∷ []) is ((alone, kind), tt)))
       (search (rules, texts-append, left-texts, texts-alone)))
       (λ t part ts quoted all made run is.
-      grind (
-        arith,
-        nat_tests,
-        keeps-part (map_runs left_of_run []) (λ t ts h. grind (arith, nat_tests)) part ts,
-        texts-append texts (left_of_run run) (t ∷ part ++ map_runs left_of_run [] ts) (left-texts run is)
-            (texts-part texts (t ∷ part) (map_runs left_of_run [] ts) quoted (made [] tt)),
-      ))
+      let keeps = keeps-part (map_runs left_of_run [])
+      (λ t ts h. grind (arith, nat_tests)) part ts in
+      let later = texts-part texts (t ∷ part) (map_runs left_of_run [] ts) quoted (made [] tt) in
+      let both = texts-append texts (left_of_run run) (t ∷ part ++ map_runs left_of_run [] ts)
+      (left-texts run is) later in
+      grind (arith, nat_tests, keeps, both))
 
   pub part-texts : (ts : List Token) → AreTexts texts (without_faults ts) → AreTexts texts (part_tokens texts ts)
   part-texts ts all = search (rules, runs-texts, spaces-texts, inner-texts)

@@ -57,8 +57,7 @@ number-bytes =
         let a = take n (line_bytes cs) in
         let parts = and_parts (b == apostrophe) (is_word_byte c) (unit-two (is_word_byte b) (is_separator (Some b) (Some c)) e) in
         let more = more-separated c a parts.1 h in
-        subst (λ k. IsSeparated (k ∷ c ∷ a)) (sym (eqb-true b apostrophe parts.0))
-        (more.0, separates-more c a parts.1 h.0 more.1)
+        rw (eqb-true b apostrophe parts.0) (more.0, separates-more c a parts.1 h.0 more.1)
 
 -- a word with this first byte is of its kind
 abbrev IsWord : ℕ → List ℕ → Type 0
@@ -101,6 +100,4 @@ module _ (texts : List (List ℕ)) (clear : AreClear texts) where
       let same : n ≡ count_before (word_region (Some b)) cs = ap (λ x. count_before (word_region x) cs) e in
       let text = at-byte (1 + n) at c cs b e (word-cells c cs (subst IsByte (sym e) tt)) is
       ∙ ap (λ k. take k (b ∷ line_bytes cs)) (one-add n) ∙ ap (λ k. b ∷ take k (line_bytes cs)) same in
-      subst (λ k. IsWord k (span_text texts (span_at (1 + n) (c ∷ cs))))
-      (sym (byte-is texts clear at c cs b e is).first)
-      (subst (IsWord b) (sym text) (word-is b cs word))
+      rw ((byte-is texts clear at c cs b e is).first, text) (word-is b cs word)

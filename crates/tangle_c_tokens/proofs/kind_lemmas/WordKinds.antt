@@ -50,13 +50,7 @@ word-spliced a h = number-spliced a (word-separated a h)
 -- a number is of the other kind, and a word that begins with no digit is plain
 
 pub number-text : (b : ℕ) (a : List ℕ) → list_all is_separated_byte (b ∷ a) ≡ true → IsTextOfKind Other (b ∷ a)
-number-text b a h = record {
-  is = ap (λ t. list_any is_open (elements_from 0 t)) (number-spliced (b ∷ a) h)
-      ∙ no-comment 0 (b ∷ a) (not-in-number slash refl (b ∷ a) h);
-  bytes = refl;
-  begins = refl;
-  ends = refl;
-}
+number-text b a h = search (rules, number-spliced, no-comment, not-in-number slash refl)
 
 pub plain-text : (b : ℕ) (a : List ℕ) → is_digit b ≡ false → list_all is_word_byte (b ∷ a) ≡ true
     → IsTextOfKind Plain (b ∷ a)

@@ -85,10 +85,6 @@ module _ (texts : List (List ℕ)) where
 
   -- verbatim texts
 
-  verbatim-stop : (at : Point) (start : ℕ) (text : List Cell) → start ≤ at.column → IsTextAt texts at text
-      → token_points (verbatim_end start text) ≡ columns_to at.line start at.column ++ []
-  verbatim-stop at start x h is = grind arith
-
   empty-points : (text : List Cell) → token_points (empty_text text) ≡ []
   empty-points x = grind arith
 
@@ -103,5 +99,5 @@ module _ (texts : List (List ℕ)) where
         text-column texts at text,
         append-nil,
         columns-nothing,
-        cut-keeps region.Verbatim verbatim-cut verbatim_end (λ t. []) verbatim-stop at at.column text,
+        cut-keeps region.Verbatim verbatim-cut verbatim_end (λ t. []) (λ at start x h is. grind arith) at at.column text,
       )

@@ -2,8 +2,9 @@
 use Rattle.std.proofs.Common.{rules}
 use Rattle.std.proofs.lemmas.Bool.Decides.{nat_tests}
 use Rattle.std.proofs.Common.{◌≡◌, ◌<◌, ℕ, ◌+◌, Bool, true, false, List, [], ◌∷◌, ◌++◌, length, drop}
-use Rattle.std.proofs.Common.{refl, ap, sym, subst, ◌∙◌, ◌⊎◌, inl, inr, append_assoc, drop-drop, arith, length-append}
+use Rattle.std.proofs.Common.{refl, ap, sym, subst, ◌∙◌, ◌⊎◌, inl, inr, append_assoc, drop-drop, arith}
 use Rattle.std.specs.List.{All}
+use Rattle.std.proofs.lemmas.List.{same_from_push}
 use Rattle.std.proofs.lemmas.List.Elements.{All-append, All-nil}
 use Rattle.std.proofs.lemmas.Bool.{or_parts}
 use Rattle.std.proofs.lemmas.Grind.{flat_map-append}
@@ -60,12 +61,6 @@ rest-drop lines n text ours = (ours.0 + n, ap (drop n) ours.1 ∙ drop-drop n ou
 
 -- the tokens before a head that was removed
 
-same-parts : (xs ys : List Token) (x y : Token) → xs ++ x ∷ [] ≡ ys ++ y ∷ [] → (xs ≡ ys) × (x ≡ y)
-same-parts [] [] x y e = (refl, cc)
-same-parts [] (b ∷ ys) x y e = absurd (omega (arith, ap length e, length-append ys (y ∷ [])))
-same-parts (a ∷ xs) [] x y e = absurd (omega (arith, ap length e, length-append xs (x ∷ [])))
-same-parts (a ∷ xs) (b ∷ ys) x y e = grind (arith, nat_tests, same-parts xs ys x y)
-
 no_head-snoc : (ts : List Token) (head : Token) → is_head head ≡ true → HasNone is_head (ts ++ head ∷ []) → ⊥
 no_head-snoc [] head h j = cc
 no_head-snoc (t ∷ ts) head h j = grind (arith, nat_tests, no_head-snoc ts head h)
@@ -116,7 +111,7 @@ module _ {old new : List Token} (s : LexerState) {after : LexerState} {text rest
   pub taken : (kept : List Token) (head : Token) → HasNone is_head old
       → (new ≡ kept ++ head ∷ []) × (is_head head ≡ true) → IsTaken old kept (lexeme s text) head
   taken kept head none popped =
-      grind (arith, lexeme-alone s text, no_head-snoc kept head popped.1, none-append is_head old, no-head, same-parts kept old head)
+      grind (arith, lexeme-alone s text, no_head-snoc kept head popped.1, none-append is_head old, no-head, same_from_push kept old head)
 
   pub taken-tokens : (texts : List (List ℕ)) (kept : List Token) (head : Token) → 0 < length text
       → (new ≡ kept ++ head ∷ []) × (is_head head ≡ true) → IsTaken old kept (lexeme s text) head

@@ -1,7 +1,8 @@
 -- How a name in normal form grows with the bytes that are read.
+use Rattle.std.proofs.lemmas.Bool.{cases_Bool}
 use Rattle.std.proofs.lemmas.Bool.Decides.{nat_tests}
-use Rattle.std.proofs.Common.{◌≡◌, ◌<◌, ℕ, List, [], ◌∷◌, ◌++◌, Bool, true, false, ◌&&◌, append_assoc}
-use Rattle.std.proofs.Common.{append-nil, refl, sym, arith, if◌then◌else◌, filter}
+use Rattle.std.proofs.Common.{◌≡◌, ℕ, List, [], ◌∷◌, ◌++◌, Bool, true, false, not, ◌==◌, ◌&&◌, ◌∙◌, nat_lt, inl, inr, append_assoc}
+use Rattle.std.proofs.Common.{append-nil, sym, arith, if◌then◌else◌, filter}
 use Rattle.std.specs.List.{slice_split, onto_first, join_with_byte}
 use Rattle.tangle_files.specs.Bytes.{space}
 use Rattle.tangle_lines.specs.Bytes.{is_white}
@@ -42,37 +43,29 @@ pub form-other : (name : List ℕ) (white : Bool) (b : ℕ) (rest : List ℕ) �
 unfolding form_after
 form-other name white b rest is = grind (arith, nat_tests, append_assoc, joined)
 
--- names that are in normal form as they are read
+-- names that are in normal form as they are stored
 
--- the bytes that were read are a name in normal form, with a space after it if the last of them is white space
-pub record IsPlainSoFar (read : List ℕ) (white : Bool) : Type 0 where
-  pub name : List ℕ
-  pub is : read ≡ name ++ (if white && has_bytes name then space ∷ [] else [])
-  pub some : white ≡ false → has_bytes name ≡ true
-  pub form : (rest : List ℕ) → normal_form (read ++ rest) ≡ form_after name white rest
+-- these bytes are past the space but for single spaces between them, where white space or nothing is before them or not
+abbrev pub is_single_spaced : Bool → List ℕ → Bool
+is_single_spaced white [] = not white
+is_single_spaced white (b ∷ bs) =
+    if nat_lt space b then is_single_spaced false bs else not white && b == space && is_single_spaced true bs
 
-pub plain-none : IsPlainSoFar [] true
-plain-none = record { name = []; is = refl; some = λ h. cc; form = λ rest. sym (form-none true rest) }
+past-space : (b : ℕ) → nat_lt space b ≡ true → is_white b ≡ false
+past-space b past = grind (arith, nat_tests)
 
-pub past-space : (b : ℕ) → 32 < b → is_white b ≡ false
-past-space b past = grind arith
+-- they are added as they are
+spaced-form : (name : List ℕ) (white : Bool) (bytes : List ℕ) → is_single_spaced white bytes ≡ true
+    → (white ≡ false → has_bytes name ≡ true)
+    → form_after name white bytes ≡ name ++ (if white && has_bytes name then space ∷ bytes else bytes)
+spaced-form name true [] h some = cc
+spaced-form name false [] h some = form-end name false ∙ sym (append-nil name)
+spaced-form name white (b ∷ bs) h some =
+    elim (cases_Bool (nat_lt space b)) [
+      | inl past ↦
+          grind (arith, append_assoc name, form-other name white b bs (past-space b past), spaced-form (name ++ (if white && has_bytes name then space ∷ b ∷ [] else b ∷ [])) false bs)
+      | inr other ↦ grind (arith, nat_tests, form-white name white b bs, spaced-form name true bs)
+    ]
 
-pub plain-space : (read : List ℕ) (b : ℕ) → b ≡ space → IsPlainSoFar read false → IsPlainSoFar (read ++ b ∷ []) true
-plain-space read b is h = record {
-  name = h.name;
-  is = grind (arith, nat_tests, append-nil h.name);
-  some = λ never. cc;
-  form = λ rest. grind (arith, nat_tests, append_assoc read, form-white h.name false b rest, h.form (b ∷ rest));
-}
-
-pub plain-byte : (read : List ℕ) (white : Bool) (b : ℕ)
-    → is_white b ≡ false → IsPlainSoFar read white → IsPlainSoFar (read ++ b ∷ []) false
-plain-byte read white b is h = record {
-  name = read ++ b ∷ [];
-  is = sym (append-nil (read ++ b ∷ []));
-  some = λ e. grind arith;
-  form = λ rest. grind (arith, nat_tests, append_assoc, form-other h.name white b rest is, h.form (b ∷ rest));
-}
-
-pub plain-end : (read : List ℕ) (white : Bool) → IsPlainSoFar read white → white ≡ false → normal_form read ≡ read
-plain-end read white h other = grind (arith, nat_tests, append-nil, form-end h.name, h.form [])
+pub single-spaced : (bytes : List ℕ) → is_single_spaced true bytes ≡ true → normal_form bytes ≡ bytes
+single-spaced bytes h = sym (form-none true bytes) ∙ spaced-form [] true bytes h (λ e. cc)

@@ -14,6 +14,7 @@ use Rattle.tangle_text.specs.declared.regions.Unit.{Unit as Unit-of}
 use Rattle.tangle_text.specs.Text.{Cell, byte_at}
 use Rattle.tangle_text.specs.Regions.{unit_at, more_by}
 use Rattle.tangle_lexer.specs.LinesOfC.{inner_end_in}
+use Rattle.tangle_lexer.specs.LinesOfParts.{is_use_fault}
 use Rattle.tangle_lexer.specs.Lexemes.{fault_if}
 use Rattle.tangle_lexer.specs.Comments.{line_ends}
 use Rattle.tangle_lexer.specs.Quoted.{next_start, at_stop, cut_tokens}
@@ -74,7 +75,7 @@ white-plain b ends faults h k = grind (arith, nat_tests, none-append, inner_ends
 abbrev pub is_not_text : Token → Bool
 is_not_text (token.Span kind s) = false
 is_not_text (token.QuoteBreak n) = false
-is_not_text (token.Fault kind line) = false
+is_not_text (token.Fault kind line) = is_use_fault (token.Fault kind line)
 is_not_text _ = true
 
 -- the tokens of a text

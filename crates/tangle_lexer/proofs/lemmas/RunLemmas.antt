@@ -13,13 +13,12 @@ use Rattle.std.proofs.lemmas.Bool.{and_parts}
 use Rattle.std.proofs.lemmas.List.Elements.{All-push}
 use Rattle.tangle_lines.specs.Reading.{SourceLine}
 use Rattle.tangle_text.specs.declared.spans.Span.{Span}
-use Rattle.tangle_text.specs.Text.{Cell, line_text, text_from, byte_at, span_at, texts_of}
+use Rattle.tangle_text.specs.Text.{Cell, text_from, byte_at, span_at, texts_of}
 use Rattle.tangle_text.specs.Text.{IsRestOf}
 use Rattle.tangle_text.specs.Runs.{holds_plain, run_count, run_size}
 use Rattle.tangle_text.specs.Runs.{parts_of, run_parts, are_apart}
 use Rattle.tangle_text.proofs.RunPartLemmas.{run_count-line, run_size-fits, get_drop}
 use Rattle.tangle_lexer.proofs.laws.Points.{Point, point_at, IsTextAt, text-is, text-somewhere, line-at}
-use Rattle.tangle_lexer.specs.declared.modes.Mode.{Mode}
 use Rattle.tangle_lexer.specs.declared.modes.LineOfC.{LineOfC}
 use Rattle.tangle_lexer.specs.declared.modes.LexerState.{LexerState}
 use Rattle.tangle_lexer.specs.declared.simple.SimpleLexeme.{SimpleLexeme}
@@ -33,7 +32,7 @@ use Rattle.tangle_lexer.specs.Simple.{IsSimple, simple_kind, is_c_text, is_word_
 use Rattle.tangle_lexer.specs.Steps.{c_lexeme, lexeme, tokens_from}
 use Rattle.tangle_lexer.specs.Steps.{occurrences_from}
 use Rattle.tangle_lexer.proofs.lemmas.BlockLemmas.{unfolded-append, rest-drop}
-use Rattle.tangle_lexer.proofs.lemmas.RunTokens.{in_text, run-goes}
+use Rattle.tangle_lexer.proofs.lemmas.RunTokens.{run-goes}
 use Rattle.tangle_lexer.specs.declared.modes.IncludeState.{IncludeState}
 use Rattle.tangle_lexer.proofs.lemmas.SimpleLemmas.{lexeme-simple}
 use Rattle.tangle_lexer.proofs.lemmas.StepLemmas.{tokens_from-step, occurrences_from-step}
@@ -46,11 +45,6 @@ pub record IsRunRead (lines : List SourceLine) (s after : LexerState) (text : Li
       ++ tokens_from after (drop (run_count text) text)
   pub occurrences : occurrences_from s text ≡ occurrences_from after (drop (run_count text) text)
   pub run : IsRunOf (texts_of lines) (span_at (run_count text) text)
-
-span-line : (line column n : ℕ) (bs : List ℕ) (rest : List Cell)
-    → span_at n (line_text line column bs ++ rest) ≡ record { line = line; start = column; end = column + n }
-span-line line column n [] rest = refl
-span-line line column n (b ∷ bs) rest = refl
 
 parts-are : (texts : List (List ℕ)) (line column n : ℕ)
     → run_parts texts (record { line = line; start = column; end = column + n })
@@ -72,12 +66,16 @@ run-end : (bytes : List ℕ) (column n : ℕ) → 0 < n → (get_or (0 ∷ drop 
 run-end bytes column zero some h = absurd (omega arith)
 run-end bytes column (suc n) some h = grind (arith, get_or-drop)
 
-line-run : (lines : List SourceLine) (m : Mode) → is_c_text m ≡ true → (l : LineOfC) (stays : (b : Bool) → with_item b l ≡ l) (occurrences last : ℕ)
-    (at : Point) (text : List Cell) → IsTextAt (texts_of lines) at text → holds_plain (byte_at 0 text) ≡ true
+-- the first item of a line stays its first
+item-stays : (first b : Bool) (l : LineOfC) → with_item b (with_item first l) ≡ with_item first l
+item-stays first b x = grind arith
+
+line-run : (lines : List SourceLine) (s : LexerState) → is_c_text s.mode ≡ true
+    → (at : Point) (text : List Cell) → IsTextAt (texts_of lines) at text → holds_plain (byte_at 0 text) ≡ true
     → holds number_sign (byte_at 0 text) ≡ false → 0 < run_count text
-    → IsRunRead lines (in_text m l occurrences last) (in_text m l occurrences last) text
-line-run lines m c_text l stays occurrences last at [] is_text plain sign some = cc
-line-run lines m c_text l stays occurrences last at (c ∷ cs) is_text plain sign some =
+    → IsRunRead lines (elsewhere s) (elsewhere s) text
+line-run lines s c_text at [] is_text plain sign some = cc
+line-run lines s c_text at (c ∷ cs) is_text plain sign some =
     let texts = texts_of lines in
     let line : ℕ = at.line in
     let column : ℕ = at.column in
@@ -89,9 +87,8 @@ line-run lines m c_text l stays occurrences last at (c ∷ cs) is_text plain sig
     let byte : c.byte ≡ slice_get bytes 0 = found ∙ sym (get_drop of_line column) in
     let n : ℕ = run_size 0 bytes in
     let count : run_count (c ∷ cs) ≡ n = ap run_count is ∙ run_count-line line column bytes rest in
-    let span_is = ap (span_at n) is ∙ span-line line column n bytes rest in
     let parts = parts-are texts line column n in
-    let goes = run-goes m c_text l stays occurrences last line rest column 0 n bytes (omega arith) refl in
+    let goes = run-goes s c_text (λ b. item-stays false b s.line.line) line rest column 0 n bytes (omega arith) refl in
     let run : IsRunOf texts (record { line = line; start = column; end = column + n }) = record {
       span = record {
         line = is_text.0.real;
@@ -105,11 +102,6 @@ line-run lines m c_text l stays occurrences last at (c ∷ cs) is_text plain sig
     search rules
 
 -- the first lexeme of a run is read as if an item were before it on its line
-
--- the first item of a line stays its first
-
-item-stays : (first b : Bool) (l : LineOfC) → with_item b (with_item first l) ≡ with_item first l
-item-stays first b x = grind arith
 
 kind-apart : (p : SimpleLexeme) (s : LexerState) (text : List Cell)
     → is_word_or_sign p ≡ true → is_apart s.line.include (byte_at 0 text) ≡ true
@@ -135,10 +127,7 @@ run-read lines tokens s text p here c_text begins some_bytes ours =
     let both = and_parts (is_word_or_sign p) (is_apart s.line.include (byte_at 0 text)) all.0 in
     let plain : holds_plain (byte_at 0 text) ≡ true = here.plain both.0 in
     let place = text-somewhere (texts_of lines) ours.0 (point_at 0 0) (text_from 0 lines) (text-is lines) in
-    let part : LexerState = in_text s.mode (with_item false s.line.line) s.occurrences s.last_line in
-    let run : IsRunRead lines part part text
-    = line-run lines s.mode c_text (with_item false s.line.line) (λ b. item-stays false b s.line.line) s.occurrences s.last_line
-    place.0 text (rw ours.1 place.1) plain (apart-sign s.line.include (byte_at 0 text) both.1) some_bytes in
+    let run = line-run lines s c_text place.0 text (rw ours.1 place.1) plain (apart-sign s.line.include (byte_at 0 text) both.1) some_bytes in
     grind (arith, nat_tests, lexeme-apart s text p here, tokens_from-step, occurrences_from-step)
 
 -- the token of a run is added

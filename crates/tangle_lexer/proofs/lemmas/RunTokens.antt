@@ -6,7 +6,7 @@ use Rattle.std.proofs.Common.{◌++◌, length, take, drop, map, get_or, Option,
 use Rattle.std.proofs.Common.{sym, ◌∙◌, subst, arith, eq-or-lt_of_le, add-one}
 use Rattle.std.specs.List.{prefix_len}
 use Rattle.std.proofs.Math.Numerals.{one-add}
-use Rattle.std.proofs.lemmas.Bool.{cases_Bool, cond-false, true_from_ne_false, false_from_ne_true, ne_eqb, eqb-true}
+use Rattle.std.proofs.lemmas.Bool.{cond-false, true_from_ne_false, false_from_ne_true, ne_eqb, eqb-true}
 use Rattle.std.proofs.lemmas.Bool.{eq-eqb, not-true}
 use Rattle.std.proofs.lemmas.List.Sums.{prefix_len_passes}
 use Rattle.tangle_files.specs.Bytes.{space}
@@ -25,10 +25,7 @@ use Rattle.tangle_text.proofs.ItemLemmas.{run-after}
 use Rattle.tangle_text.proofs.PartLemmas.{part-fits, part-taken}
 use Rattle.tangle_text.proofs.UnitLemmas.{counted, count-is}
 use Rattle.tangle_text.proofs.WordLemmas.{word_more-plain}
-use Rattle.tangle_lexer.specs.declared.modes.Mode.{Mode}
 use Rattle.tangle_lexer.specs.declared.modes.IncludeState.TheVariants as include
-use Rattle.tangle_lexer.specs.declared.modes.LineOfC.{LineOfC}
-use Rattle.tangle_lexer.specs.declared.modes.AtLineEnd.TheVariants.{Ends}
 use Rattle.tangle_lexer.specs.declared.modes.LexerState.{LexerState}
 use Rattle.tangle_lexer.specs.declared.tokens.SpanKind.TheVariants as span_kind
 use Rattle.tangle_lexer.specs.declared.tokens.Token.TheVariants as token
@@ -36,7 +33,7 @@ use Rattle.tangle_lexer.specs.LinesOfC.{with_item}
 use Rattle.tangle_lexer.specs.CText.{kind_by, kind_at}
 use Rattle.tangle_lexer.specs.Simple.{is_c_text}
 use Rattle.tangle_lexer.specs.declared.lexeme_kinds.LexemeKind.{LexemeKind}
-use Rattle.tangle_lexer.specs.Lexemes.{lexeme_of}
+use Rattle.tangle_lexer.specs.Lexemes.{lexeme_of, elsewhere}
 use Rattle.tangle_lexer.specs.Quoted.{kind_in, one_if, cut_range, cut_tokens, quote_end, quoted_text}
 use Rattle.tangle_lexer.specs.Runs.{part_token}
 use Rattle.tangle_lexer.specs.Steps.{lexeme, c_lexeme, macro_lexeme, tokens_from, occurrences_from}
@@ -102,16 +99,6 @@ before-word : (bs : List ℕ) → is_before_quote (drop (prefix_len is_word_byte
 before-word [] = refl
 before-word (b ∷ bs) = grind (arith, nat_tests, one-add (prefix_len is_word_byte bs), before-word bs)
 
--- lexemes of C text where no #include was begun, after an item of a line
-
-abbrev pub in_text : Mode → LineOfC → ℕ → ℕ → LexerState
-in_text m l occurrences last = record {
-  occurrences = occurrences;
-  last_line = last;
-  mode = m;
-  line = record { include = include.Elsewhere; line = l; at_line_end = Ends };
-}
-
 -- These parts may stand after a space, if an item is at the front, and after a word, if no quoted text follows it.
 abbrev pub AreApart : List ℕ → List RunPart → Type 0
 AreApart bs parts = are_apart (begins_item bs) (not (is_before_quote bs)) parts ≡ true
@@ -145,10 +132,11 @@ lexeme-here : (s : LexerState) (text : List Cell) (kind : LexemeKind) → is_c_t
 unfolding lexeme
 lexeme-here s text kind m same h = grind (arith, nat_tests)
 
-module _ (m : Mode) (c_text : is_c_text m ≡ true) (l : LineOfC) (stays : (b : Bool) → with_item b l ≡ l)
-    (count last line : ℕ) (rest : List Cell) where
+-- lexemes of C text where no #include was begun, after an item of a line
+module _ (s : LexerState) (c_text : is_c_text s.mode ≡ true)
+    (stays : (b : Bool) → with_item b (elsewhere s).line.line ≡ (elsewhere s).line.line) (line : ℕ) (rest : List Cell) where
   abbrev here : LexerState
-  here = in_text m l count last
+  here = elsewhere s
 
   -- the text of the line from a column on, where these are its bytes
   abbrev at : ℕ → List ℕ → List Cell
@@ -175,7 +163,7 @@ module _ (m : Mode) (c_text : is_c_text m ≡ true) (l : LineOfC) (stays : (b : 
   quoted-part column b n bs blank word quote size =
       let (r, units, kind, same, opens) = text-of b quote in
       let end : ℕ = column + (1 + suc n) in
-      let text = closes-at r b units last line column end rest false (column + 1) bs n size (omega arith) in
+      let text = closes-at r b units here.last_line line column end rest false (column + 1) bs n size (omega arith) in
       let inside : count_before r (at (column + 1) bs) ≡ n = count-is r (at (column + 1) bs) ∙ text.count in
       let span : Span = record { line = line; start = column; end = end } in
       let cut : cut_range r line column end ≡ token.Span (kind_in r) span ∷ [] = grind (arith, nat_tests) in
@@ -195,22 +183,15 @@ module _ (m : Mode) (c_text : is_c_text m ≡ true) (l : LineOfC) (stays : (b : 
       search (rules, front-byte, nat_tests, lexeme-here, loosened)
 
   is-part : (column b : ℕ) (bs : List ℕ) → goes_over b bs ≡ true → IsPart column b bs
-  is-part column b bs h =
-      elim (cases_Bool (b == space)) [
-        | inl e ↦ subst (λ x. IsPart column x bs) (sym (eqb-true b space e)) (space-part column bs (rw e at h))
-        | inr blank ↦
-            let item = sym (cond-false (b == space) (begins_item bs) (is_run_item b bs) blank) ∙ h in
-            elim (cases_Bool (is_word_byte b)) [
-              | inl word ↦ word-part column b bs word (rw word at item) blank
-              | inr other ↦
-                  elim (cases_Bool (is_quote b)) [
-                    | inl quote ↦
-                        let size = some-size (quote_size b false bs) (rw (other, quote) at item) in
-                        quoted-part column b size.0 bs blank other quote size.1
-                    | inr none ↦ sign-part column b bs blank other none (rw (other, none) at item)
-                  ]
-            ]
-      ]
+  is-part column b bs h = by (b == space) (is_word_byte b) (is_quote b) refl refl refl
+    where
+      by : (s w q : Bool) → (b == space) ≡ s → is_word_byte b ≡ w → is_quote b ≡ q → IsPart column b bs
+      by true w q blank word quote =
+          subst (λ x. IsPart column x bs) (sym (eqb-true b space blank)) (space-part column bs (rw blank at h))
+      by false true q blank word quote = word-part column b bs word (rw (blank, word) at h) blank
+      by false false true blank word quote =
+          let size = some-size (quote_size b false bs) (grind arith) in quoted-part column b size.0 bs blank word quote size.1
+      by false false false blank word quote = sign-part column b bs blank word quote (grind arith)
 
   -- `n` bytes are those of a run, and the first `k` of them belong to an earlier part
   pub record Goes (column k n : ℕ) (bs : List ℕ) : Type 0 where

@@ -101,10 +101,7 @@ pub kind-dark : (kind : LexemeKind) (text : List Cell)
     → (kind ≡ lexeme_kind.LineComment → ⊥) → ((code : ControlCode) → kind ≡ lexeme_kind.Control code → ⊥)
     → is_white_alone (lexeme_but_name kind text).tokens ≡ false
 kind-dark (lexeme_kind.Control code) text white block line control = absurd (control code refl)
-kind-dark lexeme_kind.White text white block line control = absurd (white refl)
-kind-dark lexeme_kind.BlockComment text white block line control = absurd (block refl)
-kind-dark lexeme_kind.LineComment text white block line control = absurd (line refl)
-kind-dark _ text white block line control = search (rules, text-dark, quoted-text)
+kind-dark x text white block line control = first_of (search (rules, text-dark, quoted-text), grind arith)
 
 -- the text after the white space at the front
 
@@ -121,4 +118,4 @@ white-goes (c ∷ cs) h =
     rw h (sym (drop-drop (white_count more cs) 1 (c ∷ cs)) ∙ skipped more cs)
 
 -- what the functions that read white space take from here
-pub ruleset white_steps = (unit_steps, ends-here, never-ends, no-line_end, line-goes, white-goes)
+pub ruleset white_steps = (unit_steps, ends-here, never-ends, no-line_end, line-goes, white-goes, line-white, code-dark, kind-dark)

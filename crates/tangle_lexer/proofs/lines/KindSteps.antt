@@ -9,7 +9,6 @@ use Rattle.tangle_text.specs.declared.regions.Region.{Region}
 use Rattle.tangle_lines.specs.Bytes.{at_sign}
 use Rattle.tangle_text.specs.Bytes.{number_sign, backslash, holds}
 use Rattle.tangle_text.specs.Text.{Cell, byte_at, span_at, front_line}
-use Rattle.tangle_text.specs.Regions.{units}
 use Rattle.tangle_lexer.specs.declared.tokens.Token.{Token}
 use Rattle.tangle_lexer.specs.declared.tokens.SpanKind.TheVariants as span_kind
 use Rattle.tangle_lexer.specs.declared.tokens.Token.TheVariants as token
@@ -25,10 +24,10 @@ use Rattle.tangle_lexer.specs.declared.modes.LineState.{LineState}
 use Rattle.tangle_lexer.specs.declared.modes.LexerState.{LexerState}
 use Rattle.tangle_lexer.specs.LinesOfC.{with_item, inner_end_in, after_line_end, after_line_ends}
 use Rattle.tangle_lexer.specs.LinesOfC as lines_of_c
-use Rattle.tangle_lexer.specs.Lexemes.{is_c_part, is_in_directive, fault_if, white_lexeme}
-use Rattle.tangle_lexer.specs.Comments.{unit_line_end, line_ends}
+use Rattle.tangle_lexer.specs.Lexemes.{is_c_part, is_in_directive, white_lexeme}
+use Rattle.tangle_lexer.specs.Comments.{line_ends}
 use Rattle.tangle_lexer.specs.Constants.{constant_lexeme}
-use Rattle.tangle_lexer.specs.Names.{use_of_name, name_faults, name_end, has_single_equals, after_name}
+use Rattle.tangle_lexer.specs.Names.{use_of_name, name_end}
 use Rattle.tangle_lexer.specs.Steps.{c_lexeme, lexeme}
 use Rattle.tangle_lexer.specs.CText.{kind_at}
 use Rattle.tangle_lexer.specs.Heads.{is_head}
@@ -52,10 +51,7 @@ abbrev AreLineEnds : List Token → Type 0
 AreLineEnds ts = HasNone is_no_line_end ts
 
 line_ends-are : (r : Region) (text : List Cell) → AreLineEnds (line_ends r text)
-line_ends-are r text = none-flat is_no_line_end unit_line_end one (units r text)
-  where
-    one : (u : List Cell) → AreLineEnds (unit_line_end u)
-    one x = search rules
+line_ends-are r text = grind (arith, none-flat)
 
 pub in_directive : (s : LexerState) → s.mode ≡ mode.CPart → is_in_directive s ≡ lines_of_c.is_directive s.line.line
 in_directive s m = ap (λ x. is_c_part x && lines_of_c.is_directive s.line.line) m
@@ -99,12 +95,12 @@ module _ (texts : List (List ℕ)) (R : Judgement texts) where
   white-alone s kind n m h = search (rules, white-follows, fault-step)
 
   -- signs
-  sign-follows : (l : LineOfC) (e : AtLineEnd) (at : Point) (c : Cell) (cs : List Cell) (is_number is_backslash : Bool)
+  sign-follows : {l : LineOfC} {e : AtLineEnd} (at : Point) (c : Cell) (cs : List Cell) (is_number is_backslash : Bool)
       → IsByte c.byte → IsCellAt texts at c
       → holds number_sign c.byte ≡ is_number → holds backslash c.byte ≡ is_backslash
       → Steps texts R l e (token.Span span_kind.Sign (span_at 1 (c ∷ cs)) ∷ [])
       (with_item is_number l) (end_by is_backslash)
-  sign-follows l e at c cs n b byte is number back =
+  sign-follows at c cs n b byte is number back =
       rw (← number, ← back, ← byte-test texts number_sign at c byte is, ← byte-test texts backslash at c byte is)
       (item-step texts R (token.Span span_kind.Sign (span_at 1 (c ∷ cs))) refl)
 
@@ -118,14 +114,8 @@ module _ (texts : List (List ℕ)) (R : Judgement texts) where
   use-follows : (s : LexerState) (text : List Cell) → s.mode ≡ mode.CPart
       → Follows s.line (use_of_name s text).tokens (use_of_name s text).after.line
   use-follows s text m =
-      let n : ℕ = front_line s.last_line text in
-      let t : Token = token.UseOf (front_line s.last_line (name_end text)) s.occurrences in
-      let names : List Token = name_faults s.last_line text in
-      let equals : List Token = fault_if (has_single_equals (after_name text)) fault.NameEquals n in
-      let b : Bool = lines_of_c.is_directive s.line.line in
-      rw (in_directive s m) (steps-append texts R (t ∷ fault_if b fault.UseInDirective n ++ names) equals
-      (steps-append texts R (t ∷ fault_if b fault.UseInDirective n) names
-      (use-step texts R t refl refl refl (λ us. refl) (λ l. refl) (λ before us. refl) n)
+      rw (in_directive s m) (steps-append texts R _ _ (steps-append texts R _ _
+      (use-step texts R (token.UseOf (front_line s.last_line (name_end text)) s.occurrences) (front_line s.last_line text) refl)
       (faults-step texts R _ fault.NameEnd _ refl)) (faults-step texts R _ fault.NameEquals _ refl))
 
   kind-follows : (kind : LexemeKind) (s : LexerState) (at : Point) (c : Cell) (cs : List Cell)
@@ -135,12 +125,11 @@ module _ (texts : List (List ℕ)) (R : Judgement texts) where
   kind-follows (lexeme_kind.Control code.SectionStart) s at c cs m none o is = cc
   kind-follows (lexeme_kind.Control code.Name) s at c cs m none o is = use-follows s (c ∷ cs) m
   kind-follows (lexeme_kind.Control code.DoubleAt) s at c cs m none o is =
-      sign-follows s.line.line s.line.at_line_end at c cs false false (grind arith) is.0
+      sign-follows at c cs false false (grind arith) is.0
       (other-byte at_sign number_sign c.byte refl o.0) (other-byte at_sign backslash c.byte refl o.0)
   kind-follows lexeme_kind.Word s at c cs m none o is = item-step texts R _ refl
   kind-follows lexeme_kind.Other s at c cs m none o is =
-      sign-follows s.line.line s.line.at_line_end at c cs (holds number_sign c.byte) (holds backslash c.byte)
-      (some-byte c.byte o.0) is.0 refl refl
+      sign-follows at c cs (holds number_sign c.byte) (holds backslash c.byte) (some-byte c.byte o.0) is.0 refl refl
   kind-follows (lexeme_kind.Control kind) s at c cs m none o is =
       search (rules, white-alone, white-step, join-step, white-follows, line_ends-are, faults-step, verbatim-steps, use-step, constant-follows)
   kind-follows _ s at c cs m none o is =

@@ -1,12 +1,11 @@
 -- Which lines of C of a part have inner line ends and which uses have the fault UseInDirective, lexeme by lexeme.
-use Rattle.std.proofs.Common.{append-nil, sym}
+use Rattle.std.proofs.Common.{append-nil}
 use Rattle.tangle_lexer.proofs.lines.OpenLines.{uses-append}
 use Rattle.std.proofs.Common.{rules}
 use Rattle.std.proofs.lemmas.Bool.Decides.{nat_tests}
 use Rattle.std.proofs.Common.{arith}
-use Rattle.std.proofs.Common.{◌≡◌, ℕ, zero, suc, Bool, true, false, List, [], ◌∷◌, ◌++◌, flat_map, length}
-use Rattle.std.proofs.Common.{refl, ap, ◌∙◌, cond, inl, inr}
-use Rattle.std.specs.Prelude.{filter}
+use Rattle.std.proofs.Common.{◌≡◌, ℕ, zero, suc, true, false, List, [], ◌∷◌, ◌++◌, flat_map, length}
+use Rattle.std.proofs.Common.{refl, inl, inr}
 use Rattle.std.specs.List.{All}
 use Rattle.std.proofs.lemmas.List.Elements.{All-cons, All-nil}
 use Rattle.tangle_lines.specs.Reading.{SourceLine}
@@ -18,7 +17,7 @@ use Rattle.tangle_lexer.specs.Lexemes.{Lexeme, is_c_part}
 use Rattle.tangle_lexer.specs.LinesOfC.{front}
 use Rattle.tangle_lexer.specs.Heads.{is_head}
 use Rattle.tangle_lexer.specs.Steps.{lexeme, lexemes, tokens_from, all_tokens, first_state}
-use Rattle.tangle_lexer.specs.LinesOfParts.{is_use, is_directive, body, begins_c_part, c_parts, uses_in_directive}
+use Rattle.tangle_lexer.specs.LinesOfParts.{is_use, is_directive, body, c_parts, uses_in_directive}
 use Rattle.tangle_lexer.specs.LinesOfParts.{HasInnerEndsAsDirective, begins_with_use_fault, with_use_fault}
 use Rattle.tangle_lexer.specs.LinesOfParts as parts
 use Rattle.tangle_lexer.proofs.lemmas.BlockLemmas.{no-head}
@@ -41,15 +40,15 @@ c_parts-append (t ∷ ts) us h = grind (arith, nat_tests, c_parts-append ts us)
 module _ (texts : List (List ℕ)) where
   -- these lines of C are what the law says of them
   pub record AreRight (ahead : List Token) (lines : List (List Token)) : Type 0 where
+    pub none : begins_with_use_fault ahead ≡ false
     pub inner : All (HasInnerEndsAsDirective texts) lines
     pub uses : with_use_fault ahead ≡ flat_map (uses_in_directive texts) lines
 
   pub are-right : Judgement texts
   are-right = record {
     holds = AreRight;
-    kept = λ t us lines h more. record { inner = more.inner; uses = rw h more.uses };
+    kept = λ t us lines h more. record { none = h; inner = more.inner; uses = rw more.none more.uses };
     ended = search rules;
-    used = search rules;
   }
 
   abbrev pub IsRightPart : List Token → Type 0
@@ -58,7 +57,6 @@ module _ (texts : List (List ℕ)) where
   -- the tokens from a position on
   pub record AreRightFrom (s : LexerState) (ts : List Token) : Type 0 where
     pub now : s.mode ≡ mode.CPart → Holds texts are-right s.line.line s.line.at_line_end (body ts)
-    pub begins : s.mode ≡ mode.CPart → begins_with_use_fault ts ≡ false
     pub all : All IsRightPart (c_parts ts)
 
   abbrev Law : LexerState → Lexeme → Type 0
@@ -68,13 +66,10 @@ module _ (texts : List (List ℕ)) where
   ended : (l : _) (e : _) → Holds texts are-right l e []
   unfolding are-right
   ended l e before is = record {
+    none = refl;
     inner = All-cons (HasInnerEndsAsDirective texts) before [] is.inner (All-nil (HasInnerEndsAsDirective texts));
-    uses = by (is_directive texts before)
-        (ap (filter is_use) (sym (append-nil before)) ∙ uses-append before [] is.uses);
+    uses = grind (arith, append-nil before, uses-append before [] is.uses);
   }
-    where
-      by : (b : Bool) → filter is_use before ≡ [] → [] ≡ cond b (filter is_use before) [] ++ []
-      by x h = search rules
 
   -- a lexeme that is no head, and a head
   plain-law : (s : LexerState) (here : Lexeme) → is_c_part here.after.mode ≡ is_c_part s.mode

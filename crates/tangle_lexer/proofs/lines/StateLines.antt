@@ -46,8 +46,7 @@ module _ (texts : List (List ℕ)) where
   last-is b = record {
     holds = λ ahead lines. (before : List Token) → is_directive texts (last_line before lines) ≡ b;
     kept = λ t us lines h more. more;
-    ended = λ t us line lines h inner none more before. more line;
-    used = λ t f n us line lines h inner uses more before. more line;
+    ended = λ t f n us line lines h inner uses more before. more line;
   }
 
   -- the lexer has read these tokens, of which the last part is a C part if the state is in one
@@ -97,7 +96,7 @@ directives-known lines before after here split m =
     let b : Bool = lines_of_c.is_directive here.state.line.line in
     let read : HasRead texts (tokens_of before) here.state = known texts 0 (first_state (length lines)) (text_from 0 lines) (point_at 0 0) [] before after here
     (text-is lines) (λ m. cc) split in
-    let last = (read m b).holds [] refl
+    let last = (read m b).holds []
     (λ before is other. directive-is texts before ∙ ap lines_of_c.is_directive is.kind ∙ (grind arith))
     [] (front-open texts (last_body (tokens_of before) ++ [])) [] in
     search rules

@@ -1,7 +1,7 @@
 -- A verbatim text is an item of the open line of C, which may end in a backslash.
 use Rattle.std.proofs.Common.{rules}
 use Rattle.std.proofs.Common.{◌≡◌, ◌≤◌, Bool, true, false, List, [], ◌∷◌, ◌==◌}
-use Rattle.std.proofs.Common.{inl, inr, refl, arith, subst, ◌<◌, ◌⊎◌, ◌++◌, ℕ}
+use Rattle.std.proofs.Common.{inl, inr, refl, arith, ◌<◌, ◌++◌, ℕ}
 use Rattle.std.proofs.lemmas.Bool.Decides.{nat_tests}
 use Rattle.tangle_text.specs.declared.regions.Region.TheVariants as region
 use Rattle.tangle_text.specs.declared.regions.Unit.{Unit as Unit-of}
@@ -23,8 +23,12 @@ use Rattle.tangle_lexer.specs.SpanBytes.{last_byte}
 use Rattle.tangle_lexer.proofs.laws.CutTexts.{verbatim-cut}
 use Rattle.tangle_lexer.proofs.laws.Points.{Point, IsTextAt, text-column}
 use Rattle.tangle_lexer.proofs.laws.RegionUnits.{units-by}
-use Rattle.tangle_lexer.proofs.lines.LineSteps.{Judgement, Steps, steps-append, faults-step, item-step}
-use Rattle.tangle_lexer.proofs.lines.TextSteps.{end_by, last_cell, same-item, IsCutFrom, stop-step, cut-from}
+use Rattle.std.proofs.Common.{◌∙◌}
+use Rattle.tangle_text.specs.Bytes.{is_line_end}
+use Rattle.tangle_faults.specs.declared.faults.FaultKind.TheVariants as fault
+use Rattle.tangle_lexer.proofs.lemmas.PlainTokens.{verbatim_tokens-text}
+use Rattle.tangle_lexer.proofs.lines.LineSteps.{Judgement, Steps}
+use Rattle.tangle_lexer.proofs.lines.TextSteps.{end_by, last_cell, same-item, kind_past, end_past, text-steps, IsCutFrom, stop-past, cut-past}
 
 -- the last unit is a backslash if the last cell is
 units-last : (text : List Cell) (last : Bool)
@@ -39,45 +43,32 @@ goes-some : (text : List Cell) → (unit_at region.Verbatim text ≡ unit.Stop �
 goes-some [] go = absurd (go refl)
 goes-some (c ∷ cs) go = grind (arith, nat_tests, count-is)
 
-module _ (texts : List (List ℕ)) (R : Judgement texts) (l : LineOfC) where
-  verbatim-stop : (at : Point) (start : ℕ) (text : List Cell) → start ≤ at.column → IsTextAt texts at text
-      → IsCutFrom texts R region.Verbatim verbatim-cut l at start (verbatim_end start text) 0 text
+module _ (texts : List (List ℕ)) where
+  verbatim-past : (at : Point) (start : ℕ) (text : List Cell) → start ≤ at.column → IsTextAt texts at text
+      → IsCutFrom texts region.Verbatim at start (verbatim_end start text) 0 text
   unfolding IsCutFrom
-  verbatim-stop at start [] h is = grind (arith, nat_tests)
-  verbatim-stop at start (c ∷ cs) h is = search (rules, stop-step, faults-step)
+  verbatim-past at start [] h is = grind (arith, nat_tests)
+  verbatim-past at start (c ∷ cs) h is =
+      stop-past texts region.Verbatim at start c cs (is_line_end c.byte) fault.VerbatimEnd h is.0
 
-  empty-step : (e : AtLineEnd) (text : List Cell)
-      → Steps texts R l e (token.Span span_kind.Verbatim (span_at 0 text) ∷ []) (with_item false l) Ends
-  empty-step e text =
-      subst (λ b. Steps texts R l e (token.Span span_kind.Verbatim (span_at 0 text) ∷ []) (with_item false l) (end_by b))
-      (none text) (item-step texts R (token.Span span_kind.Verbatim (span_at 0 text)) refl)
+  empty-end : (text : List Cell) → (last_byte texts (span_at 0 text) == backslash) ≡ false
+  empty-end x = grind (arith, nat_tests)
+
+  pub verbatim-steps : (R : Judgement texts) (l : LineOfC) (e : AtLineEnd) (at : Point) (text : List Cell)
+      → IsTextAt texts at text
+      → Steps texts R l e (verbatim_tokens text) (with_item false l) (end_by (verbatim_ends_in_backslash text))
+  unfolding IsCutFrom
+  verbatim-steps R l e at text is =
+      let cut = cut-past texts region.Verbatim verbatim-cut verbatim_end verbatim-past at at.column text (omega arith) is in
+      let ends = rw (← text-column texts at text is) at (by (unit_at region.Verbatim text) refl (cut_tokens verbatim_end region.Verbatim 0 at.column text) cut) in
+      rw (units-last text false) (rw (ends.0, ends.1) at (text-steps texts R (verbatim_tokens text) l e (verbatim_tokens-text text).none))
     where
-      none : (text : List Cell) → (last_byte texts (span_at 0 text) == backslash) ≡ false
-      none x = grind (arith, nat_tests)
-
-  module _ (at : Point) (text : List Cell) (is : IsTextAt texts at text) where
-    -- after tokens of the text the line has an item, and goes on if the text ends in a backslash
-    abbrev End : LineOfC → AtLineEnd → List Token → Type 0
-    End x f ts =
-        Steps texts R x f ts (with_item false l) (end_by (last_cell false (count_before region.Verbatim text) text))
-
-    ranges-end : (x : LineOfC) (f : AtLineEnd) → with_item false x ≡ with_item false l
-        → (0 < count_before region.Verbatim text) ⊎ ((x ≡ with_item false l) × (f ≡ Ends))
-        → End x f (cut_tokens verbatim_end region.Verbatim 0 at.column text)
-    unfolding IsCutFrom
-    ranges-end x f same done =
-        cut-from texts R region.Verbatim verbatim-cut l verbatim_end verbatim-stop at at.column text (omega arith) is
-        x f false same (λ k. absurd (omega arith)) (λ k. done)
-
-    pub verbatim-steps : (e : AtLineEnd)
-        → Steps texts R l e (verbatim_tokens text) (with_item false l) (end_by (verbatim_ends_in_backslash text))
-    verbatim-steps e =
-        rw (units-last text false, text-column texts at text is) (by (unit_at region.Verbatim text) refl)
-      where
-        by : (u : Unit-of) → unit_at region.Verbatim text ≡ u
-            → End l e (at_stop u (token.Span span_kind.Verbatim (span_at 0 text) ∷ []) []
-            ++ cut_tokens verbatim_end region.Verbatim 0 at.column text)
-        by unit.Stop stops =
-            steps-append texts R (token.Span span_kind.Verbatim (span_at 0 text) ∷ []) _ (empty-step e text)
-            (ranges-end (with_item false l) Ends (same-item l) (inr (refl, refl)))
-        by u goes = ranges-end l e refl (inl (goes-some text (λ stops. cc)))
+      by : (u : Unit-of) → unit_at region.Verbatim text ≡ u → (ts : List Token)
+          → IsCutFrom texts region.Verbatim at at.column ts (count_before region.Verbatim text) text
+          → let us : List Token = at_stop u (token.Span span_kind.Verbatim (span_at 0 text) ∷ []) [] ++ ts in
+          (kind_past texts l us ≡ with_item false l)
+          × (end_past texts e us ≡ end_by (last_cell false (count_before region.Verbatim text) text))
+      by unit.Stop stops ts past =
+          let ends = past (with_item false l) Ends false (λ k. absurd (omega arith)) (λ k. inr (same-item l, refl)) in
+          (ends.0 ∙ same-item l, rw (empty-end text) ends.1)
+      by u goes ts past = past l e false (λ k. absurd (omega arith)) (λ k. inl (goes-some text (λ stops. cc)))

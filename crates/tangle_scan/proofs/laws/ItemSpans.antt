@@ -11,15 +11,12 @@ use Rattle.tangle_lexer.specs.declared.tokens.Token.TheVariants as token
 use Rattle.tangle_lines.specs.Reading.{SourceLine}
 use Rattle.tangle_scan.specs.declared.items.Item.{Item}
 use Rattle.tangle_scan.specs.declared.items.Item.TheVariants as item
-use Rattle.tangle_scan.specs.Rules.{texts_of, at_line_front}
-use Rattle.tangle_scan.specs.Rules.{is_continued, part_items}
-use Rattle.tangle_scan.specs.LineTruth.{counted_after_line_end}
-use Rattle.tangle_scan.specs.Passes.{counted_after_token, items_at, items_by_origin, is_whole}
-use Rattle.tangle_scan.specs.Passes.{turn_after, turn_after_line_end}
+use Rattle.tangle_scan.specs.Rules.{part_items}
+use Rattle.tangle_scan.specs.Passes.{items_at, items_by_origin}
 use Rattle.tangle_scan.specs.declared.turns.Turn.{Turn}
 use Rattle.tangle_scan.specs.ItemSpans.{item_span, item_spans}
 use Rattle.tangle_scan.specs.Texts.{item_uses}
-use Rattle.tangle_scan.proofs.lemmas.ItemsByOrigin.{by-line_item, part_items-by_origin}
+use Rattle.tangle_scan.proofs.lemmas.ItemsByOrigin.{part_items-by_origin}
 use Rattle.tangle_scan.proofs.lemmas.KeptTokens.{keep, kept, part-kept}
 
 -- `f` gives for the items of a token what `g` gives for the token, and nothing for white space, line ends and marks
@@ -45,17 +42,10 @@ module _ {X : Type 0} (f : Item → List X) (g : Token → List X) (gives : Give
   by_origin-gives lines before at counted (token.White ∷ es) =
       cc (by_origin-gives lines before at counted es, gives.gap token.White refl, gives.blank)
   by_origin-gives lines before at counted (token.LineEnd line ∷ es) =
-      let continued = is_continued (texts_of lines) before in
-      let after = counted_after_line_end lines continued counted line in
-      let turns = turn_after_line_end lines continued line at in
-      let rest = by_origin-gives lines (at_line_front (texts_of lines) before line) turns after es in
-      let none = by-line_item (λ x. f x ≡ []) lines continued (is_whole at) counted line gives.end gives.mark in
-      cc (rest, none, gives.gap (token.LineEnd line) refl)
+      let rest = λ (b : Option Token) (t : Turn) (p : Origin). by_origin-gives lines b t p es in
+      grind (arith, nat_tests, rest, gives.end, gives.mark, gives.gap (token.LineEnd line) refl)
   by_origin-gives lines before at counted (e ∷ es) =
-      let turns = turn_after (texts_of lines) at e in
-      let after = counted_after_token lines counted e in
-      let made = items_by_origin lines (Some e) turns after es in
-      cc (gives.each lines e made, by_origin-gives lines (Some e) turns after es)
+      grind (arith, nat_tests, gives.each lines e, λ (t : Turn) (p : Origin). by_origin-gives lines (Some e) t p es)
 
   -- the items of a C part give what its tokens give
   pub part-gives : (lines : List SourceLine) (line : ℕ) (es : List Token)

@@ -28,7 +28,6 @@ use Rattle.tangle_lexer.specs.declared.tokens.SpanKind.TheVariants as span_kind
 use Rattle.tangle_scan.specs.declared.items.Item.TheVariants as item
 use Rattle.tangle_scan.specs.declared.turns.Turn.{Turn}
 use Rattle.tangle_scan.specs.declared.turns.Turn.TheVariants as turn
-use Rattle.tangle_scan.specs.Rules.{is_front_gap}
 use Rattle.tangle_scan.specs.Directives.{ForEachChoice, border_after, goes_on, is_blank}
 use Rattle.tangle_scan.specs.Directives.{is_turn, item_ends_in}
 use Rattle.tangle_scan.proofs.lemmas.RuleLemmas.{blanks-item}
@@ -48,8 +47,7 @@ AreClean texts line (t ∷ ts) = IsClean texts line t × AreClean texts (line_pa
 without_faults-by_line : (texts : List (List ℕ)) (es : List Token) (line : ℕ)
     → AreByLine texts line es → AreClean texts line (without_faults es)
 without_faults-by_line texts [] line h = h
-without_faults-by_line texts (token.Fault kind at ∷ es) line h = without_faults-by_line texts es line h.1
-without_faults-by_line texts (e ∷ es) line h = (h.0, without_faults-by_line texts es (line_past line e) h.1)
+without_faults-by_line texts (e ∷ es) line h = search (rules, without_faults-by_line texts es)
 
 with_spaces-by_line : (texts : List (List ℕ)) (es : List Token) (line : ℕ)
     → AreClean texts line es → AreClean texts line (with_spaces texts es)
@@ -73,8 +71,7 @@ inner-spaced texts (e ∷ f ∷ es) = grind (arith, inner-spaces (would_merge te
 
 inner-join : (run : List Token) → has_join (map white_inner_end run) ≡ has_join run
 inner-join [] = refl
-inner-join (token.Join ∷ run) = refl
-inner-join (_ ∷ run) = inner-join run
+inner-join (e ∷ run) = search (rules, inner-join run)
 
 -- all tokens of a run are joins, white space and line ends
 abbrev AreGaps : List Token → Type 0
@@ -135,9 +132,6 @@ module _ (lines : List SourceLine) where
   after-is : (counted : Origin) (n number : ℕ) → n ≡ number → number + 1 < length lines
       → (if is_expected lines counted n then next_line counted else origin_at lines (n + 1)) ≡ origin_at lines (number + 1)
   after-is counted n number same real = grind (arith, nat_tests, expected-is)
-
-  solid-item : (e : Token) → is_gap e ≡ false → is_front_gap e ≡ false
-  solid-item e gap = grind arith
 
   -- what is true from here on
   module _ (before : Option Token) (at : Turn) (counted : Origin) (stretch : Bool) (number : ℕ) (read : Bool)
@@ -221,25 +215,23 @@ module _ (lines : List SourceLine) where
   first-true : (e : Token) (es fs gs : List Token) → is_gap e ≡ false → AreTrue es fs gs
       → AreTrue (e ∷ es) (e ∷ fs) (e ∷ gs)
   first-true e es fs gs gap next before at white counted stretch number read origin line h ordered =
-      let here = λ (more : List Item) (known : Inv before at counted stretch number read origin more).
-      item-true before at counted stretch number read origin more known e es fs gs gap next ordered in
+      let here = item-true before at counted stretch number read origin in
       let after = here (line ++ item.Blank ∷ []) (blank-known before at counted stretch number read origin line h) in
-      grind (arith, nat_tests, blanks-item texts before white e fs (solid-item e gap), here line h, after)
+      grind (arith, nat_tests, blanks-item, here line h e es fs gs gap next, after e es fs gs gap next)
 
   -- a run that rule 2 does not remove, before other tokens
   kept-true : (run es fs gs : List Token)
       → AreGaps run → has_join run ≡ false → AreTrue es fs gs
       → AreTrue (run ++ es) (map white_inner_end run ++ fs) (run ++ gs)
   kept-true [] es fs gs gaps none next before at white counted stretch number read origin line h ordered = grind arith
-  kept-true (token.White ∷ run) es fs gs gaps none next before at white counted stretch number read origin line h ordered =
-      kept-true run es fs gs gaps none next before at true counted stretch number read origin line h ordered.1
   kept-true (token.InnerLineEnd n ∷ run) es fs gs gaps none next before at white counted stretch number read origin line h ordered =
       kept-true run es fs gs gaps none next before at true counted true (number + 1) read origin line (search rules) ordered.1
   kept-true (token.LineEnd n ∷ run) es fs gs gaps none next before at white counted stretch number read origin line h ordered =
       end-true before at counted stretch number read origin line h n _ _ ordered.0
       (λ now from more known. kept-true run es fs gs gaps none next (at_line_front texts before n) _ false _ _ (number + 1)
       now from more known ordered.1)
-  kept-true (_ ∷ run) es fs gs gaps none next before at white counted stretch number read origin line h ordered = absurd cc
+  kept-true (x ∷ run) es fs gs gaps none next before at white counted stretch number read origin line h ordered =
+      search (rules, kept-true run es fs gs)
 
   -- what rule 2 leaves of a run, before other tokens
   run-true : (run es fs gs : List Token)
@@ -269,12 +261,12 @@ module _ (lines : List SourceLine) where
       (map_runs left_or_join run es)
 
   run-pushed : (run : List Token) (e : Token) (es : List Token) → AreGaps run → is_gap e ≡ true
-      → (AreGaps (run ++ e ∷ []) → RunsAreTrue (run ++ e ∷ []) es)
+      → ((r : List Token) → AreGaps r → RunsAreTrue r es)
       → AreTrue (run ++ e ∷ es)
       (map_runs left_of_run (map white_inner_end run ++ white_inner_end e ∷ []) (map white_inner_end es))
       (map_runs left_or_join (run ++ e ∷ []) es)
   run-pushed run e es gaps gap next =
-      let h = next (rw (list_all-append is_gap run (e ∷ []), gaps, gap) refl) in
+      let h = next (run ++ e ∷ []) (rw (list_all-append is_gap run (e ∷ []), gaps, gap) refl) in
       grind (arith, nat_tests, append_assoc run (e ∷ []) es, map-append white_inner_end run (e ∷ []))
 
   at-end : AreTrue [] [] []
@@ -284,14 +276,12 @@ module _ (lines : List SourceLine) where
   map_runs-true run [] gaps = λ before at white counted stretch number read origin line h ordered.
       rw (← append-nil (left_of_run (map white_inner_end run)), ← append-nil (left_or_join run))
       (run-true run [] [] [] gaps at-end before at white counted stretch number read origin line h ordered)
-  map_runs-true run (token.Join ∷ es) gaps =
-      run-pushed run token.Join es gaps refl (map_runs-true (run ++ token.Join ∷ []) es)
-  map_runs-true run (token.White ∷ es) gaps =
-      run-pushed run token.White es gaps refl (map_runs-true (run ++ token.White ∷ []) es)
+  map_runs-true run (token.Join ∷ es) gaps = run-pushed run token.Join es gaps refl (λ r. map_runs-true r es)
+  map_runs-true run (token.White ∷ es) gaps = run-pushed run token.White es gaps refl (λ r. map_runs-true r es)
   map_runs-true run (token.LineEnd n ∷ es) gaps =
-      run-pushed run (token.LineEnd n) es gaps refl (map_runs-true (run ++ token.LineEnd n ∷ []) es)
+      run-pushed run (token.LineEnd n) es gaps refl (λ r. map_runs-true r es)
   map_runs-true run (token.InnerLineEnd n ∷ es) gaps =
-      run-pushed run (token.InnerLineEnd n) es gaps refl (map_runs-true (run ++ token.InnerLineEnd n ∷ []) es)
+      run-pushed run (token.InnerLineEnd n) es gaps refl (λ r. map_runs-true r es)
   map_runs-true run (e ∷ es) gaps =
       let left = map_runs left_of_run [] (map white_inner_end es) in
       let right : List Token = map_runs left_or_join [] es in

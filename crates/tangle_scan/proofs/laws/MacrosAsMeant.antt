@@ -4,7 +4,7 @@ use Rattle.std.proofs.Common.{rules}
 use Rattle.std.proofs.lemmas.Bool.Decides.{nat_tests}
 use Rattle.std.proofs.Common.{arith}
 use Rattle.std.proofs.Common.{◌≡◌, ℕ, Bool, true, false, ◌&&◌, not, List, [], ◌∷◌, ◌++◌, flat_map}
-use Rattle.std.proofs.Common.{append_assoc, Option, Some, None, is_some, inl, inr, ◌⊎◌, refl, subst}
+use Rattle.std.proofs.Common.{append_assoc, append-nil, Option, Some, None, is_some, inl, inr, ◌⊎◌, refl, subst}
 use Rattle.tangle_files.specs.Bytes.{space, line_feed}
 use Rattle.tangle_lexer.specs.declared.tokens.Token.{Token}
 use Rattle.tangle_lexer.specs.declared.tokens.Token.TheVariants as token
@@ -99,28 +99,20 @@ module _ (texts : List (List ℕ)) where
   reads-more_line_ends line es next in_name white meant before gap are is ends =
       subst (AreRead in_name (meant ++ space ∷ []) before es)
       (search (rules, bytes-append, append_assoc))
-      (next in_name false (meant ++ space ∷ []) before (gap ++ TakenOut ∷ []) (more-spaces meant true are) (rw all is)
+      (next in_name false (meant ++ space ∷ []) before (gap ++ TakenOut ∷ []) (more-spaces meant true are)
+      (grind (arith, read-append, append-nil))
       (ends-before texts (token.LineEnd line) es (Some token.White) refl ends))
-    where
-      all : as_read (is_continued texts before) (gap ++ TakenOut ∷ []) ≡ as_read (is_continued texts before) gap
-      all = search (rules, read-append)
 
   reads : (es : List Token) → Reads es
   reads [] = grind (arith, nat_tests)
   reads (token.White ∷ es) =
       let next = reads es in
       record {
-        on_line = λ in_name white meant before are ends.
-            grind (arith, nat_tests, more-spaces meant white are, ends-before);
-        after_line_ends = λ in_name white meant before gap are is ends.
-            next.after_line_ends in_name true (meant ++ space ∷ []) before gap (more-spaces meant true are) is ends;
+        on_line = λ in_name white meant before are ends. grind (arith, nat_tests, more-spaces meant white are, ends-before);
+        after_line_ends = search (rules, more-spaces, next.after_line_ends);
       }
-  reads (token.LineEnd line ∷ es) =
-      let next = reads es in
-      search (rules, reads-line_end, reads-more_line_ends)
-  reads (e ∷ es) =
-      let next = reads es in
-      search (rules, reads-on_line, reads-after_line_ends)
+  reads (token.LineEnd line ∷ es) = search (rules, reads-line_end, reads-more_line_ends, reads es)
+  reads (e ∷ es) = search (rules, reads-on_line, reads-after_line_ends, reads es)
 
   -- the items of a whole macro are read as meant
   pub macro-as-meant : (es : List Token)

@@ -84,8 +84,8 @@ columns-from_on line column (suc n) qs h = grind (arith, columns-from_on line (c
 points-from_on : (texts : List (List ℕ)) (a : Point) (ss : List Span) → AreFrom texts a ss → AreFromOn a (points_of ss)
 points-from_on texts a [] h = (All-nil (IsFromOn a), λ i j d k l. absurd (omega arith))
 points-from_on texts a (s ∷ ss) h =
-    let rest = points-from_on texts (point_at s.line s.end) ss h.1 in
     let sum : s.start + (s.end - s.start) ≡ s.end = omega (arith, h.0.1.start) in
+    let rest = points-from_on texts (point_at s.line s.end) ss h.1 in
     let all = columns-from_on s.line s.start (s.end - s.start) (points_of ss) (rw sum rest) in
     grind (arith, all)
 

@@ -19,7 +19,6 @@ use Rattle.tangle_scan.specs.declared.items.Item.{Item}
 use Rattle.tangle_scan.specs.Rules.{is_open, texts_of, is_continued, ends_line}
 use Rattle.tangle_lexer.specs.SpanBytes.{ends_in_backslash}
 use Rattle.tangle_scan.specs.Rules.{is_front_gap, blanks, next_line, part_tokens, part_items}
-use Rattle.tangle_scan.specs.LineTruth.{counted_after_line_end}
 use Rattle.tangle_scan.specs.Passes.{turn_after, turn_after_line_end, is_unmarked, is_whole}
 use Rattle.tangle_scan.specs.declared.turns.Turn.{Turn}
 use Rattle.tangle_scan.specs.declared.turns.Turn.TheVariants as turn
@@ -153,15 +152,12 @@ module _ (lines : List SourceLine) (used : ℕ → List ℕ) (mark : Origin → 
           (next (meant ++ line_feed ∷ []) false last None after_end counted (gap ++ end ∷ [])
           (search (rules, read-append, some-append, spaces-append)) refl)
 
-      counted_after : Origin
-      counted_after = counted_after_line_end lines false counted line
-
       by : (b : Bool) → is_unmarked lines (is_whole turns) counted line ≡ b → AreRead (meant ++ line_feed ∷ []) last
           (read_tokens texts false es) (gap_bytes mark gap ++ text_from before white turns counted (token.LineEnd line ∷ es))
-      by true at = rw (ends, at) (after LineFeed counted_after refl)
+      by true at = rw (ends, at) (after LineFeed _ refl)
       by false at =
           let origin = origin_at lines (line + 1) in
-          rw (ends, at, sym (append-nil (mark origin))) (after (Mark origin) counted_after refl)
+          rw (ends, at, sym (append-nil (mark origin))) (after (Mark origin) _ refl)
 
   continued-line_end : (line : ℕ) (es : List Token) → ReadsPlain es → ReadsContinued (token.LineEnd line ∷ es)
   continued-line_end line es next meant white last before at counted front gap bytes is continued ends =
@@ -173,27 +169,18 @@ module _ (lines : List SourceLine) (used : ℕ → List ℕ) (mark : Origin → 
       rw (read-item false e es item, text-item before white at counted e es item)
       (by (ends_in_backslash texts e && ends_line es) refl (is_backslash texts e) refl)
     where
-      counted_after : Origin
-      counted_after = counted_after_token lines counted e
-
-      turns : Turn
-      turns = turn_after texts at e
-
       blank : Bool
       blank = is_some before && white
 
       rest : List ℕ
-      rest = text_from (Some e) false turns counted_after es
+      rest = text_from (Some e) false (turn_after texts at e) (counted_after_token lines counted e) es
 
       -- the case in which the compiler reads the item
       kept : (fs : List Token) → AreRead [] (Some e) fs rest →
           AreRead meant last (e ∷ fs) (gap_bytes mark gap ++ (blank_bytes blank ++ (bytes_of e ++ rest)))
       kept fs more =
-          let start = gap ++ blank_before blank [] in
-          let same : gap_bytes mark gap ++ (blank_bytes blank ++ (bytes_of e ++ rest)) ≡ gap_bytes mark start ++ (bytes_of e ++ rest) =
-          search (rules, bytes-append, append_assoc) in
           let here = blanked meant white last before gap [] is (λ after. refl) e in
-          grind arith
+          search (rules, here, bytes-append, append_assoc)
 
       -- the case in which the item is a backslash at the end of a continued line
       taken_out : ends_in_backslash texts e ≡ true → ends_line es ≡ true → bytes_of e ≡ backslash ∷ [] →
@@ -202,15 +189,11 @@ module _ (lines : List SourceLine) (used : ℕ → List ℕ) (mark : Origin → 
           rw bytes
           (subst (AreRead meant last (read_tokens texts true es))
           (search (rules, append_assoc))
-          (next.continued meant false last (Some e) turns counted_after (gap_bytes mark gap ++ (blank_bytes blank ++ backslash ∷ []))
-          (gap ++ blank_before blank (TakenOut ∷ []))
+          (next.continued meant false last (Some e) (turn_after texts at e) (counted_after_token lines counted e)
+          (gap_bytes mark gap ++ (blank_bytes blank ++ backslash ∷ [])) (gap ++ blank_before blank (TakenOut ∷ []))
           (search (rules, bytes-append, append_assoc))
-          joined is_last line_ends))
-        where
-          joined : (line : ℕ) → IsGap meant false last (Some (token.LineEnd line)) (gap ++ blank_before blank (TakenOut ∷ []))
-          joined line =
-              let here = blanked meant white last before gap (TakenOut ∷ []) is (λ after. refl) in
-              search (rules, here, here e, some-append, and-false)
+          (λ line. let here = blanked meant white last before gap (TakenOut ∷ []) is (λ after. refl) in
+          search (rules, here, here e, some-append, and-false)) is_last line_ends))
 
       by : (continues : Bool) → (ends_in_backslash texts e && ends_line es) ≡ continues → (is_sign : Bool)
           → is_backslash texts e ≡ is_sign
@@ -222,24 +205,19 @@ module _ (lines : List SourceLine) (used : ℕ → List ℕ) (mark : Origin → 
       by true both false other =
           let ends = and_parts _ _ both in
           kept (read_tokens texts true es)
-          (next.continued [] false (Some e) (Some e) turns counted_after [] (LineFeed ∷ []) refl (λ line. search rules)
+          (next.continued [] false (Some e) (Some e) _ _ [] (LineFeed ∷ []) refl (λ line. search rules)
           ends.0 ends.1)
       by false both is_sign sign =
           kept (read_tokens texts false es)
-          (next.plain [] false (Some e) (Some e) turns counted_after [] (no-gap (Some e)) both)
+          (next.plain [] false (Some e) (Some e) _ _ [] (no-gap (Some e)) both)
 
   reads : (es : List Token) → Reads es
   reads [] =
       record { plain = plain-end; continued = λ meant white last before at counted front gap bytes is continued ends. absurd cc }
   reads (token.White ∷ es) =
       let next = reads es in
-      record {
-        plain = search (rules, spaces-append);
-        continued = λ meant white last before at counted. next.continued meant true last before at counted;
-      }
-  reads (token.LineEnd line ∷ es) =
-      let next = reads es in
-      record { plain = plain-line_end line es next.plain; continued = continued-line_end line es next.plain }
+      record { plain = search (rules, spaces-append); continued = λ meant white. next.continued meant true }
+  reads (token.LineEnd line ∷ es) = search (rules, plain-line_end, continued-line_end, reads es)
   reads (e ∷ es) = grind (arith, nat_tests, plain-item e es refl (reads es))
 
   -- the items of a whole piece are read as meant

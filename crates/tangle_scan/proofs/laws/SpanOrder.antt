@@ -1,10 +1,9 @@
 -- The spans of the pieces and those of the macros are in the order of the source. `texts` are the bytes of the source
 -- lines.
 use Rattle.std.proofs.Common.{rules}
-use Rattle.std.proofs.lemmas.Bool.{cond_both}
 use Rattle.std.proofs.lemmas.Bool.Decides.{nat_tests}
-use Rattle.std.proofs.Common.{◌≡◌, ℕ, true, false, List, [], ◌∷◌, ◌++◌, flat_map, refl, sym, ◌∙◌}
-use Rattle.std.proofs.Common.{arith, subst, append-nil, None}
+use Rattle.std.proofs.Common.{◌≡◌, ℕ, true, false, List, [], ◌∷◌, ◌++◌, flat_map, refl}
+use Rattle.std.proofs.Common.{arith, append-nil, None}
 use Rattle.std.proofs.Common.{◌+◌}
 use Rattle.std.proofs.lemmas.Grind.{flat_map-append}
 use Rattle.std.specs.List.{All}
@@ -19,9 +18,9 @@ use Rattle.tangle_lexer.specs.LinesOfParts.{body}
 use Rattle.tangle_lexer.specs.Steps.{tokens_from, all_tokens}
 use Rattle.tangle_lexer.proofs.laws.Points.{Point, point_at, text-is}
 use Rattle.tangle_lexer.proofs.laws.TokenOrder.{line_after, AreFromLine}
-use Rattle.tangle_scan.specs.Rules.{is_line_backslash, without_backslashes, macro_tokens, macro_blanks, unmarked_items}
+use Rattle.tangle_scan.specs.Rules.{without_backslashes, macro_tokens, macro_blanks, unmarked_items}
 use Rattle.tangle_scan.specs.Rules.{macro_items}
-use Rattle.tangle_scan.specs.Web.{Block, BlockKind, blocks, piece_of, macro_of}
+use Rattle.tangle_scan.specs.Web.{Block, blocks, piece_of, macro_of}
 use Rattle.tangle_scan.specs.ItemSpans.{item_spans}
 use Rattle.tangle_scan.specs.KeptBytes.{EndsBefore, AreInOrder}
 use Rattle.tangle_scan.proofs.lemmas.KeptTokens.{macro_blanks-kept, macro-kept}
@@ -38,8 +37,7 @@ module _ (texts : List (List ℕ)) where
   spans-from : (line : ℕ) (p : Point) (ts : List Token)
       → AreFromLine texts line ts → Lead (λ q. Unit {0}) p ts → AreFrom p (token_spans ts)
   spans-from line p [] o h = tt
-  spans-from line p (token.Span kind s ∷ ts) o h = ((h.0, o.0.1), spans-from line (point_at s.line s.end) ts o.1 h.1)
-  spans-from line p (t ∷ ts) o h = spans-from (line_after line t) p ts o.1 h
+  spans-from line p (x ∷ ts) o h = grind (arith, λ (q : Point). spans-from (line_after line x) q ts o.1)
 
   earlier : (p q : Point) (ss : List Span) → Precedes p q → AreFrom q ss → AreFrom p ss
   earlier p q [] le h = tt
@@ -52,12 +50,8 @@ module _ (texts : List (List ℕ)) where
   pub in-order : (p : Point) (ss : List Span) → AreFrom p ss → AreInOrder texts ss
   in-order p [] h = record { ranges = All-nil (IsSpan texts); order = λ i j d k l. absurd (omega arith) }
   in-order p (s ∷ ss) h =
-      let end = point_at s.line s.end in
-      let rest = in-order end ss h.1 in
-      record {
-        ranges = All-cons (IsSpan texts) s ss h.0.1 rest.ranges;
-        order = AllPairs-cons EndsBefore s ss (later s end ss (omega arith, λ e. omega arith) h.1) rest.order;
-      }
+      let rest = in-order (point_at s.line s.end) ss h.1 in
+      search (rules, All-cons, AllPairs-cons, later)
 
   -- the first spans are some of the second: in place of these they are in order too, whatever follows
   abbrev AreSome : List Span → List Span → Type 0
@@ -69,41 +63,28 @@ module _ (texts : List (List ℕ)) where
 
   backslashes-some : (es : List Token) → AreSome (token_spans (without_backslashes texts es)) (token_spans es)
   backslashes-some [] p rest h = h
-  backslashes-some (token.Span kind s ∷ es) p rest h =
-      let left = backslashes-some es (point_at s.line s.end) rest h.1 in
-      cond_both (is_line_backslash texts (token.Span kind s) es) [] (token.Span kind s ∷ [])
-      (λ ts. AreFrom p (token_spans (ts ++ without_backslashes texts es) ++ rest))
-      (λ _. earlier p (point_at s.line s.end) _ (grind arith) left) (λ _. (h.0, left))
-  backslashes-some (e ∷ es) p rest h = backslashes-some es p rest h
+  backslashes-some (x ∷ es) p rest h = grind (arith, nat_tests, earlier, λ (q : Point). backslashes-some es q rest)
 
   unmarked-spans : (es : List Token) → item_spans (unmarked_items es) ≡ token_spans es
   unmarked-spans [] = refl
-  unmarked-spans (token.Span kind s ∷ es) = grind (arith, unmarked-spans es)
-  unmarked-spans (e ∷ es) = unmarked-spans es
+  unmarked-spans (x ∷ es) = grind (arith, unmarked-spans es)
 
   macro-some : (es : List Token) → AreSome (item_spans (macro_items texts es)) (token_spans es)
   macro-some es =
       let ts = macro_tokens texts es in
       let fs = without_backslashes texts ts in
-      let all = alike-spans ts es (macro-kept texts es) in
       let bs = macro_blanks texts true None false fs in
-      let blanked = unmarked-spans bs ∙ alike-spans bs fs (macro_blanks-kept texts true None false fs) in
-      subst (λ ss. AreSome ss (token_spans es)) (sym blanked)
-      (subst (AreSome (token_spans fs)) all (backslashes-some ts))
+      let same = alike-spans bs fs (macro_blanks-kept texts true None false fs) in
+      rw (unmarked-spans bs, same, ← alike-spans ts es (macro-kept texts es)) (backslashes-some ts)
 
   -- `f` takes some spans of each block
   module _ (f : Block → List Span) (picks : (b : Block) → AreSome (f b) (token_spans b.tokens)) where
-    begun : (n : ℕ) (kind : BlockKind) (es : List Token) (p : Point)
-        → AreFrom p (token_spans (body es) ++ flat_map f (blocks n es))
-        → AreFrom p (f (record { section = n; kind = kind; tokens = body es }) ++ flat_map f (blocks n es))
-    begun n kind es p h = picks (record { section = n; kind = kind; tokens = body es }) p (flat_map f (blocks n es)) h
-
     -- the spans of the tokens up to the first head, and those of the blocks after it
     blocks-from : (n : ℕ) (es : List Token) (p : Point)
         → AreFrom p (token_spans es) → AreFrom p (token_spans (body es) ++ flat_map f (blocks n es))
     blocks-from n [] p h = tt
     blocks-from n (token.Section ∷ es) p h = some-none (token_spans (body es)) p _ (blocks-from (n + 1) es p h)
-    blocks-from n (e ∷ es) p h = search (rules, begun, blocks-from n es)
+    blocks-from n (e ∷ es) p h = search (rules, picks, blocks-from n es)
 
 pub flat_map-twice : {A B C : Type 0} (f : B → List C) (g : A → List B) (xs : List A)
     → flat_map f (flat_map g xs) ≡ flat_map (λ x. flat_map f (g x)) xs

@@ -3,7 +3,7 @@ use Rattle.std.proofs.Common.{rules}
 use Rattle.std.proofs.lemmas.Bool.Decides.{nat_tests}
 use Rattle.std.proofs.Common.{◌≡◌, ℕ, zero, suc, ◌+◌, ◌≤◌, ◌<◌, Bool, true, false, List, [], ◌∷◌, ◌++◌, drop}
 use Rattle.std.proofs.Common.{flat_map, map, refl, sym, ◌∙◌, arith, subst}
-use Rattle.std.proofs.Common.{Option, Some, None}
+use Rattle.std.proofs.Common.{Option}
 use Rattle.std.proofs.lemmas.List.{drop-drop}
 use Rattle.tangle_faults.specs.declared.faults.FaultKind.{FaultKind}
 use Rattle.tangle_lexer.specs.declared.tokens.Token.{Token}
@@ -20,12 +20,12 @@ use Rattle.tangle_text.specs.Bytes.{holds}
 use Rattle.tangle_text.specs.Text.{Cell, byte_at, span_at}
 use Rattle.tangle_text.specs.Regions.{unit_at, count_before}
 use Rattle.tangle_text.specs.Words.{word_more}
-use Rattle.tangle_lexer.specs.Lexemes.{Lexeme, fault_if, is_c_part}
+use Rattle.tangle_lexer.specs.Lexemes.{Lexeme, fault_if}
 use Rattle.tangle_lexer.specs.LinesOfC.{inner_end_in}
 use Rattle.tangle_lexer.specs.Comments.{line_ends, has_end_code, two_if}
 use Rattle.tangle_lexer.specs.Quoted.{at_stop, cut_range, cut_tokens, quote_end, one_if, quoted_text}
 use Rattle.tangle_lexer.specs.Quoted.{verbatim_end, verbatim_tokens, verbatim_text}
-use Rattle.tangle_lexer.specs.Names.{definition_count, definition_or_mention, name_in_documentation}
+use Rattle.tangle_lexer.specs.Names.{definition_or_mention}
 use Rattle.tangle_lexer.specs.Steps.{c_lexeme, lexeme, lexemes}
 use Rattle.tangle_lexer.specs.declared.tokens.SpanKind.TheVariants as span_kind
 use Rattle.tangle_lexer.proofs.lemmas.PlainTokens.{HasNone, none-append, none-flat}
@@ -48,8 +48,7 @@ Lead P p (_ ∷ ts) = Lead P p ts
 lead-append : (P Q : Point → Type 0) (us : List Token) → ((q : Point) → P q → Lead Q q us)
     → (p : Point) (ts : List Token) → Lead P p ts → Lead Q p (ts ++ us)
 lead-append P Q us next p [] h = next p h
-lead-append P Q us next p (token.Span kind s ∷ ts) h = (h.0, lead-append P Q us next (point_at s.line s.end) ts h.1)
-lead-append P Q us next p (_ ∷ ts) h = lead-append P Q us next p ts h
+lead-append P Q us next p (x ∷ ts) h = search (rules, λ (q : Point). lead-append P Q us next q ts)
 
 -- tokens without spans
 
@@ -59,8 +58,7 @@ is_span _ = false
 
 lead-none : (P : Point → Type 0) (p : Point) (ts : List Token) → HasNone is_span ts → P p → Lead P p ts
 lead-none P p [] none h = h
-lead-none P p (token.Span kind s ∷ ts) none h = cc
-lead-none P p (_ ∷ ts) none h = lead-none P p ts none h
+lead-none P p (x ∷ ts) none h = search (rules, lead-none P p ts)
 
 fault-none : (b : Bool) (kind : FaultKind) (line : ℕ) → HasNone is_span (fault_if b kind line)
 fault-none b kind line = grind arith
@@ -76,8 +74,7 @@ white-none r text inner b kind line = search (rules, none-append, inner-none, no
 
 -- a name that is defined or mentioned
 mention-none : (o : Option ℕ) (s : LexerState) (text : List Cell) → HasNone is_span (definition_or_mention o s text).tokens
-mention-none None s text = search (rules, none-append, fault-none)
-mention-none (Some k) s text = refl
+mention-none x s text = search (rules, none-append, fault-none)
 
 -- a point is not after the first cell of a text, if there is one
 abbrev pub Reaches : List Cell → Point → Type 0
@@ -108,7 +105,7 @@ module _ (texts : List (List ℕ)) where
 
   -- the span of the first `n` bytes of a lexeme that is bytes
   span-leads : (kind : SpanKind) (at : Point) (n more : ℕ) (c : Cell) (cs : List Cell) → IsTextAt texts at (c ∷ cs)
-      → n ≤ suc more → HoldsBytes (suc more) (c ∷ cs) → (p : Point) → Reaches (c ∷ cs) p
+      → n ≤ 1 + more → HoldsBytes (1 + more) (c ∷ cs) → (p : Point) → Reaches (c ∷ cs) p
       → Lead (Reaches (drop more cs)) p (token.Span kind (span_at n (c ∷ cs)) ∷ [])
   span-leads kind at n more c cs is le bytes p h = search (rules, text-reaches, text-after)
 
@@ -121,14 +118,6 @@ module _ (texts : List (List ℕ)) where
       → start ≤ end → LeadFrom line end P ts → LeadFrom line start P (cut_range r line start end ++ ts)
   range-leads r line start end P ts le next p h = grind (arith, nat_tests, next p, next (point_at line end))
 
-  range-alone : (r : Region) (line start end : ℕ) (P : Point → Type 0) → start ≤ end
-      → ((q : Point) → Precedes q (point_at line end) → P q) → LeadFrom line start P (cut_range r line start end)
-  range-alone r line start end P le next p h = grind (arith, nat_tests, next p, next (point_at line end))
-
-  fault-leads : (b : Bool) (kind : FaultKind) (line : ℕ) (P : Point → Type 0) (p : Point) (ts : List Token)
-      → Lead P p ts → Lead P p (fault_if b kind line ++ ts)
-  fault-leads b kind line P p ts h = grind arith
-
   -- a text that is cut; `ends` gives the tokens of its end, and `final` says what is true after them
   cut-leads : (r : Region) → IsCut r → (ends : ℕ → List Cell → List Token) (final : List Cell → Point → Type 0)
       → ((at : Point) (start : ℕ) (text : List Cell) → start ≤ at.column → IsTextAt texts at text
@@ -137,7 +126,7 @@ module _ (texts : List (List ℕ)) where
       → LeadFrom at.line start (final (drop (count_before r text) text)) (cut_tokens ends r 0 start text)
   cut-leads r cut ends final stop =
       cut-by texts r cut ends Leads stop
-      (search (rules, fault-leads))
+      (grind (arith, nat_tests))
       (grind (arith, nat_tests, range-leads))
       (λ at start c d cs ts n h is cell byte second other same next p k. next p (rw (cell.line, is.line) k))
       (grind (arith, nat_tests, range-leads))
@@ -153,9 +142,8 @@ module _ (texts : List (List ℕ)) where
   quote_end-leads : (r : Region) (close last : ℕ) (at : Point) (start : ℕ) (text : List Cell)
       → start ≤ at.column → IsTextAt texts at text
       → LeadFrom at.line start (quote-final close text) (quote_end r close last start text)
-  quote_end-leads r close last at start [] h is p k = tt
-  quote_end-leads r close last at start (c ∷ cs) h is p k =
-      grind (arith, nat_tests, range-alone, text-reaches, text-next, range-leads)
+  quote_end-leads r close last at start x h is p k =
+      grind (arith, nat_tests, text-reaches, text-next, range-leads)
 
   quoted-leads : (r : Region) → IsCut r → (close : ℕ) (s : LexerState) (at : Point) (c : Cell) (cs : List Cell)
       → IsTextAt texts at (c ∷ cs) → IsByte c.byte → Law c cs (quoted_text r close s (c ∷ cs))
@@ -175,9 +163,8 @@ module _ (texts : List (List ℕ)) where
   verbatim_end-leads : (at : Point) (start : ℕ) (text : List Cell)
       → start ≤ at.column → IsTextAt texts at text
       → LeadFrom at.line start (verbatim-final text) (verbatim_end start text)
-  verbatim_end-leads at start [] h is p k = tt
-  verbatim_end-leads at start (c ∷ cs) h is p k =
-      grind (arith, nat_tests, range-leads, lead-none, fault-none, text-later (two_if (has_end_code (c ∷ cs))) at)
+  verbatim_end-leads at start x h is p k =
+      grind (arith, nat_tests, range-leads, lead-none, fault-none, text-later (two_if (has_end_code x)) at)
 
   verbatim_tokens-lead : (at : Point) (text : List Cell) → 0 < at.column → IsTextAt texts at text
       → LeadFrom at.line at.column (verbatim-final (drop (count_before region.Verbatim text) text)) (verbatim_tokens text)
@@ -211,9 +198,7 @@ module _ (texts : List (List ℕ)) where
       verbatim-leads s at c cs is (code-bytes code.Verbatim (c ∷ cs) (λ e. cc) o)
   kind-leads lexeme_kind.Word s at c cs plain o is =
       let n : ℕ = word_more (c ∷ cs) in
-      let e : 1 + n ≡ suc n = omega arith in
-      span-leads span_kind.Word at (1 + n) n c cs is (omega arith)
-      (subst (λ i. HoldsBytes i (c ∷ cs)) e (word-bytes c cs (some-byte c.byte o.0)))
+      span-leads span_kind.Word at (1 + n) n c cs is (omega arith) (word-bytes c cs (some-byte c.byte o.0))
   kind-leads kind s at c cs plain o is = first_of (
     search (rules, spanless, white-none, fault-none),
     search (rules, quoted-leads, double_quote-cut, apostrophe-cut, header_name-cut, some-byte),
@@ -222,9 +207,7 @@ module _ (texts : List (List ℕ)) where
   lexeme-leads : (s : LexerState) (at : Point) (c : Cell) (cs : List Cell)
       → IsTextAt texts at (c ∷ cs) → Law c cs (lexeme s (c ∷ cs))
   lexeme-leads s at c cs is =
-      let named : is_c_part s.mode ≡ false → Law c cs (name_in_documentation s (c ∷ cs)) =
-      λ out. spanless at c cs (name_in_documentation s (c ∷ cs)) is (mention-none (definition_count (c ∷ cs)) s (c ∷ cs)) in
-      lexeme-by (Law c cs) s (c ∷ cs) (search (rules, spanless, none-append, fault-none, kind-leads))
+      lexeme-by (Law c cs) s (c ∷ cs) (search (rules, spanless, mention-none, none-append, fault-none, kind-leads))
 
   -- all lexemes of a text
   pub lexemes-lead : (k : ℕ) (s : LexerState) (text : List Cell) (at p : Point) → IsTextAt texts at text

@@ -3,7 +3,7 @@ use Rattle.std.proofs.Common.{rules}
 use Rattle.std.proofs.lemmas.Bool.Decides.{nat_tests}
 use Rattle.std.proofs.Common.{arith}
 use Rattle.std.proofs.Common.{◌≡◌, ℕ, ◌+◌, nat_le, length, Bool, true, false, ◌&&◌, ◌||◌, if◌then◌else◌}
-use Rattle.std.proofs.Common.{Option, Some, None, is_some, List, [], ◌∷◌, ◌++◌, refl, ap, ◌∙◌}
+use Rattle.std.proofs.Common.{Option, Some, None, is_some, List, [], ◌∷◌, ◌++◌, refl}
 use Rattle.tangle_lines.specs.declared.origin.Origin.{Origin}
 use Rattle.tangle_lexer.specs.declared.tokens.Token.{Token}
 use Rattle.tangle_lexer.specs.declared.tokens.Token.TheVariants as token
@@ -11,23 +11,18 @@ use Rattle.tangle_lexer.specs.declared.tokens.SpanKind.TheVariants as span_kind
 use Rattle.tangle_lines.specs.Reading.{SourceLine, origin_at}
 use Rattle.tangle_scan.specs.declared.items.Item.{Item}
 use Rattle.tangle_scan.specs.declared.items.Item.TheVariants as item
-use Rattle.tangle_scan.specs.Rules.{texts_of, is_continued, at_line_front, blanks, next_line, same_origin}
+use Rattle.tangle_scan.specs.Rules.{texts_of, is_continued, blanks, next_line, same_origin}
 use Rattle.tangle_scan.specs.Rules.{with_all_marks, with_needed_marks, part_tokens, part_items}
 use Rattle.tangle_scan.specs.Directives.{is_turn, is_turn_word, first_word}
 use Rattle.tangle_scan.specs.declared.turns.Turn.{Turn}
 use Rattle.tangle_scan.specs.declared.turns.Turn.TheVariants as turn
 use Rattle.tangle_scan.specs.LineTruth.{counted_after_line_end}
 use Rattle.tangle_scan.specs.Passes.{line_item, items_by_origin}
-use Rattle.tangle_scan.specs.Passes.{turn_after_line_end, turn_after_item, is_number_sign, is_turn_item, is_whole}
+use Rattle.tangle_scan.specs.Passes.{turn_after_item, is_number_sign, is_turn_item, is_whole}
 use Rattle.tangle_scan.specs.Rules.{is_front_gap}
 
 pub same-is : (p q : Origin) → same_origin p q ≡ true → p ≡ q
 same-is p q h = grind (arith, nat_tests)
-
--- what is true of a line end and of each mark is true of the item for the end of a line
-pub by-line_item : (P : Item → Type 0) (lines : List SourceLine) (continued turn : Bool) (counted : Origin) (line : ℕ)
-    → P item.LineEnd → ((p : Origin) → P (item.LineMark p)) → P (line_item lines continued turn counted line)
-by-line_item x lines continued turn counted line end mark = grind arith
 
 -- how much of a turn is on a line of C with these items
 
@@ -112,37 +107,18 @@ module _ (lines : List SourceLine) where
       by false true turns same e is = search (rules, line_end-alone)
       by false false turns same e is = grind (arith, nat_tests, same-is)
 
-  -- how much of a turn is on the line of C after a line end
-  ended : (stays : Bool) (line : List Item) (at : Turn) → turn_of texts line ≡ at
-      → turn_of texts (line_after stays line) ≡ (if stays then at else turn.NoItem)
-  ended true line at turns = turn-snoc texts line item.LineEnd ∙ turns
-  ended false line at turns = refl
-
   -- what is made after this token, whatever is before it
   abbrev IsMade : Token → List Token → Type 0
   IsMade e rest =
       (line : List Item) (at : Turn) (counted : Origin) → turn_of texts line ≡ at
       → made (Some e) line counted rest ≡ items_by_origin lines (Some e) at counted rest
 
-  -- an item, and what is made of the tokens after it
-  made-one : (e : Token) (x : Item) (line : List Item) (at : Turn) (counted : Origin) (rest : List Token)
-      → is_gap_item x ≡ false → turn_of texts line ≡ at → IsMade e rest
-      → made (Some e) (line ++ x ∷ []) counted rest
-      ≡ items_by_origin lines (Some e) (turn_after_item texts at (Some x)) counted rest
-  made-one e x line at counted rest solid turns next = search (rules, turn-snoc)
-
-  made-item : (e : Token) (left before : Option Token) (line : List Item) (at : Turn)
-      (counted : Origin) (rest : List Token) → is_front_gap e ≡ false → turn_of texts line ≡ at → IsMade e rest
-      → made left line counted (e ∷ rest) ≡ items_by_origin lines before at counted (e ∷ rest)
-  made-item e left before line at counted rest solid turns next = search (rules, made-one)
-
   -- an item, with a blank before it or not
   made-blank : (blank : Bool) (e : Token) (left before : Option Token) (line : List Item) (at : Turn)
       (counted : Origin) (rest : List Token) → is_front_gap e ≡ false → turn_of texts line ≡ at → IsMade e rest →
       let tokens : List Token = (if blank then token.White ∷ [] else []) ++ e ∷ rest in
       made left line counted tokens ≡ items_by_origin lines before at counted tokens
-  made-blank true e left before line at counted rest solid turns next = search (rules, made-item, turn-snoc)
-  made-blank false e left before line at counted rest solid turns next = search (rules, made-item)
+  made-blank x e left before line at counted rest solid turns next = search (rules, turn-snoc)
 
   -- Rule 3 leaves no white space before a line end, so the token
   -- directly before a line end is the last one on the line.
@@ -154,18 +130,8 @@ module _ (lines : List SourceLine) where
   made-blanks left before line at white counted (token.White ∷ es) alike turns =
       made-blanks left before line at true counted es alike turns
   made-blanks left before line at white counted (token.LineEnd number ∷ es) alike turns =
-      let front : Option Token = at_line_front texts before number in
-      let continued : Bool = is_continued texts before in
-      let stays : Bool = continued || nat_le (length lines) (number + 1) in
-      let after : Origin = counted_after_line_end lines continued counted number in
-      made-line_end left line counted number (blanks texts front false es)
-      ∙ rw (alike, turn-is texts line, turns)
-      (ap (λ t. line_item lines continued (is_whole at) counted number ∷ t)
-      (made-blanks (Some (token.LineEnd number)) front (line_after stays line) (turn_after_line_end lines continued number at)
-      false after es (ends (is_continued texts before)) (ended stays line at turns)))
-    where
-      ends : (b : Bool) → false ≡ is_continued texts (if b then Some (token.LineEnd number) else None)
-      ends x = search rules
+      let next = λ (l b : Option Token) (xs : List Item) (t : Turn) (c : Origin). made-blanks l b xs t false c es in
+      grind (arith, nat_tests, made-line_end left line counted number, turn-is texts line, turn-snoc texts, next)
   made-blanks left before line at white counted (e ∷ es) alike turns =
       made-blank (is_some before && white) e left before line at counted (blanks texts (Some e) false es) refl turns
       (λ line at counted turns. made-blanks (Some e) (Some e) line at false counted es refl turns)

@@ -2,15 +2,15 @@
 use Rattle.std.proofs.Common.{rules}
 use Rattle.std.proofs.lemmas.Bool.Decides.{nat_tests}
 use Rattle.std.proofs.Common.{arith}
-use Rattle.std.proofs.Common.{◌≡◌, ℕ, Bool, true, false, ◌&&◌, not, if◌then◌else◌, Option, Some, None}
-use Rattle.std.proofs.Common.{List, [], ◌∷◌, ◌++◌, map, flat_map, refl, ap, ◌∙◌}
+use Rattle.std.proofs.Common.{◌≡◌, ℕ, Bool, false, if◌then◌else◌, Option, None}
+use Rattle.std.proofs.Common.{List, [], ◌∷◌, ◌++◌, flat_map, refl}
 use Rattle.std.proofs.lemmas.Grind.{flat_map-append}
 use Rattle.tangle_lexer.specs.declared.tokens.Token.{Token}
 use Rattle.tangle_lexer.specs.declared.tokens.Token.TheVariants as token
-use Rattle.tangle_scan.specs.Rules.{white_inner_end, clean_tokens}
-use Rattle.tangle_scan.specs.Rules.{without_faults, would_merge, with_spaces}
-use Rattle.tangle_scan.specs.Rules.{with_name_space, is_gap, left_of_run, without_joins, part_tokens}
-use Rattle.tangle_scan.specs.Rules.{at_line_front, blanks, is_name_part}
+use Rattle.tangle_scan.specs.Rules.{clean_tokens}
+use Rattle.tangle_scan.specs.Rules.{with_spaces}
+use Rattle.tangle_scan.specs.Rules.{with_name_space, is_gap, without_joins, part_tokens}
+use Rattle.tangle_scan.specs.Rules.{blanks}
 use Rattle.tangle_scan.specs.Rules.{macro_blanks, without_front_gaps, macro_tokens}
 
 -- a token that the rules keep, as a list
@@ -24,51 +24,36 @@ kept es = flat_map keep es
 white-kept : (b : Bool) (es : List Token) → kept ((if b then token.White ∷ [] else []) ++ es) ≡ kept es
 white-kept x es = grind arith
 
-without_faults-kept : (es : List Token) → kept (without_faults es) ≡ kept es
-without_faults-kept [] = refl
-without_faults-kept (e ∷ es) = search (rules, without_faults-kept es)
-
-inner-kept : (es : List Token) → kept (map white_inner_end es) ≡ kept es
-inner-kept [] = refl
-inner-kept (e ∷ es) = search (rules, inner-kept es)
-
 clean-kept : (es : List Token) → kept (clean_tokens es) ≡ kept es
-clean-kept es = inner-kept (without_faults es) ∙ without_faults-kept es
+clean-kept [] = refl
+clean-kept (e ∷ es) = search (rules, clean-kept es)
 
 with_spaces-kept : (texts : List (List ℕ)) (es : List Token) → kept (with_spaces texts es) ≡ kept es
 with_spaces-kept texts [] = refl
 with_spaces-kept texts (e ∷ []) = refl
-with_spaces-kept texts (e ∷ f ∷ es) =
-    ap (λ ts. keep e ++ ts) (white-kept (would_merge texts e f) (with_spaces texts (f ∷ es)) ∙ with_spaces-kept texts (f ∷ es))
+with_spaces-kept texts (e ∷ f ∷ es) = search (rules, white-kept, with_spaces-kept texts (f ∷ es))
 
 with_name_space-kept : (texts : List (List ℕ)) (es : List Token) → kept (with_name_space texts es) ≡ kept es
 with_name_space-kept texts [] = refl
 with_name_space-kept texts (e ∷ es) = grind (arith, with_name_space-kept texts es)
 
-left-kept : (run : List Token) → kept run ≡ [] → kept (left_of_run run) ≡ []
-left-kept run none = grind arith
-
 -- `run` is the part of the first run that is before the tokens
 without_joins-kept : (run es : List Token) → kept run ≡ [] → kept (without_joins run es) ≡ kept es
-without_joins-kept run [] none = left-kept run none
+without_joins-kept run [] none = grind arith
 without_joins-kept run (e ∷ es) none =
-    grind (arith, nat_tests, flat_map-append, left-kept, without_joins-kept (run ++ e ∷ []) es, without_joins-kept [] es refl)
+    grind (arith, nat_tests, flat_map-append, without_joins-kept (run ++ e ∷ []) es, without_joins-kept [] es refl)
 
 blanks-kept : (texts : List (List ℕ)) (before : Option Token) (white : Bool) (es : List Token)
     → kept (blanks texts before white es) ≡ kept es
 blanks-kept texts before white [] = grind arith
-blanks-kept texts before white (token.White ∷ es) = blanks-kept texts before true es
-blanks-kept texts before white (token.LineEnd line ∷ es) = blanks-kept texts (at_line_front texts before line) false es
-blanks-kept texts before white (e ∷ es) = search (rules, white-kept, blanks-kept texts (Some e) false es)
+blanks-kept texts before white (e ∷ es) =
+    search (rules, white-kept, λ (b : Option Token) (w : Bool). blanks-kept texts b w es)
 
 pub macro_blanks-kept : (texts : List (List ℕ)) (in_name : Bool) (before : Option Token) (white : Bool) (es : List Token)
     → kept (macro_blanks texts in_name before white es) ≡ kept es
 macro_blanks-kept texts in_name before white [] = refl
-macro_blanks-kept texts in_name before white (token.White ∷ es) = macro_blanks-kept texts in_name before true es
-macro_blanks-kept texts in_name before white (token.LineEnd line ∷ es) =
-    grind (arith, macro_blanks-kept texts false None false es)
 macro_blanks-kept texts in_name before white (e ∷ es) =
-    grind (arith, macro_blanks-kept texts (in_name && not white && is_name_part e) (Some e) false es)
+    search (rules, white-kept, λ (n : Bool) (b : Option Token) (w : Bool). macro_blanks-kept texts n b w es)
 
 without_front-kept : (es : List Token) → kept (without_front_gaps es) ≡ kept es
 without_front-kept [] = refl

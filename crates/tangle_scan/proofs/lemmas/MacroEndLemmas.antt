@@ -1,12 +1,10 @@
 -- The items of spaced tokens without those that are dropped at the end of a macro.
-use Rattle.std.proofs.Common.{◌≡◌, ◌∙◌, ap, map, refl, sym, not, Bool, true, false, List, [], ◌∷◌, ◌++◌, ℕ, arith, flat_map, append-nil, append_assoc}
+use Rattle.std.proofs.Common.{◌≡◌, ◌∙◌, ap, map, refl, sym, Bool, true, false, List, [], ◌∷◌, ◌++◌, ℕ, arith, flat_map, append-nil, append_assoc}
 use Rattle.std.proofs.lemmas.Bool.Decides.{nat_tests}
-use Rattle.std.proofs.lemmas.Bool.{and_parts}
 use Rattle.tangle_text.specs.Bytes.{backslash}
 use Rattle.tangle_text.specs.Text.{span_text}
 use Rattle.tangle_text.specs.declared.spans.Span.{Span}
 use Rattle.tangle_text.specs.declared.runs.RunPart.{RunPart}
-use Rattle.tangle_text.specs.declared.runs.RunPart.TheVariants as part
 use Rattle.tangle_text.specs.Runs.{are_apart, run_parts}
 use Rattle.tangle_lexer.specs.declared.tokens.Token.{Token}
 use Rattle.tangle_lexer.specs.declared.tokens.Token.TheVariants as token
@@ -20,13 +18,6 @@ use Rattle.tangle_scan.specs.MacroBytes.{is_dropped_at_end, is_dropped_token, ma
 use Rattle.tangle_scan.proofs.lemmas.RunItems.{run-ends}
 use Rattle.tangle_scan.proofs.lemmas.RunTags.{run_read}
 use Rattle.std.proofs.lemmas.List.{flat_map_more}
-
-apart-more : (space word : Bool) (p : RunPart) (ps : List RunPart) → are_apart space word (p ∷ ps) ≡ true
-    → (s : Bool) × (w : Bool) × (are_apart s w ps ≡ true)
-apart-more space word part.Space ps h = (true, false, (and_parts (not space) _ h).1)
-apart-more space word (part.Quoted s) ps h = (false, false, (and_parts (not word) _ h).1)
-apart-more space word (part.Word s) ps h = (false, true, h)
-apart-more space word (part.Sign s) ps h = (false, false, h)
 
 module _ (texts : List (List ℕ)) where
   -- the bytes of a run
@@ -45,6 +36,7 @@ module _ (texts : List (List ℕ)) where
   dropped_last [] x dropped = rw dropped
   dropped_last (y ∷ ys) x dropped = ap (without_end_after texts y) (dropped_last ys x dropped)
 
+  -- the items `items` are written, whatever is before them
   abbrev IsWhole : List Item → Type 0
   IsWhole items = (xs : List Item) → without_end texts (xs ++ items) ≡ xs ++ items
 
@@ -56,16 +48,13 @@ module _ (texts : List (List ℕ)) where
   written_last x written [] = rw written
   written_last x written (y ∷ ys) = ap (without_end_after texts y) (written_last x written ys) ∙ written_tail y ys x
 
-  written_more : (x : Item) (items : List Item) → IsWhole items → IsWhole (x ∷ items)
-  written_more x items whole xs =
-      ap (without_end texts) (sym (append_assoc xs (x ∷ []) items)) ∙ (whole (xs ++ x ∷ []) ∙ append_assoc xs (x ∷ []) items)
-
   parts_whole : (space word : Bool) (p : RunPart) (ps : List RunPart) → are_apart space word (p ∷ ps) ≡ true
       → ends_in backslash texts (last_of (part_token p) ps) ≡ false → IsWhole (map part_item (p ∷ ps))
-  parts_whole space word p [] apart ends = written_last (part_item p) (grind (arith, nat_tests))
-  parts_whole space word p (q ∷ ps) apart ends =
-      let (s, w, more) = apart-more space word p (q ∷ ps) apart in
-      written_more (part_item p) (map part_item (q ∷ ps)) (parts_whole s w q ps more ends)
+  parts_whole space word p [] apart ends xs = written_last (part_item p) (grind (arith, nat_tests)) xs
+  parts_whole space word p (q ∷ ps) apart ends xs =
+      let more = λ (s w : Bool) (h : are_apart s w (q ∷ ps) ≡ true).
+      parts_whole s w q ps h ends (xs ++ part_item p ∷ []) in
+      rw (← append_assoc xs (part_item p ∷ []) (map part_item (q ∷ ps))) (grind (arith, more))
 
   token_whole : (t : Token) → IsRunIn texts t → is_dropped_token texts t ≡ false → IsWhole (written_items texts t)
   token_whole (token.Run s) run kept xs =

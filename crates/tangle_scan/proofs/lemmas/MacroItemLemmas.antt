@@ -13,7 +13,7 @@ use Rattle.tangle_scan.specs.declared.items.Item.TheVariants as item
 use Rattle.tangle_scan.specs.declared.macro_items.MacroState.{MacroState}
 use Rattle.tangle_scan.specs.declared.macro_items.Gap.{Gap}
 use Rattle.tangle_scan.specs.Rules.{next_item, has_blank_at_line_end, is_name_part, macro_blanks, unmarked_items, macro_items}
-use Rattle.tangle_scan.specs.Rules.{is_front_gap, is_line_backslash, without_backslashes, ends_line}
+use Rattle.tangle_scan.specs.Rules.{is_front_gap, without_backslashes, ends_line}
 use Rattle.tangle_scan.specs.Passes.{item_of, blank_if, from_item, left_gap, joined_from, is_solid, is_dropped}
 use Rattle.tangle_scan.specs.Passes.{has_white, line_ends, gap_of, has_blank, is_at_name, items_from, items_ahead}
 use Rattle.tangle_scan.proofs.lemmas.SpacingLemmas.{item-ahead, macro-begin, left-front_gap}
@@ -75,33 +75,21 @@ solid-items : (texts : List (List ℕ)) (in_name : Bool) (before : Option Token)
     (macro_blanks texts (in_name && (ends == 0 && not white) && is_name_part e) (Some e) false es)))
 solid-items texts in_name before white ends e es h = grind (arith, nat_tests)
 
-end-items : (texts : List (List ℕ)) (in_name : Bool) (before : Option Token) (white : Bool) (ends : ℕ)
-    → items_from texts in_name before (gap_with white ends) [] ≡ replicate ends item.LineEnd
-end-items texts in_name before white ends = grind (arith, nat_tests, append-nil)
-
 -- backslashes, of which a gap has none
 
 gap-backslashes : (texts : List (List ℕ)) (gap es : List Token) → list_all is_front_gap gap ≡ true
     → without_backslashes texts (gap ++ es) ≡ gap ++ without_backslashes texts es
 gap-backslashes texts [] es h = refl
-gap-backslashes texts (token.White ∷ gap) es h = ap (λ t. token.White ∷ t) (gap-backslashes texts gap es h)
-gap-backslashes texts (token.LineEnd line ∷ gap) es h = grind (arith, nat_tests, gap-backslashes texts gap es h)
-gap-backslashes texts (_ ∷ gap) es h = cc
+gap-backslashes texts (x ∷ gap) es h = grind (arith, nat_tests, gap-backslashes texts gap es)
 
 gap-ends_line : (gap es : List Token) → list_all is_front_gap gap ≡ true → ends_line es ≡ false
     → ends_line (gap ++ es) ≡ not (line_ends gap == 0)
 gap-ends_line [] es h none = none
-gap-ends_line (token.White ∷ gap) es h none = gap-ends_line gap es h none
-gap-ends_line (token.LineEnd line ∷ gap) es h none = rw (some-ends (line_ends gap)) refl
-gap-ends_line (_ ∷ gap) es h none = cc
+gap-ends_line (x ∷ gap) es h none = grind (arith, nat_tests, some-ends, gap-ends_line gap es)
 
 item-ends_line : (texts : List (List ℕ)) (es : List Token) → ends_line (joined_from texts false (from_item es)) ≡ false
 item-ends_line texts [] = refl
 item-ends_line texts (e ∷ es) = search (rules, item-ahead, item-ends_line texts es)
-
-drops : (texts : List (List ℕ)) (e : Token) (gap es : List Token) → list_all is_front_gap gap ≡ true
-    → ends_line es ≡ false → is_line_backslash texts e (gap ++ es) ≡ is_dropped texts e (gap_of gap)
-drops texts e gap es h none = grind (arith, nat_tests, gap-ends_line)
 
 -- the items ahead of an item, which a backslash before a line end is not
 
@@ -110,7 +98,8 @@ ahead : (texts : List (List ℕ)) (at : MacroState) (e : Token) (es : List Token
     ((if is_dropped texts e (gap_of (left_gap texts at.is_first e es)) then [] else e ∷ [])
     ++ (left_gap texts at.is_first e es ++ without_backslashes texts (joined_from texts false (from_item es))))
 unfolding items_ahead
-ahead texts at e es h = grind (arith, nat_tests, left-front_gap, item-ahead, drops, item-ends_line, gap-backslashes)
+ahead texts at e es h =
+    grind (arith, nat_tests, left-front_gap, item-ahead, gap-ends_line, item-ends_line, gap-backslashes)
 
 pub ahead-item : (texts : List (List ℕ)) (at : MacroState) (e : Token) (es : List Token) → is_solid e ≡ true →
     let gap : Gap = gap_of (left_gap texts at.is_first e es) in
@@ -139,7 +128,7 @@ ahead-begin texts at es is = rw (is, macro-begin texts es) refl
 pub ahead-end : (texts : List (List ℕ)) (at : MacroState) (first : Bool) (es : List Token) → es ≡ []
     → at.is_first ≡ first → items_ahead texts at es ≡ replicate at.gap.line_ends item.LineEnd
 unfolding items_ahead
-ahead-end texts at first es none is = grind (arith, nat_tests, end-items)
+ahead-end texts at first es none is = grind (arith, nat_tests, append-nil)
 
 pub first-solid : (es : List Token) → list_all is_solid (take 1 (from_item es)) ≡ true
 first-solid [] = refl

@@ -1,8 +1,8 @@
 -- The runs of a macro: the rules read the tokens that they stand for.
 use Rattle.std.proofs.Common.{rules}
 use Rattle.std.proofs.lemmas.Bool.Decides.{nat_tests}
-use Rattle.std.proofs.Common.{◌≡◌, ◌==◌, ℕ, ◌∙◌, Bool, true, false, take, ◌&&◌, ◌||◌, not, List, [], ◌∷◌, ◌++◌, map, replicate, refl, arith, sym, ◌⊎◌, inl, inr}
-use Rattle.std.proofs.Common.{Some, suc, append_assoc, option_to_list, if◌then◌else◌}
+use Rattle.std.proofs.Common.{◌≡◌, ◌==◌, ℕ, ◌∙◌, Bool, true, false, take, ◌&&◌, ◌||◌, not, List, [], ◌∷◌, ◌++◌, map, replicate, refl, arith, sym}
+use Rattle.std.proofs.Common.{Some, subst, suc, append_assoc, if◌then◌else◌}
 use Rattle.std.proofs.Math.Bool.{or-false, or-true}
 use Rattle.std.specs.List.{All, list_all}
 use Rattle.std.proofs.lemmas.Bool.{false_from_ne_true}
@@ -19,26 +19,13 @@ use Rattle.tangle_lexer.specs.SpanBytes.{ends_in}
 use Rattle.tangle_scan.specs.declared.items.Item.TheVariants as item
 use Rattle.tangle_scan.specs.declared.macro_items.Gap.{Gap}
 use Rattle.tangle_scan.specs.declared.macro_items.MacroState.{MacroState}
-use Rattle.tangle_scan.specs.Rules.{has_join, left_of_run, is_constant, is_name_part, may_follow_name, would_merge}
+use Rattle.tangle_scan.specs.Rules.{has_join, left_of_run, is_constant, is_name_part, would_merge}
 use Rattle.tangle_scan.specs.ReadAsMeant.{is_empty}
 use Rattle.tangle_scan.specs.Texts.{part_item}
-use Rattle.tangle_scan.specs.Passes.{has_white, line_ends, is_spaced_in_run, would_merge_in_run, are_name_parts, are_words, item_of, written_items, blank_if, first_token, from_item, gap_before, gap_of, has_blank, is_at_name}
+use Rattle.tangle_scan.specs.Passes.{has_white, line_ends, is_spaced_in_run, would_merge_in_run, are_name_parts, are_words, written_items, blank_if, first_token, from_item, gap_before, gap_of, has_blank, is_at_name}
 use Rattle.tangle_scan.specs.Passes.{is_dropped, is_solid, is_spaced, items_ahead, last_of, last_token, left_gap}
 use Rattle.tangle_scan.proofs.lemmas.MacroItemLemmas.{ahead-item, first-solid}
 use Rattle.tangle_scan.proofs.lemmas.RunItems.{run-ends}
-
-abbrev is_word : RunPart → Bool
-is_word p = is_name_part (part_token p)
-
-pub run-or-not : (e : Token) → ((s : Span) × (e ≡ token.Run s)) ⊎ (is_run e ≡ false)
-run-or-not (token.Run s) = inl (s, refl)
-run-or-not e = inr refl
-
-last-plain : (texts : List (List ℕ)) (e : Token) → is_run e ≡ false → last_token texts e ≡ e
-last-plain texts x h = grind arith
-
-first-plain : (texts : List (List ℕ)) (e : Token) → is_run e ≡ false → first_token texts e ≡ e
-first-plain texts x h = grind arith
 
 part-plain : (p : RunPart) → (is_constant (part_token p) ≡ false) × (is_run (part_token p) ≡ false)
 part-plain x = grind arith
@@ -64,14 +51,12 @@ module _ (texts : List (List ℕ)) where
   spaced-here : (first : Bool) (e : Token) (es : List Token)
       → is_spaced texts first e es ≡ (is_empty (gap_before es) && is_spaced texts first e (from_item es))
   spaced-here first e [] = refl
-  spaced-here first e (token.Fault kind line ∷ es) = spaced-here first e es
-  spaced-here first e (x ∷ es) = grind (arith, nat_tests)
+  spaced-here first e (x ∷ es) = grind (arith, nat_tests, spaced-here first e es)
 
   empty-gap : (es : List Token) → has_join (gap_before es) ≡ false
       → is_empty (gap_before es) ≡ (line_ends (gap_before es) == 0 && not (has_white (gap_before es)))
   empty-gap [] h = refl
-  empty-gap (token.Fault kind line ∷ es) h = empty-gap es h
-  empty-gap (x ∷ es) h = grind (arith, nat_tests)
+  empty-gap (x ∷ es) h = grind (arith, nat_tests, empty-gap es)
 
   -- the gap before an item or a run, and the tokens from there on
 
@@ -88,27 +73,19 @@ module _ (texts : List (List ℕ)) where
   from-runs [] runs = runs
   from-runs (e ∷ es) runs = grind (arith, nat_tests, All-tail (IsRunIn texts) e es runs, from-runs es)
 
-  first-spaced : (first : Bool) (e : Token) (p : RunPart) (es : List Token)
-      → is_spaced texts first e (part_token p ∷ es)
-      ≡ (first && not (may_follow_name texts (part_token p)) || would_merge texts e (part_token p))
-  first-spaced first e x es = grind arith
-
   next-spaced : (first : Bool) (e : Token) (es : List Token) → list_all is_solid (take 1 es) ≡ true
       → IsRunIn texts e → All (IsRunIn texts) es
       → is_spaced texts first (last_token texts e) (unfolded texts es) ≡ is_spaced_in_run texts first e es
   next-spaced first e [] solid run runs = refl
-  next-spaced first e (token.Fault kind line ∷ es) solid run runs = cc
   next-spaced first e (token.Run s ∷ es) solid run runs =
       let next = runs 0 (token.Run s) (omega arith) in
-      let ends = run-ends texts s next in
-      rw (merges-ends e (token.Run s) run next, ends.parts) (first-spaced first (last_token texts e) ends.first _)
-  next-spaced first e (f ∷ es) solid run runs = rw (merges-ends e f run (runs 0 f (omega arith))) refl
+      let ends = run-ends texts s next in rw (merges-ends e (token.Run s) run next, ends.parts) (grind arith)
+  next-spaced first e (f ∷ es) solid run runs = grind (arith, merges-ends e f run (runs 0 f (omega arith)))
 
   gap-spaced : (white : Bool) (gap : List Token) → has_join gap ≡ false
       → gap_of (left_of_run ((if white then token.White ∷ [] else []) ++ gap))
       ≡ record { has_join = false; has_white = has_white gap || white; line_ends = line_ends gap }
-  gap-spaced true gap none = rw (none, none, or-true (has_white gap)) refl
-  gap-spaced false gap none = rw (none, none, or-false (has_white gap)) refl
+  gap-spaced x gap none = grind (arith, or-true, or-false)
 
   -- what is left of the gap between an item or a run and the next one
   pub left-unfolded : (first : Bool) (e : Token) (es : List Token) → IsRunIn texts e → All (IsRunIn texts) es →
@@ -165,16 +142,11 @@ module _ (texts : List (List ℕ)) where
       let ends = run-ends texts s run in
       let e = part_token ends.first in
       let in_name = is_at_name at && is_name_part e in
-      let whole : are_apart false (is_word ends.first) ends.others ≡ true = grind arith in
+      let whole : are_apart false (is_name_part e) ends.others ≡ true = grind arith in
       let stays : ends_in backslash texts (last_of e ends.others) ≡ false = ends.last.joins ∙ run.ends in
       let kept = part-kept ends.first _ ends.others es whole stays in
       let more = parts-ahead e in_name _ ends.others es (part-plain ends.first).0 whole stays in
       rw ends.parts (grind (arith, ahead-item texts at e (map part_token ends.others ++ es)))
-
-  plain-spaced : (e : Token) → is_solid e ≡ true → is_run e ≡ false
-      → (unfolded_token texts e ≡ e ∷ []) × (written_items texts e ≡ option_to_list (item_of e))
-      × (are_name_parts texts e ≡ is_name_part e)
-  plain-spaced x solid other = grind arith
 
   -- the items ahead of an item or a run, which is not dropped
   pub ahead-token : (at : MacroState) (e : Token) (gap : Gap) (es : List Token) → is_solid e ≡ true → IsRunIn texts e
@@ -187,17 +159,10 @@ module _ (texts : List (List ℕ)) where
         in_name = is_at_name at && are_name_parts texts e;
         gap = gap;
       }) (from_item es))
+  ahead-token at (token.Run s) gap es solid run alone is kept =
+      let first = false_from_ne_true at.is_first (λ h. let never = alone h in cc) in
+      let is_left = rw first at is in
+      rw is_left (ahead-run at s es run first ∙ sym (append_assoc _ (replicate at.gap.line_ends item.LineEnd) _))
   ahead-token at e gap es solid run alone is kept =
-      elim (run-or-not e) [
-        | inl of ↦
-            let first = false_from_ne_true at.is_first (λ h. let never = rw of.1 at (alone h) in cc) in
-            let ahead = ahead-run at of.0 es (rw of.1 at run) first in
-            let is_left = rw first at is in
-            rw (is_left, of.1) (ahead ∙ sym (append_assoc _ (replicate at.gap.line_ends item.LineEnd) _))
-        | inr other ↦
-            let plain = plain-spaced e solid other in
-            let last = last-plain texts e other in
-            let first = first-plain texts e other in
-            rw (is, last, first, plain.0, plain.1, plain.2)
-            (ahead-item texts at e es solid (rw (is, last) at kept) ∙ sym (append_assoc _ (replicate at.gap.line_ends item.LineEnd) _))
-      ]
+      let stays = subst (λ g. is_dropped texts e g ≡ false) is kept in
+      rw is (grind (arith, append_assoc, ahead-item texts at e es solid stays))

@@ -1,19 +1,18 @@
 -- What one pass over the tokens of a C part read, and what is left.
 use Rattle.std.proofs.lemmas.Bool.Decides.{nat_tests}
-use Rattle.std.proofs.Common.{rules, subst}
+use Rattle.std.proofs.Common.{rules}
 use Rattle.std.proofs.Common.{◌≡◌, ℕ, Bool, true, false, ◌&&◌, ◌||◌, if◌then◌else◌, refl, Option, None, Some}
 use Rattle.std.proofs.Common.{is_some, List, [], ◌∷◌, ◌++◌, ◌∙◌, append_assoc, append-nil, map, arith}
-use Rattle.std.proofs.Math.Bool.{and-false, or-false, or-true}
+use Rattle.std.proofs.Math.Bool.{or-false}
 use Rattle.tangle_lexer.specs.declared.tokens.Token.{Token}
 use Rattle.tangle_lexer.specs.declared.tokens.Token.TheVariants as token
-use Rattle.tangle_faults.specs.declared.faults.FaultKind.{FaultKind}
-use Rattle.tangle_lexer.specs.Runs.{is_run, part_token, unfolded_token, IsRunOf}
+use Rattle.tangle_lexer.specs.Runs.{is_run, part_token}
 use Rattle.tangle_text.specs.declared.runs.RunPart.{RunPart}
 use Rattle.tangle_text.specs.declared.runs.RunPart.TheVariants as part
 use Rattle.tangle_text.specs.declared.spans.Span.{Span}
 use Rattle.tangle_text.specs.Runs.{run_parts, are_apart}
 use Rattle.tangle_lines.specs.declared.origin.Origin.{Origin}
-use Rattle.tangle_lines.specs.Reading.{SourceLine, origin_at}
+use Rattle.tangle_lines.specs.Reading.{SourceLine}
 use Rattle.tangle_scan.specs.declared.items.Item.{Item}
 use Rattle.tangle_scan.specs.declared.parts.CountedOrigin.{CountedOrigin}
 use Rattle.tangle_scan.specs.declared.parts.Last.{Last}
@@ -23,40 +22,30 @@ use Rattle.tangle_scan.specs.Texts.{TextRead, part_item}
 use Rattle.tangle_scan.specs.Rules.{white_inner_end, would_merge, is_constant}
 use Rattle.tangle_scan.specs.Rules.{without_joins, is_gap, left_of_run}
 use Rattle.tangle_lexer.specs.SpanBytes.{ends_in, ends_in_backslash}
-use Rattle.tangle_scan.specs.Rules.{has_join, texts_of, is_continued, at_line_front}
+use Rattle.tangle_scan.specs.Rules.{has_join, texts_of}
 use Rattle.tangle_text.specs.Bytes.{slash}
-use Rattle.tangle_scan.specs.Rules.{blanks, part_items, is_front_gap}
-use Rattle.tangle_scan.specs.LineTruth.{counted_after_line_end}
-use Rattle.tangle_scan.specs.Passes.{IsPassed, last_of, from_gap, start_of_gap, items_after, spaced_after, blank_before, origin_of}
-use Rattle.tangle_scan.specs.Passes.{turn_at_gap, counted_at_gap, continues, ends_open, run_ends_in, would_merge_in_run}
-use Rattle.tangle_scan.specs.Passes.{is_joined, is_item, is_touching, items_by_origin, keeps_white, last_after_line_end}
-use Rattle.tangle_scan.specs.Passes.{line_item, items_at, counted_after_token, blank_if}
+use Rattle.tangle_scan.specs.Rules.{blanks}
+use Rattle.tangle_scan.specs.Passes.{IsPartRead, IsPassed, last_of, from_gap, start_of_gap, items_after, spaced_after, blank_before, origin_of}
+use Rattle.tangle_scan.specs.Passes.{ends_open, run_ends_in, would_merge_in_run}
+use Rattle.tangle_scan.specs.Passes.{is_joined, is_item, items_by_origin, keeps_white, last_after_line_end}
+use Rattle.tangle_scan.specs.Passes.{items_at, counted_after_token, blank_if}
 use Rattle.tangle_scan.specs.declared.turns.Turn.{Turn}
 use Rattle.tangle_scan.specs.declared.turns.Turn.TheVariants as turn
-use Rattle.tangle_scan.specs.Passes.{turn_after, turn_after_run, turn_after_line_end, is_whole}
+use Rattle.tangle_scan.specs.Passes.{turn_after, turn_after_run, turn_after_line_end}
 use Rattle.tangle_scan.specs.Passes.{is_number_sign}
-use Rattle.tangle_scan.proofs.lemmas.ItemsByOrigin.{part_items-by_origin}
 use Rattle.tangle_scan.proofs.lemmas.RuleLemmas.{has_join-push, is_solid}
-use Rattle.tangle_scan.proofs.lemmas.SpacingLemmas.{spaced-inside}
-use Rattle.tangle_scan.proofs.lemmas.RunItems.{is_end, run-ends}
+use Rattle.tangle_scan.proofs.lemmas.RunItems.{is_end}
 
 abbrev white_if : Bool → List Token
 white_if b = if b then token.White ∷ [] else []
 
--- rule 1 puts no white space before a gap, which goes on
-
-spaced-gap : (texts : List (List ℕ)) (gap : List Token) (prev e : Token) (es : List Token)
-    → is_gap e ≡ true → white_inner_end e ≡ e
-    → without_joins gap (spaced_after texts prev (e ∷ es)) ≡ without_joins (gap ++ e ∷ []) (spaced_after texts e es)
-spaced-gap texts gap prev x es h same = grind arith
-
-blanks-at-front : (texts : List (List ℕ)) (b : Option Token) (es : List Token)
+pub blanks-at-front : (texts : List (List ℕ)) (b : Option Token) (es : List Token)
     → is_some b ≡ false → blanks texts b true es ≡ blanks texts b false es
 blanks-at-front texts None (token.White ∷ es) h = refl
 blanks-at-front texts None es h = refl
 blanks-at-front texts (Some x) es h = cc
 
-end-joined : (gap : List Token) (line : ℕ) → has_join (gap ++ token.LineEnd line ∷ []) ≡ has_join gap
+pub end-joined : (gap : List Token) (line : ℕ) → has_join (gap ++ token.LineEnd line ∷ []) ≡ has_join gap
 end-joined gap line = has_join-push gap (token.LineEnd line) ∙ or-false (has_join gap)
 
 -- the state after a line end
@@ -70,7 +59,7 @@ after_end lines continued line text counted at = record at {
 }
 
 -- the gap goes on after the line end
-gap-goes_on : (lines : List SourceLine) (kept : List Item) (at : PartState) (continued : Bool) (line : ℕ)
+pub gap-goes_on : (lines : List SourceLine) (kept : List Item) (at : PartState) (continued : Bool) (line : ℕ)
     (text : TextRead) (counted : CountedOrigin) (front : Option Token) (es : List Token)
     → from_gap lines kept (after_end lines continued line text counted at) front es ≡ from_gap lines kept at front es
 gap-goes_on lines kept at x line text counted front es = grind arith
@@ -79,12 +68,9 @@ gap-goes_on lines kept at x line text counted front es = grind arith
 abbrev ahead : List SourceLine → Token → Turn → Origin → List Token → List Item
 ahead lines e at counted es = items_after lines (Some e) at counted false (without_joins [] (spaced_after (texts_of lines) e es))
 
-solid-front : (e : Token) → is_solid e ≡ true → is_front_gap e ≡ false
-solid-front x h = grind arith
-
 -- rule 3 at an item
 item-blanks : (texts : List (List ℕ)) (at : Last) (white merges : Bool) (before : Option Token) (e : Token)
-    (es : List Token) → is_front_gap e ≡ false → (is_joined at ≡ false → is_some before ≡ keeps_white at)
+    (es : List Token) → is_solid e ≡ true → (is_joined at ≡ false → is_some before ≡ keeps_white at)
     → (merges ≡ true → is_item at ≡ true)
     → blanks texts before (keeps_white at && white) (white_if merges ++ e ∷ es)
     ≡ white_if (merges || keeps_white at && white) ++ e ∷ blanks texts (Some e) false es
@@ -95,8 +81,7 @@ item-spaced : (texts : List (List ℕ)) (gap : List Token) (prev e : Token) (es 
     → is_solid e ≡ true → would_merge texts prev e ≡ merges → (merges ≡ true → has_join gap ≡ false)
     → without_joins gap (spaced_after texts prev (e ∷ es))
     ≡ left_of_run gap ++ (white_if merges ++ e ∷ without_joins [] (spaced_after texts e es))
-item-spaced texts gap prev x es true solid is joined = grind (arith, has_join-push, append_assoc)
-item-spaced texts gap prev x es false solid is joined = grind arith
+item-spaced texts gap prev x es y solid is joined = grind (arith, has_join-push, append_assoc)
 
 -- rules 4 and 5 at an item
 item-made : (lines : List SourceLine) (before : Option Token) (at : Turn) (counted : Origin) (blank : Bool) (e : Token)
@@ -104,11 +89,7 @@ item-made : (lines : List SourceLine) (before : Option Token) (at : Turn) (count
     → items_by_origin lines before at counted (white_if blank ++ e ∷ es)
     ≡ blank_if blank ++ (items_at lines e
     ++ items_by_origin lines (Some e) (turn_after (texts_of lines) at e) (counted_after_token lines counted e) es)
-item-made lines before at counted true x es solid = grind arith
-item-made lines before at counted false x es solid = grind arith
-
-touches : (at : PartState) (m : Bool) → (is_touching at && m) ≡ true → (is_item at.last ≡ true) × (is_joined at.last ≡ false)
-touches at x h = grind arith
+item-made lines before at counted y x es solid = grind arith
 
 -- how much of a turn is on the line after the first part of a run, and after the others
 
@@ -135,89 +116,22 @@ module _ (lines : List SourceLine) (whole items kept : List Item) (at : PartStat
   abbrev texts : List (List ℕ)
   texts = texts_of lines
 
-  -- faults are left out
-  pub passed-fault : (kind : FaultKind) (line : ℕ) (es : List Token)
-      → IsPassed lines whole items kept at (token.Fault kind line ∷ es) → IsPassed lines whole items kept at es
-  passed-fault kind line es h = search rules
+  -- rule 1 puts no white space before one more token of a gap, which goes on
+  pub gap-passed : (new : List Item) (next : PartState) (before : Option Token) (e f : Token) (es : List Token)
+      → is_gap e ≡ true → white_inner_end e ≡ f → (h : IsPassed lines whole items kept at (e ∷ es))
+      → ((xs : List Token) → from_gap lines kept next h.front xs ≡ from_gap lines kept at h.front xs)
+      → IsPartRead lines new kept next (h.gap ++ f ∷ []) h.front before f → IsPassed lines whole new kept next es
+  gap-passed new next before e f es gap same h goes_on read =
+      record { gap = h.gap ++ f ∷ []; front = h.front; before = before; prev = f; read = read; left = grind arith }
 
-  pub passed-white : (es : List Token) → IsPassed lines whole items kept at (token.White ∷ es)
-      → IsPassed lines whole items kept (record at { has_white = true }) es
-  passed-white es h = record {
-    gap = h.gap ++ token.White ∷ [];
-    front = h.front;
-    before = h.before;
-    prev = token.White;
-    read = search (rules, has_join-push, append_assoc, blanks-at-front, or-false, and-false);
-    left = search rules;
-  }
-
-  -- a line end of a directive is white space
-  pub passed-inner_end : (line : ℕ) (es : List Token) → IsPassed lines whole items kept at (token.InnerLineEnd line ∷ es)
-      → IsPassed lines whole items kept (record at { has_white = true }) es
-  passed-inner_end line es h = search (rules, passed-white)
-
-  -- after a join a line end is left out
-  pub passed-joined-end : (line : ℕ) (es : List Token) → at.last ≡ last.Joined
-      → IsPassed lines whole items kept at (token.LineEnd line ∷ es) → IsPassed lines whole items kept at es
-  passed-joined-end line es is h = record {
-    gap = h.gap ++ token.LineEnd line ∷ [];
-    front = h.front;
-    before = h.before;
-    prev = token.LineEnd line;
-    read = search (rules, end-joined, is);
-    left = search rules;
-  }
-
-  -- the items so far with one more, and the state, after a line end
-  pub passed-end : (line : ℕ) (text : TextRead) (counted : CountedOrigin) (es : List Token) → (at.last ≡ last.Joined → ⊥) →
-      let continued : Bool = continues texts at in
-      origin_of counted ≡ counted_after_line_end lines continued (origin_of at.counted) line
-      → IsPassed lines whole items kept at (token.LineEnd line ∷ es)
-      → IsPassed lines whole (items ++ line_item lines continued (is_whole at.turn) (origin_of at.counted) line ∷ []) kept
-      (after_end lines continued line text counted at) es
-  passed-end line text counted es other is h =
-      let continued : Bool = continues texts at in
-      let none : has_join h.gap ≡ false = search rules in
-      let is_continued_by : is_continued texts h.before ≡ continued = search rules in
-      let goes_on = gap-goes_on lines kept at continued line text counted h.front in
-      record {
-        gap = h.gap ++ token.LineEnd line ∷ [];
-        front = h.front;
-        before = at_line_front texts h.before line;
-        prev = token.LineEnd line;
-        read = record {
-          joined = grind (arith, end-joined);
-          made = λ xs. rw (goes_on (left_of_run (h.gap ++ token.LineEnd line ∷ []) ++ xs), end-joined h.gap line, none)
-              (search (rules, append_assoc, h.read.made (token.LineEnd line ∷ xs), and-false));
-          keeps = λ _. rw is_continued_by (grind arith);
-          continued = λ _. grind arith;
-          front_open = h.read.front_open;
-          before_open = rw is_continued_by (grind arith);
-          merges = search rules;
-        };
-        left = search (rules, spaced-gap, goes_on);
-      }
-
-  pub passed-join : (es : List Token) → IsPassed lines whole items kept at (token.Join ∷ es)
-      → IsPassed lines whole kept kept
-      (record at { last = last.Joined; turn = turn_at_gap at; counted = counted_at_gap at }) es
-  passed-join es h = record {
-    gap = h.gap ++ token.Join ∷ [];
-    front = h.front;
-    before = h.front;
-    prev = token.Join;
-    read = search (rules, has_join-push, or-true);
-    left = search (rules, spaced-gap);
-  }
-
-  item-ahead : (e : Token) (es : List Token) → is_solid e ≡ true → is_run e ≡ false
+  pub item-ahead : (e : Token) (es : List Token) → is_solid e ≡ true → is_run e ≡ false
       → IsPassed lines whole items kept at (e ∷ es)
       → whole ≡ items ++ (blank_if (blank_before lines at e) ++ (items_at lines e
       ++ ahead lines e (turn_after texts at.turn e) (counted_after_token lines (origin_of at.counted) e) es))
-  item-ahead e es solid run h = search (rules, item-spaced, item-blanks, solid-front, touches, item-made)
+  item-ahead e es solid run h = search (rules, item-spaced, item-blanks, item-made)
 
   -- after an item or a run, with which the items end
-  item-passed : (new : List Item) (next : PartState) (e : Token) (es : List Token)
+  pub item-passed : (new : List Item) (next : PartState) (e : Token) (es : List Token)
       → is_end e ≡ false → ends_in_backslash texts e ≡ ends_in_backslash texts next.item
       → ends_in slash texts e ≡ run_ends_in slash texts next.item
       → ((f : Token) → is_run f ≡ false → would_merge texts e f ≡ would_merge_in_run texts next.item f)
@@ -226,18 +140,8 @@ module _ (lines : List SourceLine) (whole items kept : List Item) (at : PartStat
   item-passed new next e es solid continued ends merges left =
       record { gap = []; front = Some e; before = Some e; prev = e; read = grind (arith, merges); left = left }
 
-  pub passed-item : (counted : CountedOrigin) (e : Token) (es : List Token) → is_solid e ≡ true → is_run e ≡ false
-      → origin_of counted ≡ counted_after_token lines (origin_of at.counted) e
-      → IsPassed lines whole items kept at (e ∷ es) →
-      let new : List Item = (items ++ blank_if (blank_before lines at e)) ++ items_at lines e in
-      IsPassed lines whole new new
-      (record at { last = last.Item; has_white = false; item = e; turn = turn_after texts at.turn e; counted = counted }) es
-  passed-item counted e es solid run is h =
-      item-passed _ (record at { item = e; turn = turn_after texts at.turn e; counted = counted }) e es (grind arith) refl
-      (grind arith) (λ f other. grind arith) (item-ahead e es solid run h ∙ rw (is, append_assoc, append_assoc) refl)
-
   -- a part that is no space, before others
-  part-ahead : (s : Span) (p : RunPart) (ps : List RunPart) (es : List Token) → run_parts texts s ≡ p ∷ ps
+  pub part-ahead : (s : Span) (p : RunPart) (ps : List RunPart) (es : List Token) → run_parts texts s ≡ p ∷ ps
       → is_number_sign texts (part_item p) ≡ false → are_apart true true (p ∷ ps) ≡ true
       → IsPassed lines whole items kept at (map part_token (p ∷ ps) ++ es)
       → whole ≡ items ++ (blank_if (blank_before lines at (part_token p)) ++ (map part_item (p ∷ ps)
@@ -245,35 +149,6 @@ module _ (lines : List SourceLine) (whole items kept : List Item) (at : PartStat
   part-ahead s p ps es is number apart h =
       grind (arith, nat_tests, item-ahead (part_token p) (map part_token ps ++ es), parts-ahead lines, run-settled texts at.turn s)
 
-  pub passed-run : (s : Span) (es : List Token) → IsRunOf texts s
-      → IsPassed lines whole items kept at (unfolded_token texts (token.Run s) ++ es) →
-      let new : List Item = (items ++ blank_if (blank_before lines at (token.Run s))) ++ map part_item (run_parts texts s) in
-      IsPassed lines whole new new
-      (record at { last = last.Item; has_white = false; item = token.Run s; turn = turn_after_run texts at.turn s }) es
-  passed-run s es run h =
-      let ends = run-ends texts s run in
-      let passed = subst (λ ps. IsPassed lines whole items kept at (map part_token ps ++ es)) ends.parts h in
-      let last = ends.last in
-      rw ends.parts
-      (item-passed _ (record at { item = token.Run s; turn = turn_after_run texts at.turn s })
-      (last_of (part_token ends.first) ends.others) es last.solid
-      (last.joins ∙ run.ends) last.opens (λ f other. grind (arith, nat_tests, last.merges, last.plain))
-      (part-ahead s ends.first ends.others es ends.parts ends.number ends.apart passed
-      ∙ rw (ends.merges at.item, append_assoc, append_assoc) refl))
-
   pub passed-whole : (es : List Token) → es ≡ [] → IsPassed lines whole items kept at es
       → items ++ blank_if (ends_open texts at) ≡ whole
   passed-whole es none h = grind (arith, append-nil (left_of_run h.gap))
-
-pub passed-begin : (lines : List SourceLine) (line : ℕ) (at : PartState) (es : List Token)
-    → at.last ≡ last.Front → at.item ≡ token.White → at.turn ≡ turn.NoItem → at.start.turn ≡ turn.NoItem
-    → origin_of at.counted ≡ origin_at lines line → origin_of at.start.counted ≡ origin_at lines line
-    → IsPassed lines (part_items lines line es) [] [] at es
-passed-begin lines line at es front none turns start_turn is start_is = record {
-  gap = [];
-  front = None;
-  before = None;
-  prev = token.White;
-  read = grind arith;
-  left = rw (front, start_turn, start_is) (search (rules, part_items-by_origin, spaced-inside));
-}

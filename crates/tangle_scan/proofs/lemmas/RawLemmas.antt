@@ -16,28 +16,21 @@ use Rattle.tangle_lexer.specs.declared.tokens.SpanKind.TheVariants as span_kind
 use Rattle.tangle_scan.specs.Rules.{texts_of}
 use Rattle.tangle_scan.specs.Web.{token_faults, raw_fault, quoted_ahead, word_at_end}
 
-size-suc : (bytes : List ℕ) (end : ℕ) → end < length bytes
-    → quoted_size (drop end bytes)
-    ≡ size_by (unit_of region.DoubleQuote (Some (get_or bytes end 0)) (slice_get bytes (suc end)))
-    (quoted_size (drop (suc end) bytes)) (quoted_size (drop (suc (suc end)) bytes))
-size-suc [] end h = absurd (omega arith)
-size-suc (b ∷ []) zero h = refl
-size-suc (b ∷ c ∷ bytes) zero h = refl
-size-suc (b ∷ bytes) (suc end) h = size-suc bytes end (omega arith)
-
 pub size_step : (bytes : List ℕ) (end : ℕ) → end < length bytes
     → quoted_size (drop end bytes)
     ≡ size_by (unit_of region.DoubleQuote (Some (get_or bytes end 0)) (slice_get bytes (end + 1)))
     (quoted_size (drop (end + 1) bytes)) (quoted_size (drop (end + 2) bytes))
-size_step bytes end h =
-    let one : end + 1 ≡ suc end = omega arith in
-    let two : end + 2 ≡ suc (suc end) = omega arith in
-    rw (one, two) (size-suc bytes end h)
+size_step [] end h = absurd (omega arith)
+size_step (b ∷ []) zero h = refl
+size_step (b ∷ c ∷ bytes) zero h = refl
+size_step (b ∷ bytes) (suc end) h =
+    let one : suc end + 1 ≡ suc (end + 1) = omega arith in
+    let two : suc end + 2 ≡ suc (end + 2) = omega arith in
+    rw (one, two) (size_step bytes end (omega arith))
 
 uncut : (files : FileTable) (lines : List SourceLine) (word : Option Span) (s : Span)
     → follows_r (texts_of lines) s ≡ false → raw_fault files lines word (Some s) ≡ []
-uncut files lines None s h = refl
-uncut files lines (Some w) s h = rw h refl
+uncut files lines x s h = grind arith
 
 no_raw_fault : (files : FileTable) (lines : List SourceLine) (word : Option Span) (es : List Token)
     → list_any (may_have_fault (texts_of lines)) es ≡ false → raw_fault files lines word (quoted_ahead es) ≡ []

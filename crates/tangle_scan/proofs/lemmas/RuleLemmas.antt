@@ -1,5 +1,5 @@
 use Rattle.std.proofs.Common.{arith}
-use Rattle.std.proofs.Common.{◌≡◌, ℕ, Bool, true, false, ◌||◌, List, [], ◌∷◌, ◌++◌, refl}
+use Rattle.std.proofs.Common.{◌≡◌, ℕ, Bool, true, false, ◌||◌, List, [], ◌∷◌, ◌++◌}
 use Rattle.std.proofs.Common.{◌&&◌, not, Option, Some, is_some, if◌then◌else◌}
 use Rattle.tangle_faults.specs.declared.faults.FaultKind.{FaultKind}
 use Rattle.tangle_lexer.specs.declared.tokens.Token.{Token}
@@ -32,7 +32,5 @@ macro_blanks-item texts in_name before white x es item = grind arith
 -- rule 2 at a gap and at another token
 
 pub has_join-push : (run : List Token) (e : Token) → has_join (run ++ e ∷ []) ≡ (has_join run || is_join e)
-has_join-push [] token.Join = refl
-has_join-push [] _ = refl
-has_join-push (token.Join ∷ es) e = refl
-has_join-push (_ ∷ es) e = has_join-push es e
+has_join-push [] x = grind arith
+has_join-push (x ∷ es) e = grind (arith, has_join-push es e)

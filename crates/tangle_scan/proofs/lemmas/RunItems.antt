@@ -24,11 +24,8 @@ use Rattle.tangle_scan.proofs.lemmas.RunTags.{part-by, front_byte, next_bytes}
 
 -- a token other than a run stands for itself
 pub unfolded-one : (texts : List (List ℕ)) (e : Token) → ((s : Span) → e ≡ token.Run s → ⊥)
-    → unfolded_token texts e ≡ e ∷ []
+    → (unfolded_token texts e ≡ e ∷ []) × (is_run e ≡ false)
 unfolded-one texts x other = grind arith
-
-pub no-run : (e : Token) → ((s : Span) → e ≡ token.Run s → ⊥) → is_run e ≡ false
-no-run x other = grind arith
 
 -- the last byte of a part
 
@@ -77,20 +74,6 @@ parts-end texts line column zero last (b ∷ bs) rest e is low h =
     (part-fits b bs)
     (part-ends texts line column b bs (front_byte texts line column b bs rest is))
 
--- the first part, a word or a sign, is read as one with what the run is read as one with
-first-merges : (texts : List (List ℕ)) (s : Span) (size b : ℕ) (ps : List RunPart) (e : Token) →
-    let p : RunPart = part_at s.line s.start size b in
-    first_byte texts s ≡ b → are_apart true true (p ∷ ps) ≡ true
-    → would_merge_in_run texts e (part_token p) ≡ would_merge_in_run texts e (token.Run s)
-first-merges texts s size b ps x is apart = search (rules, nat_tests)
-
--- the first part of a run may follow a macro's name if it is an opening parenthesis
-first-follows : (texts : List (List ℕ)) (s : Span) (size b : ℕ) (ps : List RunPart) →
-    let p : RunPart = part_at s.line s.start size b in
-    first_byte texts s ≡ b → are_apart true true (p ∷ ps) ≡ true
-    → may_follow_name texts (part_token p) ≡ (first_byte texts s == left_parenthesis)
-first-follows texts s size b ps is apart = grind (arith, nat_tests)
-
 -- what a run has by its first part, which begins with its first byte, and by its last part
 pub record HasEnds (texts : List (List ℕ)) (s : Span) : Type 0 where
   pub first : RunPart
@@ -111,11 +94,7 @@ run-ends texts s run =
     text = get_or texts s.line []
 
     size : s.start + length (span_text texts s) ≡ s.end
-    size = omega (
-      arith,
-      run.span.start,
-      length-take-le (s.end - s.start) (drop s.start text) (omega (arith, run.span.end, length-drop s.start text)),
-    )
+    size = grind (arith, run.span.start, run.span.end, length-take-le, length-drop)
 
     by : (bs rest : List ℕ) → drop s.start text ≡ bs ++ rest → s.start + length bs ≡ s.end → span_text texts s ≡ bs
         → are_apart true true (parts_of s.line s.start 0 bs) ≡ true → HasEnds texts s
@@ -124,12 +103,7 @@ run-ends texts s run =
         let m : ℕ = part_more b bs in
         let is = front_byte texts s.line s.start b bs rest all in
         let last : last_byte texts s ≡ get_or (b ∷ bs) (length bs) 0
-        = grind (
-          arith,
-          nat_tests,
-          get_or-drop s.start text (length bs) 0,
-          get_or_append_left (b ∷ bs) rest 0 (length bs) (omega arith),
-        ) in
+        = grind (arith, nat_tests, get_or-drop s.start text (length bs) 0, get_or_append_left (b ∷ bs) rest 0 (length bs)) in
         record {
           first = part_at s.line s.start (1 + m) b;
           others = parts_of s.line (s.start + 1) m bs;
@@ -137,8 +111,10 @@ run-ends texts s run =
           apart = apart;
           number = part-by (λ q. is_number_sign texts (part_item q) ≡ false) s.line s.start (1 + m) b
               (λ h. refl) (λ h. refl) (λ h other. refl) (λ h other. run.begins);
-          merges = λ e. first-merges texts s (1 + m) b (parts_of s.line (s.start + 1) m bs) e is apart;
-          follows = first-follows texts s (1 + m) b (parts_of s.line (s.start + 1) m bs) is apart;
+          -- the first part, a word or a sign, is read as one with what the run is read as one with
+          merges = λ x. search (rules, nat_tests);
+          -- it may follow a macro's name if it is an opening parenthesis
+          follows = grind (arith, nat_tests);
           last = rw last
               (parts-end texts s.line s.start 0 space (b ∷ bs) rest token.White all (omega arith) (white-ends texts));
         }

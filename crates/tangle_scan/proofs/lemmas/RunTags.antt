@@ -58,10 +58,6 @@ no_part (b ∷ bs) is = cc
 
 -- the items of a run have its bytes, and the tags of its parts
 
-tagged : (texts : List (List ℕ)) (p : RunPart) → length (bytes_in texts (part_item p)) ≡ (part_tag p).size
-    → tag_of texts (part_item p) ≡ part_tag p
-tagged texts x h = grind arith
-
 module _ (texts : List (List ℕ)) (line column b : ℕ) (bs rest : List ℕ)
     (is : drop column (get_or texts line []) ≡ b ∷ bs ++ rest) where
   abbrev more : ℕ
@@ -72,17 +68,11 @@ module _ (texts : List (List ℕ)) (line column b : ℕ) (bs rest : List ℕ)
 
   part_bytes : bytes_in texts (part_item p) ≡ b ∷ take more bs
   part_bytes =
-      part-by (λ q. bytes_in texts (part_item q) ≡ b ∷ take more bs) line column (1 + more) b
-      (λ blank. rw blank refl) (λ _. own) (λ _ _. own) (λ _ _. own)
-    where
-      size : column + (1 + more) - column ≡ suc more
-      size = omega arith
-
-      own : take (column + (1 + more) - column) (drop column (get_or texts line [])) ≡ b ∷ take more bs
-      own = rw (size, is) (ap (λ l. b ∷ l) (take-append-le more bs rest (part-fits b bs)))
+      let size : column + (1 + more) - column ≡ suc more = omega arith in
+      grind (arith, nat_tests, size, is, take-append-le more bs rest (part-fits b bs))
 
   part_tagged : tag_of texts (part_item p) ≡ part_tag p
-  part_tagged = search (rules, length-take-le, part-fits, tagged, part_bytes, part_size)
+  part_tagged = grind (arith, nat_tests, part_bytes, part_size line column b bs, length-take-le, part-fits b bs)
 
   pub front_byte : get_or (get_or texts line []) column 0 ≡ b
   front_byte = grind (arith, nat_tests, get_or-drop column (get_or texts line []) 0 0)
@@ -100,11 +90,9 @@ module _ (texts : List (List ℕ)) where
   parts_read line column (suc k) (b ∷ bs) rest is =
       parts_read line (column + 1) k bs rest (next_bytes texts line column b bs rest is)
   parts_read line column zero (b ∷ bs) rest is =
-      let m : ℕ = part_more b bs in
-      let after = parts_read line (column + 1) m bs rest (next_bytes texts line column b bs rest is) in (
-        rw (part_bytes texts line column b bs rest is, after.0) (ap (λ l. b ∷ l) (take-append-drop m bs)),
-        λ i. part_tagged texts line column b bs rest is i ∷ after.1 i,
-      )
+      let after = parts_read line (column + 1) (part_more b bs) bs rest (next_bytes texts line column b bs rest is) in
+      let front = part_bytes texts line column b bs rest is in
+      grind (arith, nat_tests, front, after, part_tagged texts line column b bs rest is, take-append-drop (part_more b bs) bs)
 
   pub run_read : (s : Span) →
       let items : List Item = map part_item (run_parts texts s) in

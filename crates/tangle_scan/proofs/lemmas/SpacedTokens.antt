@@ -1,16 +1,13 @@
 -- The items of spaced tokens of a macro.
-use Rattle.std.proofs.Common.{◌≡◌, ◌∙◌, ◌<◌, ◌+◌, ℕ, zero, suc, Bool, true, false, not, List, [], ◌∷◌, ◌++◌, replicate, refl, ap, sym, append_assoc}
+use Rattle.std.proofs.Common.{◌≡◌, ◌<◌, ◌+◌, ℕ, zero, suc, Bool, true, false, List, [], ◌∷◌, ◌++◌, replicate, refl, ap, append_assoc}
+use Rattle.std.proofs.Common.{rules, append-nil}
 use Rattle.std.proofs.Common.{arith, drop, get_or, length}
 use Rattle.std.specs.List.{All}
-use Rattle.std.proofs.lemmas.List.{flat_map_more}
 use Rattle.std.proofs.lemmas.List.Elements.{All-append, All-cons, All-replicate}
 use Rattle.std.proofs.lemmas.List.Concat.{flat_map-append}
 use Rattle.tangle_lexer.specs.declared.tokens.Token.{Token}
 use Rattle.tangle_lexer.specs.declared.tokens.Token.TheVariants as token
 use Rattle.tangle_lexer.specs.Runs.{IsRunIn}
-use Rattle.tangle_lexer.specs.SpanBytes.{first_byte}
-use Rattle.tangle_lexer.specs.declared.tokens.SpanKind.TheVariants as span_kind
-use Rattle.tangle_text.specs.Bytes.{is_digit}
 use Rattle.tangle_scan.specs.Rules.{is_macro}
 use Rattle.tangle_scan.specs.declared.items.Item.{Item}
 use Rattle.tangle_scan.specs.declared.items.Item.TheVariants as item
@@ -24,8 +21,7 @@ module _ (texts : List (List ℕ)) where
   ends-items (suc n) = ap (λ t. item.LineEnd ∷ t) (ends-items n)
 
   gap-items : (blank : Bool) (n : ℕ) → spaced_items texts (gap_tokens blank n) ≡ blank_if blank ++ replicate n item.LineEnd
-  gap-items true n = ap (λ t. item.Blank ∷ t) (ends-items n)
-  gap-items false n = ends-items n
+  gap-items x n = grind (arith, ends-items n)
 
   module _ (ts : List Token) where
     pub gap-pushed : (blank : Bool) (n : ℕ) → spaced_items texts (ts ++ gap_tokens blank n)
@@ -33,32 +29,20 @@ module _ (texts : List (List ℕ)) where
     gap-pushed blank n = grind (arith, flat_map-append, gap-items)
 
     pub gap-runs : (blank : Bool) (n : ℕ) → All (IsRunIn texts) ts → All (IsRunIn texts) (ts ++ gap_tokens blank n)
-    gap-runs true n all =
-        All-append (IsRunIn texts) ts _ all
-        (All-cons (IsRunIn texts) token.White _ tt (All-replicate (IsRunIn texts) n (token.LineEnd 0) tt))
-    gap-runs false n all = All-append (IsRunIn texts) ts _ all (All-replicate (IsRunIn texts) n (token.LineEnd 0) tt)
+    gap-runs true n all = search (rules, All-append, All-cons, All-replicate)
+    gap-runs false n all = search (rules, All-append, All-replicate)
 
     pub token-pushed : (blank : Bool) (n : ℕ) (t : Token) → spaced_items texts ((ts ++ gap_tokens blank n) ++ t ∷ [])
         ≡ spaced_items texts ts ++ ((blank_if blank ++ replicate n item.LineEnd) ++ written_items texts t)
-    token-pushed blank n t =
-        sym (flat_map_more (written_items texts) [] (ts ++ gap_tokens blank n) t)
-        ∙ (ap (λ l. l ++ written_items texts t) (gap-pushed blank n) ∙ append_assoc (spaced_items texts ts) _ _)
-
-  -- whether a macro begins with an identifier, by its first token, and by the items of the others
-  abbrev by_first : Token → List Item → Bool
-  by_first (token.Span span_kind.Word s) items = not (is_digit (first_byte texts s))
-  by_first (token.Span kind s) items = false
-  by_first token.White items = false
-  by_first (token.LineEnd line) items = false
-  by_first (token.QuoteBreak line) items = false
-  by_first (token.AsciiConstant value line) items = false
-  by_first _ items = is_macro texts items
+    token-pushed blank n t = grind (arith, flat_map-append, gap-pushed, append_assoc, append-nil)
 
   first-token : (t : Token) (items : List Item) → IsRunIn texts t
-      → is_macro texts (written_items texts t ++ items) ≡ by_first (first_token texts t) items
+      → is_macro texts (written_items texts t ++ items) ≡ is_macro texts (written_items texts (first_token texts t) ++ items)
   first-token x items run = grind arith
 
+  -- a macro begins with an identifier if its first token does
   pub macro_by_first : (tokens : List Token) (i : ℕ) → i < length tokens → All (IsRunIn texts) tokens
       → is_macro texts (spaced_items texts (drop i tokens))
-      ≡ by_first (first_token texts (get_or tokens i token.Section)) (spaced_items texts (drop (i + 1) tokens))
+      ≡ is_macro texts (written_items texts (first_token texts (get_or tokens i token.Section))
+      ++ spaced_items texts (drop (i + 1) tokens))
   macro_by_first tokens i low runs = grind (arith, split-at, first-token)

@@ -2,7 +2,7 @@
 use Rattle.std.proofs.Common.{rules}
 use Rattle.std.proofs.lemmas.Bool.Decides.{nat_tests}
 use Rattle.std.proofs.Common.{arith}
-use Rattle.std.proofs.Common.{◌≡◌, ℕ, Bool, true, false, List, [], ◌∷◌, ◌++◌, refl, ap, ◌∙◌}
+use Rattle.std.proofs.Common.{◌≡◌, ℕ, Bool, true, false, List, [], ◌∷◌, ◌++◌, refl}
 use Rattle.std.proofs.Common.{if◌then◌else◌, append_assoc, append-nil}
 use Rattle.std.specs.List.{list_all}
 use Rattle.tangle_lexer.specs.declared.tokens.Token.{Token}
@@ -39,54 +39,31 @@ item-spaced texts first e es h = grind (arith, nat_tests, inside-spaced)
 
 -- rule 2 at a gap, of which `run` was read, and at the item after it
 
-run-more : (texts : List (List ℕ)) (first : Bool) (run : List Token) (e : Token) (es ahead : List Token)
-    → is_gap e ≡ true → white_inner_end e ≡ e →
-    without_joins (run ++ e ∷ []) (spaced_from texts first es) ≡ left_of_run ((run ++ e ∷ []) ++ gap_before es) ++ ahead →
-    without_joins run (spaced_from texts first (e ∷ es)) ≡ left_of_run (run ++ e ∷ gap_before es) ++ ahead
-run-more texts first run e es ahead h same more = search (rules, append_assoc)
-
 run-ahead : (texts : List (List ℕ)) (first : Bool) (run es : List Token)
     → without_joins run (spaced_from texts first es)
     ≡ left_of_run (run ++ gap_before es) ++ joined_from texts first (from_item es)
-run-ahead texts true run [] = rw (append-nil run, append-nil (left_of_run run)) refl
-run-ahead texts false run [] = rw (append-nil run, append-nil (left_of_run run)) refl
-run-ahead texts first run (token.Fault kind line ∷ es) = run-ahead texts first run es
-run-ahead texts first run (token.Join ∷ es) =
-    run-more texts first run token.Join es _ refl refl (run-ahead texts first (run ++ token.Join ∷ []) es)
-run-ahead texts first run (token.White ∷ es) =
-    run-more texts first run token.White es _ refl refl (run-ahead texts first (run ++ token.White ∷ []) es)
-run-ahead texts first run (token.InnerLineEnd line ∷ es) =
-    run-more texts first run token.White es _ refl refl (run-ahead texts first (run ++ token.White ∷ []) es)
-run-ahead texts first run (token.LineEnd line ∷ es) =
-    run-more texts first run (token.LineEnd line) es _ refl refl (run-ahead texts first (run ++ token.LineEnd line ∷ []) es)
-run-ahead texts first run (e ∷ es) = rw (append-nil run, item-spaced texts first e es refl) refl
+run-ahead texts first run [] = grind (arith, append-nil)
+run-ahead texts first run (e ∷ es) =
+    let more = λ (r : List Token). run-ahead texts first r es in
+    grind (arith, nat_tests, append-nil, append_assoc, item-spaced, gap-spaced, more)
 
 -- of the gap before the first item nothing is left
 pub macro-begin : (texts : List (List ℕ)) (es : List Token)
     → macro_tokens texts es ≡ joined_from texts true (from_item es)
 macro-begin texts [] = refl
-macro-begin texts (token.Join ∷ es) =
-    ap (without_joins []) (gap-spaced texts true token.Join es refl refl) ∙ run-ahead texts true (token.Join ∷ []) es
-macro-begin texts (e ∷ es) = search (rules, macro-begin texts es)
+macro-begin texts (e ∷ es) = search (rules, macro-begin texts es, run-ahead texts true (token.Join ∷ []))
 
 -- what is left of a gap, and the tokens from the item after it on
 
 left-ahead : (texts : List (List ℕ)) (first : Bool) (before : Token) (es : List Token)
     → without_joins [] (with_white_space texts first before (clean_tokens es))
     ≡ left_gap texts first before es ++ joined_from texts false (from_item es)
-left-ahead texts first before es =
-    ap (without_joins []) (spaced es) ∙ (opened (is_spaced texts first before es) ∙ run-ahead texts false _ es)
+left-ahead texts first before es = grind (arith, nat_tests, spaced es, run-ahead texts false)
   where
     spaced : (es : List Token) → with_white_space texts first before (clean_tokens es)
         ≡ (if is_spaced texts first before es then token.White ∷ [] else []) ++ with_spaces texts (clean_tokens es)
     spaced [] = search rules
-    spaced (token.Fault kind line ∷ es) = cc (spaced es)
-    spaced (token.InnerLineEnd line ∷ es) = search (rules, inside-spaced)
-    spaced (e ∷ es) = search (rules, inside-spaced)
-
-    opened : (b : Bool) → without_joins [] ((if b then token.White ∷ [] else []) ++ with_spaces texts (clean_tokens es))
-        ≡ without_joins (if b then token.White ∷ [] else []) (with_spaces texts (clean_tokens es))
-    opened x = search rules
+    spaced (e ∷ es) = search (rules, inside-spaced, spaced es)
 
 pub item-ahead : (texts : List (List ℕ)) (first : Bool) (e : Token) (es : List Token) → is_solid e ≡ true
     → joined_from texts first (e ∷ es) ≡ e ∷ (left_gap texts first e es ++ joined_from texts false (from_item es))

@@ -1,6 +1,6 @@
 -- Items and runs are put at the end of a text, and a text is cut back.
 use Rattle.std.proofs.Common.{rules}
-use Rattle.std.proofs.Common.{◌≡◌, ◌≤◌, ℕ, ◌+◌, List, [], ◌∷◌, ◌++◌, map, length, take, drop, refl, sym, subst}
+use Rattle.std.proofs.Common.{◌≡◌, ◌≤◌, ℕ, ◌+◌, List, [], ◌∷◌, ◌++◌, map, length, drop, refl}
 use Rattle.std.proofs.Common.{append_assoc, append-nil, arith, length-append, length-drop}
 use Rattle.std.specs.Prelude.{flat_map}
 use Rattle.std.proofs.lemmas.List.{map-append, take_all, take-append-le, drop-append-le}
@@ -10,15 +10,13 @@ use Rattle.tangle_text.specs.Runs.{run_parts}
 use Rattle.tangle_text.specs.Text.{span_text}
 use Rattle.tangle_text.specs.declared.spans.Span.{Span}
 use Rattle.tangle_text.specs.declared.runs.RunPart.{RunPart}
-use Rattle.tangle_files.specs.Bytes.{space}
 use Rattle.tangle_scan.specs.declared.items.Item.{Item}
-use Rattle.tangle_scan.specs.declared.items.Item.TheVariants as item
 use Rattle.tangle_scan.specs.declared.texts.ItemKind.TheVariants as tag
 use Rattle.tangle_scan.specs.declared.texts.ItemTag.{ItemTag}
 use Rattle.tangle_scan.specs.declared.texts.TextSize.{TextSize}
 use Rattle.tangle_scan.specs.ItemBytes.{bytes_in}
 use Rattle.tangle_scan.specs.Passes.{HasSize, cut_to, size_of}
-use Rattle.tangle_scan.specs.Texts.{TextRead, IsTextOf, item_kind, item_origins, item_uses, no_text, part_item, tag_of}
+use Rattle.tangle_scan.specs.Texts.{TextRead, IsTextOf, item_origins, item_uses, no_text, part_item, tag_of}
 use Rattle.tangle_scan.specs.Texts.{with_items, with_run}
 use Rattle.tangle_scan.specs.UnfoldedTags.{StandFor, kind_tags, tag_sizes, unfolded_tags}
 use Rattle.tangle_scan.proofs.lemmas.RunTags.{run_read}
@@ -31,12 +29,8 @@ unfolded_append [] more [] rest h = refl
 unfolded_append [] more (b ∷ bytes) rest h = absurd (omega (arith, h))
 unfolded_append (t ∷ tags) more bytes rest h =
     let within : t.size ≤ length bytes = omega (arith, h) in
-    rw (
-      take-append-le t.size bytes rest within,
-      drop-append-le t.size bytes rest within,
-      unfolded_append tags more (drop t.size bytes) rest (omega (arith, h, length-drop t.size bytes)),
-    )
-    (sym (append_assoc (kind_tags t.kind t (take t.size bytes)) _ _))
+    let after = unfolded_append tags more (drop t.size bytes) rest (omega (arith, h, length-drop t.size bytes)) in
+    grind (arith, take-append-le t.size bytes rest within, drop-append-le t.size bytes rest within, after, append_assoc)
 
 sizes_append : (tags more : List ItemTag) → tag_sizes (tags ++ more) ≡ tag_sizes tags + tag_sizes more
 sizes_append [] more = omega arith
@@ -48,10 +42,8 @@ stand_none = record { are = refl; sizes = refl }
 pub stand_append : (tags tags' : List ItemTag) (bytes bytes' : List ℕ) (unfolded unfolded' : List ItemTag)
     → StandFor tags bytes unfolded → StandFor tags' bytes' unfolded'
     → StandFor (tags ++ tags') (bytes ++ bytes') (unfolded ++ unfolded')
-stand_append tags tags' bytes bytes' unfolded unfolded' one other = record {
-  are = rw (unfolded_append tags tags' bytes bytes' one.sizes, one.are, other.are) refl;
-  sizes = omega (arith, sizes_append tags tags', length-append bytes bytes', one.sizes, other.sizes);
-}
+stand_append tags tags' bytes bytes' unfolded unfolded' one other =
+    grind (arith, unfolded_append tags tags' bytes bytes', sizes_append, length-append)
 
 -- one tag, with its bytes
 pub stand_one : (t : ItemTag) (bytes : List ℕ) → t.size ≡ length bytes → StandFor (t ∷ []) bytes (kind_tags t.kind t bytes)
@@ -73,11 +65,7 @@ module _ (texts : List (List ℕ)) where
 
   -- the tag of an item stands for itself
   item-stands : (x : Item) → StandFor (tag_of texts x ∷ []) (bytes_in texts x) (tag_of texts x ∷ [])
-  item-stands x = subst (StandFor (tag_of texts x ∷ []) (bytes_in texts x)) (itself x)
-      (stand_one (tag_of texts x) (bytes_in texts x) refl)
-    where
-      itself : (x : Item) → kind_tags (item_kind x) (tag_of texts x) (bytes_in texts x) ≡ tag_of texts x ∷ []
-      itself x = grind arith
+  item-stands x = grind (arith, stand_one (tag_of texts x) (bytes_in texts x) refl)
 
   items-stand : (items : List Item)
       → StandFor (map (tag_of texts) items) (flat_map (bytes_in texts) items) (map (tag_of texts) items)
@@ -123,16 +111,7 @@ module _ (texts : List (List ℕ)) where
 
   pub size-more : (size : TextSize) (text : TextRead) (items : List Item) → HasSize size text
       → HasSize size (with_items texts text items)
-  size-more size text items h = record {
-    tags = omega (arith, h.tags, length-append text.tags (map (tag_of texts) items));
-    bytes = omega (arith, h.bytes, length-append text.bytes (flat_map (bytes_in texts) items));
-    marks = omega (arith, h.marks, length-append text.marks (flat_map item_origins items));
-  }
+  size-more size text items h = grind (arith, length-append)
 
   pub size-own : (text : TextRead) (items : List Item) → HasSize (size_of text) (with_items texts text items)
   size-own text items = size-more (size_of text) text items (record { tags = omega arith; bytes = omega arith; marks = omega arith })
-
-  pub blank-added : (text : TextRead)
-      → record text { tags = text.tags ++ record { kind = tag.Blank; size = 1 } ∷ []; bytes = text.bytes ++ space ∷ [] }
-      ≡ with_items texts text (item.Blank ∷ [])
-  blank-added text = rw (append-nil text.uses, append-nil text.marks) refl

@@ -13,11 +13,10 @@ use Rattle.tangle_text.specs.Runs.{run_parts}
 use Rattle.tangle_lexer.specs.declared.tokens.Token.{Token}
 use Rattle.tangle_lexer.specs.declared.tokens.Token.TheVariants as token
 use Rattle.tangle_lexer.specs.declared.tokens.SpanKind.{SpanKind}
-use Rattle.tangle_lexer.specs.declared.tokens.SpanKind.TheVariants as span_kind
 use Rattle.tangle_lexer.specs.Heads.{is_head}
 use Rattle.tangle_lexer.specs.Runs.{first_is_alone, part_token, unfolded_token, unfolded}
 use Rattle.tangle_scan.specs.Web.{is_all_macros}
-use Rattle.std.proofs.Common.{ℕ, suc, true, ◌++◌, ap, None, is_some}
+use Rattle.std.proofs.Common.{ℕ, suc, true, ◌++◌, None, is_some}
 use Rattle.std.specs.List.{All}
 use Rattle.std.proofs.lemmas.List.Elements.{All-tail}
 use Rattle.tangle_text.specs.Runs.{are_apart}
@@ -55,12 +54,8 @@ parts-faults : (files : FileTable) (lines : List SourceLine) (after_space after_
 parts-faults files lines after_space after_word e [] ts h may = refl
 parts-faults files lines after_space after_word e (part.Space ∷ xs) ts h may =
     grind (arith, parts-faults files lines true false token.White xs ts)
-parts-faults files lines after_space after_word e (part.Word s ∷ xs) ts h may =
-    grind (arith, parts-faults files lines false true (token.Span span_kind.Word s) xs ts)
-parts-faults files lines after_space after_word e (part.Quoted s ∷ xs) ts h may =
-    grind (arith, parts-faults files lines false false (token.Span span_kind.Quoted s) xs ts)
-parts-faults files lines after_space after_word e (part.Sign s ∷ xs) ts h may =
-    grind (arith, parts-faults files lines false false (token.Span span_kind.Sign s) xs ts)
+parts-faults files lines after_space after_word e (x ∷ xs) ts h may =
+    let more = λ (word : Bool). parts-faults files lines false word (part_token x) xs ts in grind (arith, more true, more false)
 
 -- a run has parts
 first-last : (e : Token) (xs : List RunPart) → are_apart true true xs ≡ true → last_of e xs ≡ last_of token.White xs
@@ -78,8 +73,7 @@ ahead-unfolded : (lines : List SourceLine) (ts : List Token) → All (IsRunIn (t
 ahead-unfolded lines [] runs = refl
 ahead-unfolded lines (token.Run s ∷ ts) runs =
     ahead-parts (run_parts (texts_of lines) s) _ (runs 0 (token.Run s) (omega arith)).apart
-ahead-unfolded lines (token.Fault kind line ∷ ts) runs = ahead-unfolded lines ts (λ k d low. runs (suc k) d (omega arith))
-ahead-unfolded lines (t ∷ ts) runs = grind arith
+ahead-unfolded lines (t ∷ ts) runs = grind (arith, ahead-unfolded lines ts (λ k d low. runs (suc k) d (omega arith)))
 
 -- `before` is the last token before these
 pub faults-unfolded : (files : FileTable) (lines : List SourceLine) (before : Token) (ts : List Token)
@@ -88,10 +82,8 @@ pub faults-unfolded : (files : FileTable) (lines : List SourceLine) (before : To
 faults-unfolded files lines before [] runs = refl
 faults-unfolded files lines before (token.Run s ∷ ts) runs =
     let run = runs 0 (token.Run s) (omega arith) in
-    let parts = run_parts (texts_of lines) s in
-    parts-faults files lines true true before parts (unfolded (texts_of lines) ts) run.apart (λ _. refl)
-    ∙ (ap (λ e. token_faults files lines (word_of e) (unfolded (texts_of lines) ts)) (first-last before parts run.apart)
-    ∙ (faults-unfolded files lines (last_of token.White parts) ts (λ k d low. runs (suc k) d (omega arith)) ∙ grind arith))
+    let more = All-tail (IsRunIn (texts_of lines)) (token.Run s) ts runs in
+    grind (arith, parts-faults files lines true true before, first-last before, run.apart, λ (e : Token). faults-unfolded files lines e ts more)
 faults-unfolded files lines before (t ∷ ts) runs =
     rw (ahead-unfolded lines (t ∷ ts) runs, faults-unfolded files lines t ts (λ k d low. runs (suc k) d (omega arith))) refl
 

@@ -10,9 +10,7 @@ flags_more : (P : ℕ → Type 0) (flags : List Bool) (n : ℕ) (flag : Bool)
 flags_more P flags n flag size old says k h = search (rules, get_or_push, get_or_append_left)
 
 pub loop-n-preserved : goal.loop-n-preserved
-loop-n-preserved c =
-    rw c.in_ok-push.ensures.items (record {
-      size = omega (arith, length_push c.loop-n.flags.items c.in_ok-flag.flag, c.loop-n.invariant.size);
-      flags = flags_more _ c.loop-n.flags.items c.loop-n.n
-          c.in_ok-flag.flag c.loop-n.invariant.size c.loop-n.invariant.flags c.in_ok-flag.ensures;
-    })
+loop-n-preserved c = rw c.in_ok-push.ensures.items (record {
+  size = omega (arith, length_push c.loop-n.flags.items c.in_ok-flag.flag, c.loop-n.invariant.size);
+  flags = flags_more _ _ _ _ c.loop-n.invariant.size c.loop-n.invariant.flags c.in_ok-flag.ensures;
+})

@@ -4,5 +4,5 @@ use Rattle.digraph.proofs.PassLemmas.{Passed}
 use Rattle.digraph.proofs.reach.find_each.Given as goal
 
 abbrev pub invariant-loop-n : goal.invariant-loop-n
-invariant-loop-n l = Passed (IsFinding l.uses l.target l.found) (IsDecided l.uses l.target l.found)
-    (unflagged l.initial.found) (unflagged l.found) l.any l.n
+invariant-loop-n l = Passed (IsFinding l.uses l.target) (IsDecided l.uses l.target) unflagged
+    (unflagged l.initial.found) l.found l.any l.n

@@ -1,15 +1,13 @@
 use Rattle.std.proofs.Common.{rules}
 use Rattle.std.proofs.Common.{refl, arith}
 use Rattle.tangle_expansion.proofs.CursorLemmas.{passes_symbols, passes_use, stops_at_end}
-use Rattle.tangle_expansion.proofs.WriteLemmas.{wrote_at_first, wrote_more, wrote_same}
+use Rattle.tangle_expansion.proofs.WriteLemmas.{wrote_more}
 use Rattle.tangle_expansion.proofs.writing.write_to_use.Goals as goal
 
 pub loop-end-init : goal.loop-end-init
-loop-end-init g c = record {
-  low = c.after_bytes-end.ensures.start;
-  wrote = λ used. wrote_same _ _ _ _ _ _ _ (wrote_at_first _ _ _)
-      (c.after_bytes-end.ensures.text c.args.text.now.numbers.now used);
-}
+loop-end-init g c =
+    let text = c.after_bytes-end.ensures.text c.args.text.now.numbers.now in
+    record { low = c.after_bytes-end.ensures.start; wrote = λ used last all more. rw (text used) more }
 
 pub returns-in-Use : goal.returns-in-Use
 returns-in-Use g c = λ used.
@@ -22,13 +20,14 @@ loop-end-preserved g c =
     let text = c.args.text.now in
     record {
       low = c.after_bytes-end-in-loop-end.ensures.start;
-      wrote = λ used. wrote_same _ _ _ _ _ _ _
-          (wrote_more _ _ _ _ _ _ _ _ _ _
+      wrote = λ used last all more.
+          wrote_more _ _ _ _ _ _ _ _ _ _
           (wrote_more _ _ _ _ _ _ _ _ _ _ (c.loop-end.invariant.wrote used)
           (passes_symbols text.numbers.now text.body.now c.loop-end.end c.cursor_after-next.result c.index-tag.result.now (omega arith)
           c.index-tag.ensures c.cursor_after-next.ensures c.loop-end.at.start c.loop-end.invariant.low c.in_default.not-Use used)
-          (rw (c.bytes_between-bytes.ensures, c.deref.ensures.value) at c.write_after-so_far.ensures)) refl c.write_symbols-so_far.ensures)
-          (c.after_bytes-end-in-loop-end.ensures.text text.numbers.now used);
+          (rw (c.bytes_between-bytes.ensures, c.deref.ensures.value) at c.write_after-so_far.ensures))
+          refl c.write_symbols-so_far.ensures last all
+          (rw (c.after_bytes-end-in-loop-end.ensures.text text.numbers.now used) more);
     }
 
 pub returns : goal.returns

@@ -6,9 +6,6 @@ use Rattle.tangle_files.proofs.TableLemmas.{map-set_value}
 use Rattle.tangle_files.proofs.TableLemmas.{lines_of-entries}
 use Rattle.tangle_files.proofs.splicing.splice_lines.Goals as goal
 
-pub splice_shared-requires-clause-within : goal.splice_shared-requires-clause-within
-splice_shared-requires-clause-within c = search (rules, lines_of-entries)
-
 pub returns-in-Some-clause-ok : goal.returns-in-Some-clause-ok
 returns-in-Some-clause-ok c =
     let w = c.splice_shared.new.shared in
@@ -23,6 +20,3 @@ returns-in-Some-clause-err c =
     ap (map file_of) (c.get_mut.follows.holds w).0 ∙ map-set_value c.args.file.now c.args.table.now.entries w in
     on_err_weaker c.splice_shared.result (λ same. set ∙ search (rules, lines_of-entries, set_value_same))
     c.splice_shared.ensures.err
-
-pub returns-in-None-clause-ok : goal.returns-in-None-clause-ok
-returns-in-None-clause-ok c = search (rules, lines_of-entries)

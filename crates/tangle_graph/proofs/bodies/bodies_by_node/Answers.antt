@@ -5,8 +5,7 @@ use Rattle.std.specs.Global.{Global}
 use Rattle.std.specs.declared.rc.Rc.{Rc}
 use Rattle.std.proofs.lemmas.List.{length-map}
 use Rattle.tangle_bodies.specs.declared.nodes.NodeBody.{NodeBody}
-use Rattle.tangle_graph.proofs.PushLemmas.{IsBodyMade, bodies_push, each_read, new_of_old}
-use Rattle.tangle_graph.specs.Bodies.{node_bodies}
+use Rattle.tangle_graph.proofs.PushLemmas.{IsBodyMade, bodies_push, new_of_old}
 use Rattle.tangle_graph.proofs.bodies.bodies_by_node.Goals as goal
 
 pub loop-n-preserved : goal.loop-n-preserved
@@ -30,8 +29,7 @@ returns-clause-bodies c =
     let count = length-map bodies (λ (t : Rc NodeBody Global). t.value) in
     record {
       size = search rules;
-      each = λ node body at. (each_read (IsBodyMade c.args.grouped c.args.old) (node_bodies bodies)
-          c.loop-n.new_shapes.items c.loop-n.invariant.each node body at).0;
+      each = λ node body at. (c.loop-n.invariant.each node body at).0;
     }
 
 pub returns-clause-new_shapes : goal.returns-clause-new_shapes

@@ -39,9 +39,8 @@ share_old-requires c =
       edit = (
         shapes,
         is,
-        unaffected c.args.new.now c.order-order.result.now c.in_ok-flags.flags.items shapes c.node-item.result is.after
-            c.order-order.ensures here
-            (c.in_ok-flags.ensures c.args.old.now shapes.old shapes.new c.requires.new_shapes is.before is.after)
+        unaffected _ _ _ shapes _ is.after c.order-order.ensures here
+            (c.in_ok-flags.ensures _ _ _ c.requires.new_shapes is.before is.after)
             (sym c.expandable.ensures ∙ c.if-expandable.true)
             (rw c.deref.ensures.value at (sym c.is_flagged.ensures ∙ c.if-is_flagged.false)),
       );
@@ -76,16 +75,17 @@ loop-node-preserved c =
           record {
             kept = λ shapes is. rw w.kept-is
                 (kept_more is.after ordered i h node at _ _ on (kept shapes is)
-                (λ _. subst (PutsKept c.loop-node.kept w.put.new.self node) (w.in_ok-share.ensures shapes is
-                (unaffected new order flags shapes node is.after ordered (i, h, sym at)
-                (c.in_ok-flags.ensures c.args.old.now shapes.old shapes.new c.requires.new_shapes is.before is.after)
-                on off)) w.in_ok-put.ensures.ok));
+                (λ _. rw (w.in_ok-share.ensures shapes is
+                (unaffected _ _ _ shapes _ is.after ordered (i, h, sym at)
+                (c.in_ok-flags.ensures _ _ _ c.requires.new_shapes is.before is.after) on off))
+                at w.in_ok-put.ensures.ok));
             work = listed_more listed order i node false _ _ _ h at (λ j. on j && off j) c.loop-node.invariant.work
                 (w.work-is ∙ sym (append-nil c.loop-node.work));
           })
       | else-expandable w ↦ (let off = sym c.expandable.ensures ∙ w.if-expandable.false in
           record {
-            kept = λ shapes is. rw w.kept-is (kept_same is.after ordered i h node at _ off (kept shapes is));
+            kept = λ shapes is. rw w.kept-is
+                (kept_same is.after ordered i h node at c.loop-node.kept off (kept shapes is));
             work = listed_more listed order i node false _ _ _ h at (λ j. off j && flag_at flags node)
                 c.loop-node.invariant.work (w.work-is ∙ sym (append-nil c.loop-node.work));
           })

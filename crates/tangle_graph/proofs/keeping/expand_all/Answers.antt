@@ -27,7 +27,8 @@ loop-node-preserved c =
           })
       | else-expandable w ↦ (let flag = sym c.expandable.ensures ∙ w.if-expandable.false in
           record {
-            kept = λ shapes is. rw w.kept-is (kept_same is ordered i h node at _ flag (kept shapes is));
+            kept = λ shapes is. rw w.kept-is
+                (kept_same is ordered i h node at c.loop-node.kept flag (kept shapes is));
             work = listed_more (is_expandable_at store) order i node false _ _ _ h at flag c.loop-node.invariant.work
                 (w.work-is ∙ sym (append-nil c.loop-node.work));
           })

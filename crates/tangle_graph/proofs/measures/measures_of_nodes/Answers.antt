@@ -1,5 +1,6 @@
 use Rattle.std.proofs.Common.{rules}
 use Rattle.std.proofs.Common.{◌≡◌, ◌∙◌, ◌<◌, ◌≤◌, ℕ, List, false, map, ap, arith, get_or, length, length-set, subst, suc}
+use Rattle.std.proofs.Common.{get_or-set_other, get_or-set_same, set}
 use Rattle.std.proofs.lemmas.List.{get_or-replicate, get_or_read, length-replicate, take_all}
 use Rattle.std.specs.Prelude.{Contains}
 use Rattle.digraph.specs.Graph.{Graph, HasUse, InRange}
@@ -15,12 +16,12 @@ use Rattle.tangle_graph.specs.Bodies.{AreBodiesOf, node_bodies}
 use Rattle.tangle_graph.specs.NameGraphs.{AreUsesOf}
 use Rattle.tangle_bodies.specs.Shapes.{Shapes}
 use Rattle.tangle_bodies.specs.declared.nodes.NodeBody.{NodeBody}
-use Rattle.tangle_graph.specs.Measures.{measure_at, measure_of}
+use Rattle.tangle_graph.specs.Measures.{measure_at, measure_of, no_piece_measure}
 use Rattle.tangle_graph.specs.declared.measures.Measure.{Measure}
 use Rattle.tangle_graph.proofs.BodyLemmas.{read}
 use Rattle.tangle_graph.proofs.GraphLemmas.{sound, use_up, uses_count}
 use Rattle.tangle_expansion.proofs.UsedLemmas.{deeper, heavier}
-use Rattle.tangle_graph.proofs.OrderLemmas.{measured_next}
+use Rattle.tangle_graph.proofs.FlagLemmas.{value_next}
 use Rattle.tangle_graph.proofs.StepLemmas.{measure_beyond}
 use Rattle.tangle_graph.proofs.measures.measures_of_nodes.Goals as goal
 
@@ -62,23 +63,28 @@ loop-node-preserved c =
     let after_uses = c.requires.order.after_uses in
     let number : n ≡ get_or order i 0 = c.number-n.ensures ∙ get_or_read _ _ _ h c.node-item.is 0 in
     let low : n < length uses = omega (arith, number, after_uses.nodes i 0 h) in
+    let values = c.loop-node.measures.items in
+    let made = c.measure_of_node.result in
     record {
-      size = length-set c.loop-node.measures.items n c.measure_of_node.result ∙ c.loop-node.invariant.size;
+      size = length-set values n made ∙ c.loop-node.invariant.size;
       measured = λ shapes names bodies m room into. (
           let all = node_bodies c.args.bodies.now in
           let body = c.index-bodies-n.result in
           let at = read c.args.bodies.now n body (omega (arith, low, c.requires.size)) c.index-bodies-n.is in
           let is = bodies.each n body.value at in
           let measured = c.loop-node.invariant.measured shapes names bodies in
-          measured_next (λ k. measure_of shapes (title_at names k)) c.loop-node.measures.items order i n
-          c.measure_of_node.result h number (omega (arith, low, c.loop-node.invariant.size))
-          (c.measure_of_node.ensures shapes names (title_at names n) (rw c.deref-in-loop-node.ensures is.shape)
+          value_next order i n h (c.number-n.ensures ∙ get_or_read _ _ _ h c.node-item.is n)
+          (λ k. measure_at values k ≡ measure_of shapes (title_at names k))
+          (λ k. measure_at (set values n made) k ≡ measure_of shapes (title_at names k))
+          (λ k other was. get_or-set_other values n k made no_piece_measure other ∙ was)
+          (get_or-set_same values n made _ (omega (arith, low, c.loop-node.invariant.size))
+          ∙ c.measure_of_node.ensures shapes names _ (rw c.deref-in-loop-node.ensures is.shape)
           (λ id used. (
           let c_used = rw c.deref-in-loop-node.ensures at used in
           let u = use_up shapes names all uses bodies c.requires.uses n id body.value at c_used in
           rw c.deref.ensures.value (measured (suc id) (use_in uses c.requires.range n (suc id) u)
           (λ _. after_uses.after i (suc id) h (subst (λ k. HasUse uses k (suc id)) number u))))))
-          m (measured m room) into);
+          (Contains order m) m (measured m room) into);
     }
 
 pub returns-clause-measures : goal.returns-clause-measures

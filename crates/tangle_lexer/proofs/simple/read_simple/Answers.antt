@@ -1,7 +1,6 @@
 use Rattle.std.proofs.Common.{rules}
-use Rattle.std.proofs.Common.{sym, subst, arith}
+use Rattle.std.proofs.Common.{arith}
 use Rattle.tangle_lexer.specs.Lexemes.{with_line}
-use Rattle.tangle_lexer.specs.Reads.{ReadsOn}
 use Rattle.tangle_lexer.proofs.lemmas.BlockLemmas.{reads-trans}
 use Rattle.tangle_lexer.proofs.simple.read_simple.Goals as goal
 
@@ -18,6 +17,4 @@ loop-simple-preserved c =
     }
 
 pub returns-clause-read : goal.returns-clause-read
-returns-clause-read c = λ lines ours.
-    subst (λ t. ReadsOn lines c.args.tokens.now.items c.loop-simple.tokens.items c.args.from t
-    c.args.reader.now c.loop-simple.here) (sym c.with_line.ensures) (c.loop-simple.invariant.read lines ours)
+returns-clause-read c = λ lines ours. rw c.with_line.ensures (c.loop-simple.invariant.read lines ours)

@@ -1,12 +1,10 @@
 use Rattle.tangle_text.specs.Text.{Cell}
 use Rattle.std.proofs.Common.{rules}
-use Rattle.std.proofs.Common.{◌≡◌, true, length, ap, sym, ◌∙◌, subst, arith, length-drop}
+use Rattle.std.proofs.Common.{◌≡◌, true, length, ap, sym, ◌∙◌, arith, length-drop}
 use Rattle.tangle_text.specs.Text.{byte_at}
 use Rattle.tangle_text.proofs.TakenLemmas.{run_at-is, run_at-empty}
 use Rattle.tangle_lexer.specs.Lexemes.{with_line}
-use Rattle.tangle_lexer.specs.Reads.{IsRead}
-use Rattle.tangle_lexer.specs.Simple.{begins_run, simple_kind}
-use Rattle.tangle_lexer.specs.Steps.{c_lexeme}
+use Rattle.tangle_lexer.specs.Simple.{begins_run}
 use Rattle.tangle_lexer.proofs.lemmas.BlockLemmas.{no-run, plain-reads-on}
 use Rattle.tangle_lexer.proofs.lemmas.RunLemmas.{run-read, run-reads-on}
 use Rattle.tangle_lexer.proofs.lemmas.SimpleLemmas.{simple-adds, run-adds, simple-again, simple-read, simple-occurrences_from, simple-special}
@@ -43,11 +41,7 @@ pub returns-clause-read : goal.returns-clause-read
 returns-clause-read c = λ lines ours.
     let text = c.args.reader.now in
     let state = with_line c.args.line.now c.args.from in
-    let here : IsRead c.args.tokens.now.items c.simple_step.new.tokens.items text c.simple_step.new.reader
-    c.in_ok-after.after (c_lexeme (simple_kind c.args.simple) c.with_line-state.result text)
-    = subst (λ t. IsRead c.args.tokens.now.items c.simple_step.new.tokens.items t c.simple_step.new.reader
-    c.in_ok-after.after (c_lexeme (simple_kind c.args.simple) c.with_line-state.result t)) (same-place c)
-    c.in_ok-after.ensures in
+    let here = rw (same-place c) at c.in_ok-after.ensures in
     let again = simple-again _ _ c.args.line.now c.args.from _ _ text _ c.args.simple c.with_line-state.ensures here in
     let read = simple-read state text c.args.simple c.requires.simple c.requires.mode _ _ _ _ again in
     rw c.set-2.ensures (search (rules, plain-reads-on, no-run, simple-special, simple-occurrences_from))
@@ -58,10 +52,6 @@ returns-clause-adds c =
 
 pub returns-clause-shorter : goal.returns-clause-shorter
 returns-clause-shorter c =
-    omega (
-      arith,
-      c.requires.simple.inside,
-      ap length c.in_ok-after.ensures.ahead,
-      ap length (same-place c),
-      length-drop {A = Cell},
-    )
+    let ahead = ap length c.in_ok-after.ensures.ahead in
+    let same = ap length (same-place c) in
+    omega (arith, c.requires.simple.inside, length-drop {A = Cell})

@@ -7,8 +7,8 @@ pub returns-then-taken-ge-SOURCE_LINE_LIMIT-clause-read : goal.returns-then-take
 returns-then-taken-ge-SOURCE_LINE_LIMIT-clause-read c =
     let origin = ap (λ (r : WaitingLine). r.origin) c.line.view_is in
     rw (c.in_ok-add_fault.ensures, c.name_at-file.ensures, origin)
-    (so_far-stop c.args.files.now c.args.change_file _ _ _ _ _ _ c.loop-line.invariant.read
-    c.in-Some.line c.take.new.self c.in-Some.ensures.front c.if-taken-ge-SOURCE_LINE_LIMIT.true)
+    (so_far-stop _ _ _ _ _ _ _ _ c.loop-line.invariant.read _ _ c.in-Some.ensures.front
+    c.if-taken-ge-SOURCE_LINE_LIMIT.true)
 
 pub loop-line-preserved-in-Some-change_at : goal.loop-line-preserved-in-Some-change_at
 loop-line-preserved-in-Some-change_at c =
@@ -16,11 +16,8 @@ loop-line-preserved-in-Some-change_at c =
     record {
       read =
           rw c.after_first-changes.ensures
-          (so_far-used c.args.files.now c.args.change_file _ _ _ _ _ _
-          c.loop-line.invariant.read c.in-Some.line c.take.new.self c.in-Some.ensures.front
-          c.in-Some-change_at.change.now c.use_change.new.waiting c.add_mismatch_fault.new.faults.items
-          _ (omega (arith, c.if-taken-ge-SOURCE_LINE_LIMIT.false)) c.in-Some-change_at.ensures
-          used.lines used.rest
+          (so_far-used _ _ _ _ _ _ _ _ c.loop-line.invariant.read _ _ c.in-Some.ensures.front _ _ _ _
+          (omega (arith, c.if-taken-ge-SOURCE_LINE_LIMIT.false)) c.in-Some-change_at.ensures used.lines used.rest
           (rw (c.name_at-file-in-Some-change_at.ensures, c.at.ensures, used.unequal)
           at c.in_ok-add_mismatch_fault-in-Some-change_at.ensures));
       few = omega (arith, c.loop-line.invariant.few);
@@ -32,24 +29,19 @@ pub loop-line-preserved : goal.loop-line-preserved
 loop-line-preserved c =
     let t = c.loop-line.taken in
     let below : t < source_line_limit = omega (arith, c.if-taken-ge-SOURCE_LINE_LIMIT.false) in
-    let one = c.in_ok-read_plain-in-None.ensures.one in
-    let more : t + 1 + c.in_ok-taken-in-None.field-0 ≤ source_line_limit =
-    omega (arith, below, c.in_ok-taken-in-None.ensures.limit) in
+    let plain = c.in_ok-read_plain-in-None.ensures in
+    let passed = c.in_ok-taken-in-None.ensures in
+    let more : t + 1 + c.in_ok-taken-in-None.field-0 ≤ source_line_limit = omega (arith, below, passed.limit) in
     record {
-      read =
-          c.in_ok-taken-in-None.ensures.passed c.args.files.now
-          c.args.change_file c.read_plain.new.faults.items (t + 1) more
-          ∙ so_far-plain c.args.files.now c.args.change_file _ _ _ _ _ _
-          c.loop-line.invariant.read c.in-Some.line c.take.new.self c.in-Some.ensures.front
-          c.read_plain.new.waiting c.read_plain.new.lines.items c.read_plain.new.faults.items below
-          c.in-None.ensures c.in_ok-read_plain-in-None.ensures.read;
-      few = omega (arith, c.loop-line.invariant.few, one, c.in_ok-taken-in-None.ensures.count);
-      limit = omega (arith, c.loop-line.invariant.few, one, c.in_ok-taken-in-None.ensures.count, more);
-      short = c.in_ok-taken-in-None.ensures.short (c.in_ok-read_plain-in-None.ensures.short c.loop-line.invariant.short);
+      read = passed.passed _ _ _ (t + 1) more
+          ∙ so_far-plain _ _ _ _ _ _ _ _ c.loop-line.invariant.read _ _ c.in-Some.ensures.front
+          _ _ _ below c.in-None.ensures plain.read;
+      few = omega (arith, c.loop-line.invariant.few, plain.one, passed.count);
+      limit = omega (arith, c.loop-line.invariant.few, plain.one, passed.count, more);
+      short = passed.short (plain.short c.loop-line.invariant.short);
     }
 
 pub returns-clause-read : goal.returns-clause-read
 returns-clause-read c =
     rw c.in_ok-add_unused_fault.ensures
-    (so_far-end c.args.files.now c.args.change_file _ _ _ _ _ _ c.loop-line.invariant.read
-    c.in_default.ensures.none.0)
+    (so_far-end _ _ _ _ _ _ _ _ c.loop-line.invariant.read c.in_default.ensures.none.0)

@@ -1,7 +1,8 @@
 use Rattle.std.proofs.lemmas.Bool.Decides.{nat_tests}
 use Rattle.std.proofs.Common.{arith, refl}
 use Rattle.std.proofs.lemmas.Result.{err_from_is_err_and}
-use Rattle.tangle_loading.proofs.LoadLemmas.{first_due, rounds_begin, rounds_done, rounds_next, step_grows, step_stops}
+use Rattle.tangle_loading.proofs.LoadLemmas.{first_stands, rounds_begin, rounds_done, rounds_next}
+use Rattle.tangle_loading.proofs.LoadLemmas.{step_grows, step_stops}
 use Rattle.tangle_loading.proofs.StepLemmas.{step_short}
 use Rattle.tangle_loading.proofs.TableLemmas.{longer}
 use Rattle.tangle_loading.proofs.loading.load_files.Goals as goal
@@ -9,7 +10,7 @@ use Rattle.tangle_loading.proofs.loading.load_files.Goals as goal
 pub returns-in_err-read_needed-clause-gives : goal.returns-in_err-read_needed-clause-gives
 returns-in_err-read_needed-clause-gives g c =
     let left = err_from_is_err_and c.from_residual.result c.from_residual.ensures.1 in
-    rw (left.1, left.2) (step_stops _ _ (first_due _ _ c.requires)
+    rw (left.1, left.2) (step_stops _ _ (first_stands _ _ c.requires)
     (rw (c.new-files.ensures, c.new-asked.ensures) at c.in_err-read_needed.ensures))
 
 pub loop-asked-init : goal.loop-asked-init
@@ -19,13 +20,13 @@ loop-asked-init g c =
 pub returns-in_err-faults-clause-gives : goal.returns-in_err-faults-clause-gives
 returns-in_err-faults-clause-gives g c =
     let left = err_from_is_err_and c.from_residual-in_err-faults.result c.from_residual-in_err-faults.ensures.1 in
-    rw (left.1, left.2) (step_stops _ _ c.loop-asked.invariant.due (step_short _ _ _ _ _ c.loop-asked.asked refl))
+    rw (left.1, left.2) (step_stops _ _ c.loop-asked.invariant.at (step_short _ _ _ _ _ c.loop-asked.asked refl))
 
 pub returns-in_err-read_inclusions-clause-gives : goal.returns-in_err-read_inclusions-clause-gives
 returns-in_err-read_inclusions-clause-gives g c =
     let left = err_from_is_err_and c.from_residual-in_err-read_inclusions.result
     c.from_residual-in_err-read_inclusions.ensures.1 in
-    rw (left.1, left.2) (step_stops _ _ c.loop-asked.invariant.due
+    rw (left.1, left.2) (step_stops _ _ c.loop-asked.invariant.at
     (rw (c.as_slice.ensures.value, c.in_ok-faults.ensures) at c.in_err-read_inclusions.ensures))
 
 pub returns-then-count-clause-gives : goal.returns-then-count-clause-gives

@@ -1,34 +1,41 @@
-use Rattle.std.proofs.Common.{◌≡◌, ◌∙◌, sym, true, false, ap, rules, Bor, List, ℕ}
+use Rattle.std.proofs.Common.{length, ◌<◌, ◌≡◌, arith, rules, Bor, List, ℕ}
+use Rattle.std.proofs.lemmas.Bool.Decides.{nat_tests}
 use Rattle.std.specs.Ordering.{nat_cmp, is_lt}
 use Rattle.std.specs.Cmp.Lexicographic.{slice_cmp}
 use Rattle.std.proofs.lemmas.List.Sorted.{IsPartitionPoint-from_clause}
-use Rattle.tangle_names.specs.Names.{One}
+use Rattle.tangle_names.specs.Names.{only_with}
 use Rattle.tangle_names.specs.Sorted.{borrowed_names}
-use Rattle.tangle_names.proofs.MeaningLemmas.{meant}
-use Rattle.tangle_names.proofs.SortedLemmas.{at_begun, gathers_from, is_parted, nothing_found, one_found, several_found}
+use Rattle.tangle_names.proofs.SortedLemmas.{at_text, is_parted, meaning_at, meant_at, size}
 use Rattle.tangle_names.proofs.sorted.only_with.Goals as goal
+use Rattle.tangle_names.proofs.sorted.only_with.Goals.{After-partition_point-first}
+
+meant : (c : After-partition_point-first)
+    → only_with (borrowed_names c.args.sorted.now) c.args.prefix.now
+    ≡ meaning_at (borrowed_names c.args.sorted.now) c.args.prefix.now c.partition_point-first.result
+meant c =
+    let sorted = c.args.sorted.now in
+    let lower = λ (b : Bor (List ℕ)). is_lt (slice_cmp nat_cmp b.now c.args.prefix.now) in
+    let point = IsPartitionPoint-from_clause lower sorted _ c.partition_point-first.ensures.partitioned
+    (is_parted sorted c.args.prefix.now c.requires) (λ a r q k. search rules) in
+    let at = λ (k : ℕ). at_text sorted k c.args.prefix in
+    meant_at (borrowed_names sorted) c.args.prefix.now c.partition_point-first.result c.requires
+    (λ k low h. rw (at k (omega (arith, size sorted))) (point.0 k c.args.prefix (omega arith) low))
+    (λ h. let h : c.partition_point-first.result < length sorted = omega (arith, size sorted) in
+    rw (at c.partition_point-first.result h)
+    (point.1 c.partition_point-first.result c.args.prefix (omega arith) h))
 
 pub returns-then-not-begins_at : goal.returns-then-not-begins_at
 returns-then-not-begins_at c =
-    let texts = borrowed_names c.args.sorted.now in
-    let point = IsPartitionPoint-from_clause (λ (b : Bor (List ℕ)). is_lt (slice_cmp nat_cmp b.now c.args.prefix.now))
-    c.args.sorted.now _ c.partition_point-first.ensures.partitioned
-    (is_parted c.args.sorted.now c.args.prefix.now c.requires) (λ a r q k. search rules) in
-    meant texts c.args.prefix.now _ (nothing_found texts c.args.prefix.now _
-    (gathers_from c.args.sorted.now c.args.prefix.now _ c.args.prefix c.requires point)
-    (λ begun. let clash : true ≡ false = sym (c.begins_at.ensures.1 begun) ∙ c.if-not-begins_at.true in cc))
+    let found = meant (goal.at.returns-then-not-begins_at c).After-partition_point-first in
+    grind (arith, nat_tests, found)
 
 pub returns-then-begins_at : goal.returns-then-begins_at
 returns-then-begins_at c =
-    meant (borrowed_names c.args.sorted.now) c.args.prefix.now _ (search (rules, several_found))
+    let found = meant (goal.at.returns-then-begins_at c).After-partition_point-first in
+    grind (arith, nat_tests, found)
 
 pub returns-else-begins_at : goal.returns-else-begins_at
 returns-else-begins_at c =
-    let texts = borrowed_names c.args.sorted.now in
-    let point = IsPartitionPoint-from_clause (λ (b : Bor (List ℕ)). is_lt (slice_cmp nat_cmp b.now c.args.prefix.now))
-    c.args.sorted.now _ c.partition_point-first.ensures.partitioned
-    (is_parted c.args.sorted.now c.args.prefix.now c.requires) (λ a r q k. search rules) in
-    ap One (search (rules, at_begun))
-    ∙ meant texts c.args.prefix.now _ (one_found texts c.args.prefix.now c.partition_point-first.result
-    (gathers_from c.args.sorted.now c.args.prefix.now _ c.args.prefix c.requires point)
-    (c.begins_at.ensures.0 c.if-not-begins_at.false) (search rules))
+    let found = meant (goal.at.returns-else-begins_at c).After-partition_point-first in
+    let at = at_text c.args.sorted.now c.partition_point-first.result in
+    grind (arith, nat_tests, found, at, size c.args.sorted.now)

@@ -1,3 +1,4 @@
+use Rattle.std.proofs.Common.{rules}
 use Rattle.std.proofs.lemmas.Bool.Decides.{nat_tests}
 use Rattle.std.proofs.Common.{◌++◌, ◌∙◌, ap, arith, false, refl, sym}
 use Rattle.std.proofs.lemmas.List.{nil_from_length}
@@ -37,11 +38,8 @@ loop-left-preserved c =
     let step = c.in_ok-at.ensures in
     let next = c.gap_after.ensures.next in
     record {
-      items = rw next (ap (λ es. spaced_items texts c.add_token.new.spaced.items ++ items_ahead texts (plain_state texts c.in_ok-at.at) es)
-          (sym (gap-unfolded texts (rest left) runs).1)
-          ∙ (step.items (unfolded texts (rest left)) c.gap_after.ensures.gap
-          ∙ (ap (λ ts. spaced_items texts c.loop-left.spaced.items ++ items_ahead texts (plain_state texts c.loop-left.at) (unfolded texts ts))
-          (split left some) ∙ before.items)));
+      items = rw (next, sym (gap-unfolded texts (rest left) runs).1)
+          (step.items (unfolded texts (rest left)) c.gap_after.ensures.gap ∙ (rw (← split left some) at before.items));
       spaced = step.runs before.spaced;
       runs = rw next (from-runs texts (rest left) runs);
       solid = rw next (first-solid (rest left));
@@ -61,5 +59,4 @@ returns-clause-items c =
 
 pub returns-clause-runs : goal.returns-clause-runs
 returns-clause-runs c =
-    rw c.in_ok-push_gap.ensures
-    (gap-runs (texts_of c.args.source.now.lines) c.loop-left.spaced.items false c.loop-left.at.gap.line_ends c.loop-left.invariant.spaced)
+    rw c.in_ok-push_gap.ensures (search (rules, gap-runs))

@@ -2,13 +2,14 @@ use Rattle.std.proofs.Common.{rules}
 use Rattle.std.proofs.Common.{subst}
 use Rattle.tangle_lexer.specs.Runs.{IsRunIn}
 use Rattle.tangle_scan.specs.Rules.{texts_of}
-use Rattle.tangle_scan.proofs.lemmas.MadeLemmas.{made-end, made-item, made-join, made-run, made-fault, made-white, made-inner_end, made-joined-end}
+use Rattle.tangle_scan.proofs.lemmas.MadeLemmas.{made-end, made-item, made-join, made-run, made-same, made-white}
+use Rattle.tangle_scan.proofs.lemmas.MadeLemmas.{made-joined-end}
 use Rattle.tangle_scan.proofs.lemmas.RuleLemmas.{solid}
-use Rattle.tangle_scan.proofs.lemmas.RunItems.{no-run, unfolded-one}
+use Rattle.tangle_scan.proofs.lemmas.RunItems.{unfolded-one}
 use Rattle.tangle_scan.proofs.parts.add_token.Goals as goal
 
 pub returns-in-White-clause-made : goal.returns-in-White-clause-made
-returns-in-White-clause-made c = search (rules, made-white, made-inner_end)
+returns-in-White-clause-made c = search (rules, made-white)
 
 pub returns-in-Joined-clause-made : goal.returns-in-Joined-clause-made
 returns-in-Joined-clause-made c = search (rules, made-joined-end)
@@ -32,14 +33,15 @@ pub returns-in-Join-clause-made : goal.returns-in-Join-clause-made
 returns-in-Join-clause-made c = search (rules, made-join)
 
 pub returns-in-Fault-clause-made : goal.returns-in-Fault-clause-made
-returns-in-Fault-clause-made c = search (rules, made-fault)
+returns-in-Fault-clause-made c = search (rules, made-same)
 
 pub returns-in_ok-add_item-in_default-clause-made : goal.returns-in_ok-add_item-in_default-clause-made
 returns-in_ok-add_item-in_default-clause-made c = λ whole es h.
     let other = c.in_default in
     let e = c.args.token.now in
+    let alone = unfolded-one (texts_of c.args.source.now.lines) e other.not-Run in
     let made = c.in_ok-add_item-in_default.ensures in
     rw (made.text, made.at)
     (made-item c.args.source.now.lines whole c.args.text.now c.args.at.now es e c.add_item.new.at.counted
-    (solid e other.not-White other.not-LineEnd other.not-InnerLineEnd other.not-Join other.not-Fault) (no-run e other.not-Run)
-    made.counted (rw (unfolded-one (texts_of c.args.source.now.lines) e other.not-Run) at h))
+    (solid e other.not-White other.not-LineEnd other.not-InnerLineEnd other.not-Join other.not-Fault) alone.1
+    made.counted (rw alone.0 at h))

@@ -1,5 +1,6 @@
+use Rattle.std.proofs.Common.{append-nil, refl}
 use Rattle.std.proofs.Common.{rules}
-use Rattle.std.proofs.Common.{◌||◌, ap, arith, sym, ◌∙◌, subst, get_or}
+use Rattle.std.proofs.Common.{ap, arith, sym, ◌∙◌, subst}
 use Rattle.std.proofs.lemmas.List.{drop_all, drop_more}
 use Rattle.std.proofs.lemmas.List.Folds.{list_any_more}
 use Rattle.tangle_lexer.specs.declared.tokens.Token.TheVariants as token
@@ -9,7 +10,6 @@ use Rattle.tangle_scan.specs.Rules.{texts_of, part_items}
 use Rattle.tangle_scan.specs.Texts.{IsTextOf}
 use Rattle.tangle_scan.specs.Web.{is_all_macros}
 use Rattle.tangle_scan.proofs.lemmas.MadeLemmas.{made-open, made-closed}
-use Rattle.tangle_scan.proofs.lemmas.TextLemmas.{blank-added}
 use Rattle.tangle_scan.proofs.parts.fill_part.Goals as goal
 
 pub loop-token-preserved : goal.loop-token-preserved
@@ -19,22 +19,18 @@ loop-token-preserved c =
     let index = c.loop-token.token-index in
     let added = c.in_ok-add_token.ensures in
     let was = c.loop-token.invariant in
-    let e = get_or tokens index token.Section in
-    let may = may_have_fault (texts_of lines) in
     record {
       made = search (rules, drop_more);
       limit = omega (arith, added.limit, was.limit);
-      all_macros = added.all_macros
-          ∙ (ap (λ b. b || is_all_macros e) was.all_macros ∙ sym (list_any_more is_all_macros tokens index token.Section (omega arith)));
-      fault = added.fault
-          ∙ (ap (λ b. b || may e) was.fault ∙ sym (list_any_more may tokens index token.Section (omega arith)));
+      all_macros = grind (arith, list_any_more is_all_macros tokens index token.Section);
+      fault = grind (arith, list_any_more (may_have_fault (texts_of lines)) tokens index token.Section);
     }
 
 pub returns-in_ok-add_byte-clause-text : goal.returns-in_ok-add_byte-clause-text
 returns-in_ok-add_byte-clause-text c =
     let lines = c.args.source.now.lines in
     subst (IsTextOf (texts_of lines) (part_items lines c.args.line (unfolded (texts_of lines) c.args.tokens.now)))
-    (sym (c.in_ok-add_byte.ensures ∙ blank-added (texts_of lines) c.loop-token.text))
+    (sym (c.in_ok-add_byte.ensures ∙ rw (append-nil c.loop-token.text.uses, append-nil c.loop-token.text.marks) refl))
     (made-open lines _ c.loop-token.text c.loop-token.at _
     (ap (unfolded (texts_of lines)) (drop_all c.loop-token.token-index c.args.tokens.now (omega arith)))
     (sym c.is_open.ensures ∙ c.if-is_open.true) c.loop-token.invariant.made)

@@ -1,19 +1,24 @@
 use Rattle.std.proofs.Common.{rules}
 use Rattle.std.proofs.lemmas.Bool.Decides.{nat_tests}
 use Rattle.std.proofs.Common.{◌≡◌, [], ◌∷◌, ◌++◌, ◌∙◌, arith, append_assoc, append-nil, ap, sym}
-use Rattle.std.proofs.Common.{option_to_list, List, Option, None}
-use Rattle.std.specs.Option.{IfNone}
+use Rattle.std.proofs.Common.{option_to_list, List, Option, None, ◌≤◌, ◌<◌, ◌+◌, length}
+use Rattle.std.specs.Option.{IfNone, IfSome}
 use Rattle.tangle_lexer.specs.declared.tokens.Token.{Token}
 use Rattle.tangle_text.specs.Text.{Cell}
 use Rattle.tangle_lexer.specs.Runs.{unfolded}
-use Rattle.tangle_lexer.specs.Steps.{tokens_from}
+use Rattle.tangle_lexer.specs.Steps.{tokens_from, occurrences_from}
 use Rattle.tangle_scan.specs.Rules.{texts_of}
 use Rattle.tangle_scan.proofs.lemmas.GatheredLemmas.{nothing-gathered}
-use Rattle.tangle_scan.proofs.lemmas.ScanLemmas.{tokens-end, occurrences-end, block-shorter}
 use Rattle.tangle_scan.proofs.scanning.gather.Goals as goal
 
 pub next_block-requires-clause-ours : goal.next_block-requires-clause-ours
 next_block-requires-clause-ours c = (0, c.new-reader.ensures.text)
+
+-- each head has at least one cell
+block-shorter : (text rest : List Cell) (next_head : Option Token)
+    → IfSome next_head (λ head. length rest < length text) → IfNone next_head (rest ≡ [])
+    → length (option_to_list next_head) + length rest ≤ length text
+block-shorter text rest x some end = grind arith
 
 pub loop-next_head-init : goal.loop-next_head-init
 loop-next_head-init c =
@@ -52,7 +57,9 @@ nothing-ahead : (next_head : Option Token) (ahead : List Cell)
 nothing-ahead next_head ahead end is = grind (arith, nat_tests)
 
 pub returns-clause-builder : goal.returns-clause-builder
-returns-clause-builder c = grind (arith, nat_tests, nothing-ahead, tokens-end, append-nil)
+unfolding tokens_from
+returns-clause-builder c = grind (arith, nat_tests, nothing-ahead, append-nil)
 
 pub returns-clause-occurrences : goal.returns-clause-occurrences
-returns-clause-occurrences c = grind (arith, nat_tests, nothing-ahead, occurrences-end, append-nil)
+unfolding occurrences_from
+returns-clause-occurrences c = grind (arith, nat_tests, nothing-ahead, append-nil)

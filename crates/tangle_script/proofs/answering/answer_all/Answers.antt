@@ -1,15 +1,6 @@
-use Rattle.std.proofs.Common.{arith}
-use Rattle.std.proofs.lemmas.Bool.Decides.{nat_tests}
 use Rattle.std.proofs.lemmas.Result.{err_from_is_err_and}
-use Rattle.tangle_script.proofs.ConversationLemmas.{under_at_first, under_last, under_more}
+use Rattle.tangle_script.proofs.ConversationLemmas.{under_last}
 use Rattle.tangle_script.proofs.answering.answer_all.Goals as goal
-
-pub loop-found-init : goal.loop-found-init
-loop-found-init g c = under_at_first g.P.Project.answers _ _
-
-pub loop-found-preserved : goal.loop-found-preserved
-loop-found-preserved g c =
-    grind (arith, nat_tests, under_more)
 
 pub returns-in_err-answer_line-clause-answered : goal.returns-in_err-answer_line-clause-answered
 returns-in_err-answer_line-clause-answered g c =

@@ -1,7 +1,6 @@
 use Rattle.std.proofs.Common.{rules}
 use Rattle.std.proofs.Common.{arith, subst}
 use Rattle.std.proofs.lemmas.List.{take_at}
-use Rattle.tangle_script.specs.Buffer.{bytes}
 use Rattle.tangle_script.specs.Commands.{OnlyWaits}
 use Rattle.tangle_script.proofs.RunLemmas.{ends_last, ends_more, ends_out_of_memory, ends_too_long}
 use Rattle.tangle_script.proofs.RunLemmas.{ends_unread, midway_more, waits_last, waits_now}
@@ -26,10 +25,7 @@ returns-then-given-eq0 g c =
 pub answer_chunk-requires-clause-waits : goal.answer_chunk-requires-clause-waits
 answer_chunk-requires-clause-waits g c =
     let chunk = c.in-Some.ensures.read in
-    let before = bytes c.make_space.new.self in
-    subst OnlyWaits
-    (search (rules, take_at))
-    (waits_now c.loop-count.invariant)
+    subst OnlyWaits (search (rules, take_at)) (waits_now c.loop-count.invariant)
 
 pub returns-then-count-eq-SCRIPT_LIMIT : goal.returns-then-count-eq-SCRIPT_LIMIT
 returns-then-count-eq-SCRIPT_LIMIT g c =

@@ -10,7 +10,6 @@ use Rattle.tangle_session.specs.declared.analysis.Analysis.{Analysis}
 use Rattle.tangle_session.specs.declared.tangling.SessionState.{SessionState}
 use Rattle.tangle_session.specs.Headline.{web_at}
 use Rattle.tangle_session.specs.Sessions.{shapes_of}
-use Rattle.tangle_session.proofs.EditLemmas.{fits_made}
 use Rattle.tangle_session.proofs.tangling.tangle_again.Goals as goal
 
 -- the shapes of the web before and after, to which the stores and the old expansions belong
@@ -21,11 +20,6 @@ edited {old = old} {files = files} {roles = roles} {to = to} was made = (
   record { old = shapes_of (web_at old.files roles); new = shapes_of (web_at files to) },
   record { before = was.analysis.store.store; after = made.store.store; expansions = was.kept },
 )
-
-pub build-requires-clause-fits : goal.build-requires-clause-fits
-build-requires-clause-fits c =
-    fits_made c.args.old.now.files c.in_ok-files.files c.args.roles.now c.args.edits.now
-    c.in_ok-files.ensures.made c.requires.agrees.files_fit c.in_ok-files.ensures.unrefused
 
 pub build-requires-clause-old : goal.build-requires-clause-old
 build-requires-clause-old c =
@@ -41,8 +35,7 @@ pub returns-clause-agrees : goal.returns-clause-agrees
 returns-clause-agrees c =
     let edit = edited c.requires.agrees c.in_ok-analysis.ensures.made in
     record {
-      files_fit = fits_made c.args.old.now.files c.in_ok-files.files c.args.roles.now c.args.edits.now
-          c.in_ok-files.ensures.made c.requires.agrees.files_fit c.in_ok-files.ensures.unrefused;
+      files_fit = c.in_ok-files.ensures.fits;
       analysis = c.in_ok-analysis.ensures.made;
       kept = c.in_ok-kept.ensures.kept edit.0 edit.1;
     }

@@ -1,7 +1,6 @@
-use Rattle.std.proofs.Common.{◌∙◌, ◌<◌, ◌++◌, [], ap, sym, length, arith, flat_map}
-use Rattle.std.specs.List.{range_with_len}
+use Rattle.std.proofs.Common.{◌<◌, ap, length, arith}
 use Rattle.std.proofs.lemmas.List.Elements.{All-push}
-use Rattle.std.proofs.lemmas.List.{append-nil, flat_map_more}
+use Rattle.std.proofs.lemmas.Grind.{common_steps}
 use Rattle.tangle_graph.specs.Faults.{fault_of, fault_of_name}
 use Rattle.tangle_graph.proofs.ListLemmas.{range_more}
 use Rattle.tangle_graph.proofs.faults.FaultSearch.candidates.Goals as goal
@@ -17,16 +16,13 @@ loop-id-preserved c =
     elim c.if-may_have_fault.branch [
       | then-may_have_fault+in_ok-push w ↦ rw (w.names-is, w.in_ok-push.ensures.items) (record {
         names = All-push (λ m. m < length search.table.now.names) names id was.names (omega arith);
-        faults = λ kind. sym (flat_map_more (fault kind) [] names id)
-            ∙ ap (λ l. l ++ fault kind id) (was.faults kind)
-            ∙ sym (range_more (fault kind) id);
+        faults = λ kind. grind (arith, common_steps, range_more (fault kind) id, was.faults kind);
       })
       | else-may_have_fault w ↦ rw w.names-is (record {
         names = was.names;
-        faults = λ kind. was.faults kind
-            ∙ sym (range_more (fault kind) id
-            ∙ ap (λ o. flat_map (fault kind) (range_with_len 0 id)
-            ++ fault_of search.web.now search.table.now kind id o)
-            (c.may_have_fault.ensures w.if-may_have_fault.false kind) ∙ append-nil _);
+        faults = λ kind. (
+            let none = ap (fault_of search.web.now search.table.now kind id)
+            (c.may_have_fault.ensures w.if-may_have_fault.false kind) in
+            grind (arith, common_steps, range_more (fault kind) id, was.faults kind, none));
       })
     ]

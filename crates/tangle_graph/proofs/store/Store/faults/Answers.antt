@@ -17,15 +17,14 @@ faults-requires c =
     let read = c.occurrences.ensures.occurrences in
     let measured : AreMeasures (shapes web table) table.names c.args.self.now.measures =
     rw is.names at is.store.measures in
-    let shown : c.args.self.now.measures ≡ c.deref.result.now =
-    sym (c.deref.ensures.value ∙ ap (λ (s : StoreRead). s.measures) c.self.view_is) in
     record {
       measured = measured;
       containing = λ n low. same_from_decides _ _ (rw is.names at is.store.contains_itself n low)
           (contains_computed web table c.requires.table (title_at table.names n));
       reaching = λ n low. same_from_decides _ _ (is.reaching_cycles n low)
           (cycle_computed web table c.requires.table (title_at table.names n));
-      named = c.in_ok-find.ensures (shapes web table) (subst (AreMeasures (shapes web table) table.names) shown measured);
+      named = c.in_ok-find.ensures (shapes web table)
+          (rw (c.deref.ensures.value ∙ ap (λ (s : StoreRead). s.measures) c.self.view_is) measured);
       uses_size = c.in_ok-first_numbers.ensures.size;
       first_uses = rw read at (c.in_ok-first_numbers.ensures.numbers (resolve web.occurrences)
           (ap (λ (t : TableRead). t.resolved) c.requires.table ∙ ap (map (resolve web.occurrences)) (sym read)));

@@ -1,6 +1,6 @@
-use Rattle.std.proofs.Common.{◌<◌, length, get_or, ap, subst, ◌∙◌}
-use Rattle.std.specs.List.{All}
+use Rattle.std.proofs.Common.{get_or, ap, subst, ◌∙◌}
 use Rattle.tangle_scan.specs.Texts.{IsTextOf, text_at, text_of}
+use Rattle.tangle_scan.specs.WellFormed.{IsWellFormed}
 use Rattle.tangle_scan.specs.Web.{WebRead, no_piece, web_of}
 use Rattle.tangle_scan.specs.declared.webs.Web.TheInside.{Inside}
 use Rattle.tangle_scan.proofs.lemmas.GatheredLemmas.{web-text, web-uses}
@@ -15,8 +15,4 @@ returns-clause-text c =
 
 pub returns-clause-uses : goal.returns-clause-uses
 returns-clause-uses c =
-    let n = c.args.number in
-    subst (λ (w : WebRead). All (λ u. u < length w.occurrences) (text_of c.at.result).uses) c.self.view_is
-    (web-uses (web_of c.self.inside.source.now) _ n (text_of c.at.result) c.self.invariant.gathered.piece_texts
-    c.self.invariant.well_formed
-    (c.at.ensures ∙ ap (λ (i : Inside). text_at i.builder.texts n) c.self-inside.view_is))
+    web-uses _ c.args.number _ (returns-clause-text c) (subst IsWellFormed c.self.view_is c.self.invariant.well_formed)

@@ -29,17 +29,15 @@ returns-clause-made c =
     let web_is : c.in_ok-web.web ≡ web_at files to = c.in_ok-web.ensures.web ∙ ap web_of source_is in
     let table_is : c.in_ok-table.table ≡ table_at files to = c.in_ok-table.ensures ∙ ap table_of web_is in
     let parts = c.into_occurrences_and_faults-occurrences in
-    let of_graph = c.in_ok-of_graph.of_graph.items in
     record {
       occurrences = parts.ensures.occurrences ∙ ap (λ (w : WebRead). w.occurrences) web_is;
       table = table_is;
       store = subst (λ (x : WebRead × TableRead × List ℕ). IsStoreOfWeb x.0 x.1 x.2 c.in_ok-made.made.store)
           (λ i. (web_is i, table_is i, c.out.ensures i)) c.in_ok-made.ensures.store;
       numbers = c.in_ok-numbers.ensures ∙ ap (λ w. numbers_of w (table_of w) c.args.marks) web_is;
-      faults = faults_joined c.into_faults-faults.result.items parts.result.1.items
-          c.in_ok-of_names.of_names.items of_graph
-          c.append.new.self.items c.append-2.new.self.items c.append-3.new.self.items
-          c.in_ok-append.ensures.items c.in_ok-append-2.ensures.items c.in_ok-append-3.ensures.items
+      faults = faults_joined _ _ _ _ _ _ _ c.in_ok-append.ensures.items
+          c.in_ok-append-2.ensures.items
+          c.in_ok-append-3.ensures.items
           ∙ (λ i. c.into_faults-faults.ensures i
           ++ (parts.ensures.faults i ++ (c.in_ok-of_names.ensures i ++ c.in_ok-of_graph.ensures i)))
           ∙ (λ i. (source_is i).faults ++ ((web_is i).faults ++ (name_faults (web_is i)

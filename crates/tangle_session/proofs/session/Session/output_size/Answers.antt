@@ -1,18 +1,19 @@
 use Rattle.std.proofs.Common.{◌∙◌, ap, length, sym}
-use Rattle.std.specs.Option.{option_copied, option_map}
+use Rattle.std.specs.Option.{option_map}
 use Rattle.std.specs.Prelude.{Some}
 use Rattle.tangle_session.proofs.TangleLemmas.{is_its, is_ready, none_at}
 use Rattle.tangle_session.proofs.session.Session.output_size.Goals as goal
 
 pub file_size-requires : goal.file_size-requires
-file_size-requires c = is_ready c.self.view_is c.self.invariant c.args.name.now
-    c.in-Some.output.now (sym c.find_output.ensures ∙ ap option_copied c.in-Some.is)
+file_size-requires c =
+    is_ready c.self.view_is c.self.invariant c.args.name.now _ c.find_output.ensures _ c.in-Some.is
 
 pub returns-in-Some : goal.returns-in-Some
-returns-in-Some c = ap Some c.file_size.ensures
-    ∙ ap (option_map length) (sym (is_its c.self.view_is c.self.invariant c.args.name.now
-    c.in-Some.output.now (sym c.find_output.ensures ∙ ap option_copied c.in-Some.is)))
+returns-in-Some c = ap Some c.file_size.ensures ∙ ap (option_map length)
+    (sym (is_its c.self.view_is c.self.invariant c.args.name.now _ c.find_output.ensures _
+    c.in-Some.is))
 
 pub returns-in-None : goal.returns-in-None
-returns-in-None c = ap (option_map length) (sym (none_at c.self.view_is c.self.invariant c.args.name.now
-    (sym c.find_output.ensures ∙ ap option_copied c.in-None.is)))
+returns-in-None c = ap (option_map length)
+    (sym (none_at c.self.view_is c.self.invariant c.args.name.now _ c.find_output.ensures
+    c.in-None.is))

@@ -1,18 +1,13 @@
 use Rattle.std.proofs.Common.{rules}
-use Rattle.std.proofs.Common.{◌≡◌, ◌-◌, ℕ, List, [], refl, sym, ap, subst, arith}
+use Rattle.std.proofs.Common.{◌≡◌, ◌-◌, ℕ, List, [], refl, ap, arith}
 use Rattle.tangle_files.specs.Sharing.{slice_of}
-use Rattle.tangle_text.specs.Text.{Cell}
 use Rattle.tangle_text.specs.NameBytes.{BeginsName}
 use Rattle.tangle_text.proofs.ChunkLemmas.{bytes_begin}
 use Rattle.tangle_text.proofs.reader.Reader.take_name_bytes.Goals as goal
 use Rattle.tangle_text.proofs.reader.Reader.take_name_bytes.Goals.{then-not-self, else-not-self}
 
-equal_begin : (text rest : List Cell) (bytes read : List ℕ) → read ≡ bytes
-    → BeginsName bytes text rest → BeginsName read text rest
-equal_begin text rest bytes read is = subst (λ b. BeginsName b text rest) (sym is)
-
-nothing_begins : BeginsName [] [] []
-nothing_begins = record { units = refl; end = refl; shorter = omega arith }
+nothing_begins : (read : List ℕ) → read ≡ [] → BeginsName read [] []
+nothing_begins read is = record { units = rw is refl; end = refl; shorter = omega arith }
 
 pub returns : goal.returns
 returns c =
@@ -22,10 +17,9 @@ returns c =
       | then-not-self w ↦
           let end = w.at_sign_from-self-inside in
           let same = ap (λ line. slice_of line r.column (end.result - r.column)) bytes in
-          let begins =
-          bytes_begin r.source.now.lines r.bytes.now r.line r.column
-          end.result end.ensures.low end.ensures.high end.ensures.before in
-          search (rules, equal_begin)
+          let begins = bytes_begin r.source.now.lines r.bytes.now r.line r.column end.result
+          end.ensures.low end.ensures.high end.ensures.before in
+          search rules
       | else-not-self w ↦
-          search (rules, equal_begin, nothing_begins)
+          search (rules, nothing_begins)
     ]

@@ -1,6 +1,6 @@
 use Rattle.std.proofs.Common.{rules}
 use Rattle.std.proofs.lemmas.Bool.Decides.{nat_tests}
-use Rattle.std.proofs.Common.{◌≡◌, ◌+◌, arith}
+use Rattle.std.proofs.Common.{arith}
 use Rattle.tangle_text.specs.Runs.{run_count}
 use Rattle.tangle_text.proofs.TakenLemmas.{run_count-taken, takes}
 use Rattle.tangle_text.proofs.reader.Reader.take_run.Goals as goal
@@ -13,6 +13,6 @@ pub returns : goal.returns
 returns c =
     let text = c.args.self.now in
     let count = run_count-taken c.self.inside text c.self.view_is c.requires in
-    let end : c.run_end-end.result ≡ c.self.inside.column + run_count text = omega (arith, count, c.run_end-end.ensures.end) in
-    let taken = takes c.self.inside text (run_count text) c.run_end-end.result c.self.view_is c.requires end c.run_end-end.ensures.inside in
-    grind (arith, nat_tests, taken, end)
+    let taken = takes c.self.inside text (run_count text) c.run_end-end.result c.self.view_is c.requires
+    (omega (arith, count, c.run_end-end.ensures.end)) c.run_end-end.ensures.inside in
+    grind (arith, nat_tests, taken, count)
