@@ -123,10 +123,10 @@ PLANTED = {
         '    let flags = reaching_new_shapes(alloc, new, new_shapes, order)?;\n'
         '    let mut second = Work::new(alloc);\n    drop(expand_all(alloc, new, &mut second)?);\n'),
     'each node is expanded in a second work too': (
-        'tangle_graph', 'store.rt', '        expand(alloc, node, &self.bodies[node.number()], kept, work)\n',
+        'tangle_graph', 'store.rt', '        expand(alloc, node, &bodies[node.number()], kept, work)\n',
         '        let mut second = Work::new(alloc);\n'
-        '        drop(expand(alloc, node, &self.bodies[node.number()], kept, &mut second)?);\n'
-        '        expand(alloc, node, &self.bodies[node.number()], kept, work)\n'),
+        '        drop(expand(alloc, node, &bodies[node.number()], kept, &mut second)?);\n'
+        '        expand(alloc, node, &bodies[node.number()], kept, work)\n'),
     'an expansion is made twice and noted once': (
         'tangle_expansion', 'expanding.rt', '    work.add(node)?;\n',
         '    drop(expansion_of(alloc, body, kept)?);\n    work.add(node)?;\n'),
@@ -142,7 +142,7 @@ PLANTED = {
         '    let second = Work { nodes: Vec::new(alloc) };\n    drop(second);\n    work.add(node)?;\n'),
     'a session writes its outputs when it starts': (
         'tangle_session', 'session.rt', '        let mut work = Work::new(alloc);\n',
-        '        write_text(&expansion, &analysis.numbers, &mut sink)?;\n        let mut work = Work::new(alloc);\n'),
+        '        write_text(&expansion, node, &analysis.numbers, &mut sink)?;\n        let mut work = Work::new(alloc);\n'),
     'a second session is started for a list of edits': (
         'tangle_session', 'session.rt', '        let marks = mode_after(&self.roles, edits);\n',
         '        if let (Ok(files), Ok(roles)) = (self.state.files.copy(), roles_of(&self.roles)) {\n'

@@ -1,13 +1,10 @@
 -- Answers to the requests of a script: an output that is shown, an edit, and a question.
 use Rattle.std.proofs.Common.{rules}
-use Rattle.std.proofs.Common.{◌≡◌, ◌∙◌, ℕ, List, Option, None, Some, Err, ap, refl, sym, length, codes}
+use Rattle.std.proofs.Common.{◌≡◌, ℕ, List, Option, None, Some, Err, length, codes}
 use Rattle.std.specs.Prelude.{false, true}
 use Rattle.std.specs.Option.{option_map}
-use Rattle.std.proofs.lemmas.Bool.{false≢true}
 use Rattle.tangle_streams.specs.Streams.{Stream, TakesPrefix}
 use Rattle.tangle_files.specs.declared.edits.Edit.{Edit}
-use Rattle.tangle_files.specs.declared.edits.Edit.TheVariants.{Marks}
-use Rattle.tangle_files.specs.declared.marks.MarkMode.TheVariants.{Full, Bare}
 use Rattle.tangle_files.specs.declared.refusal.Refusal.{Refusal}
 use Rattle.tangle_script.specs.Requests.{Request, is_edit}
 use Rattle.tangle_session.specs.Headline.{Call}
@@ -26,19 +23,15 @@ some_has_bytes found size e = search rules
 
 -- an edit is asked for by requests for edits alone
 asks_for_edit : (made : Edit) → is_edit (request_for made) ≡ true
-asks_for_edit (Marks Full) = refl
-asks_for_edit (Marks Bare) = refl
-asks_for_edit made = refl
+asks_for_edit made = search rules
 
 -- the output to a request that is neither for an edit nor of the open list is a report
 module _ (session : SessionRead) (request : Request) (output : List ℕ) (no_edit : is_edit request ≡ false) where
   pub is_reported : (old new : Option (List Edit)) (calls : List Call) → is_of_list old request ≡ false
       → IsReply session request output old calls new → Reports session request output
   is_reported old new calls apart (IsReported draft none no_list reported) = reported
-  is_reported old new calls apart (IsEdit made answer asked is) =
-      absurd (false≢true (sym no_edit ∙ ap is_edit (sym asked) ∙ asks_for_edit made))
-  is_reported old new calls apart (IsHeld held made asked is) =
-      absurd (false≢true (sym no_edit ∙ ap is_edit (sym asked) ∙ asks_for_edit made))
+  is_reported old new calls apart (IsEdit made answer asked is) = cc (asks_for_edit made)
+  is_reported old new calls apart (IsHeld held made asked is) = cc (asks_for_edit made)
   is_reported old new calls apart (IsOpened asked is) = search rules
   is_reported old new calls apart (IsCommitted held answer asked is) = search rules
   is_reported old new calls apart (IsDropped held asked is) = search rules

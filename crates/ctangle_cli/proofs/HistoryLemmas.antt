@@ -1,12 +1,12 @@
 -- The answered commands of a script extend a history.
 use Rattle.std.proofs.Common.{List, [], ◌∷◌, ◌++◌, sym, subst, append_assoc, append-nil, inl, inr}
 use Rattle.std.specs.Prelude.{ℕ}
+use Rattle.std.proofs.Common.{rules}
 use Rattle.tangle_files.specs.Lines.{FileTable}
 use Rattle.tangle_files.specs.Roles.{RolesRead}
 use Rattle.tangle_script.specs.Requests.{Command, Request, request_of}
 use Rattle.tangle_script.specs.Endings.{ConversationEnds}
-use Rattle.tangle_script.specs.Endings.ConversationEnds.{IsAtQuit, IsAtInputEnd, IsUnread, IsTooLong, IsUnwritten}
-use Rattle.tangle_script.specs.Endings.ConversationEnds.{IsOutOfMemory as IsShortOfMemory}
+use Rattle.tangle_script.specs.Endings.ConversationEnds.{IsAtQuit, IsUnwritten}
 use Rattle.tangle_script.specs.Script.{AreAnswered, Conversation, Dialogue, Exchange, IsCut, IsAnswer}
 use Rattle.tangle_session.specs.Headline.{Call, History, Started, Answered, IsStarted}
 use Rattle.tangle_session.specs.Sessions.{SessionRead}
@@ -18,10 +18,9 @@ module _ (files : FileTable) (roles : RolesRead) where
   -- calls that are answered go on with a history
   and_then : (calls more : List Call) (s t : SessionRead) → History files roles calls s
       → HistoryFrom s more t → History files roles (calls ++ more) t
-  and_then calls [] s t history same =
-      rw (same, append-nil calls) history
+  and_then calls [] s t history same = rw (same, append-nil calls) history
   and_then calls (call ∷ more) s t history made =
-      subst (λ cs. History files roles cs t) (append_assoc calls (call ∷ []) more)
+      rw (← append_assoc calls (call ∷ []) more)
       (and_then (calls ++ call ∷ []) more made.0 t (Answered s call history made.1) made.2)
 
   replied : (calls : List Call) (s t : SessionAndDraft) (request : Request) (output : List ℕ)
@@ -35,10 +34,8 @@ module _ (files : FileTable) (roles : RolesRead) where
       → History files roles (calls ++ calls_of s t commands output dialogue) t.session
   goes_on calls s t [] output history d = rw (d.1, append-nil calls) history
   goes_on calls s t (command ∷ commands) output history d =
-      let first = replied calls s d.2 (request_of command) d.0 history d.3 in
-      subst (λ cs. History files roles cs t.session)
-      (append_assoc calls (calls_of_answer d.3) (calls_of d.2 t commands d.1 d.4))
-      (goes_on (calls ++ calls_of_answer d.3) d.2 t commands d.1 first d.4)
+      rw (← append_assoc) (goes_on (calls ++ calls_of_answer d.3) d.2 t commands d.1
+      (replied calls s d.2 (request_of command) d.0 history d.3) d.4)
 
   -- so do the answers of a whole conversation
   module _ (calls : List Call) where
@@ -52,8 +49,7 @@ module _ (files : FileTable) (roles : RolesRead) where
         → History files roles (calls ++ calls_until_cut is) new.state.session
     cut {old} {new} history is =
         let front = calls_of_answers is.goes_on.is_answered in
-        subst (λ cs. History files roles cs new.state.session)
-        (append_assoc calls front (calls_of_answer is.at_last.1))
+        rw (← append_assoc)
         (replied (calls ++ front) is.before.state new.state (request_of is.last) is.at_last.0
         (all history is.goes_on.is_answered) is.at_last.1)
 
@@ -63,15 +59,11 @@ module _ (files : FileTable) (roles : RolesRead) where
       → History files roles (calls ++ calls_of_conversation ends) new.exchange.state.session
   ends_go_on calls {new = new} history (IsAtQuit read are quit is) =
       let front = calls_of_answers quit.goes_on.is_answered in
-      subst (λ cs. History files roles cs new.exchange.state.session)
-      (append_assoc calls front (calls_of_answers quit.at_last.1))
+      rw (← append_assoc)
       (all (calls ++ front) (all calls history quit.goes_on.is_answered) quit.at_last.1)
-  ends_go_on calls history (IsAtInputEnd read are end on answered is) = all calls history answered
-  ends_go_on calls history (IsUnread read given within failed on is) = all calls history on.is_answered
-  ends_go_on calls history (IsTooLong read more given long calm on is) = all calls history on.is_answered
   ends_go_on calls history (IsUnwritten read are (inl now) is) = cut calls history now
   ends_go_on calls history (IsUnwritten read are (inr last) is) = cut calls history last.2
-  ends_go_on calls history (IsShortOfMemory read are long on is) = all calls history on.is_answered
+  ends_go_on calls history ends = search (rules, all)
 
 -- a session that is started is a history of its own files
 pub from_start : (files : FileTable) (roles : RolesRead) (session : SessionRead) → IsStarted files roles session

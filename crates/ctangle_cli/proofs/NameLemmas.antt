@@ -1,8 +1,8 @@
 -- The last slash and the dots of a name.
 use Rattle.std.proofs.Common.{rules}
-use Rattle.std.proofs.Common.{◌≡◌, ℕ, ◌+◌, ◌-◌, Bool, false, not, List, [], ◌∷◌, suc, ◌<◌, ◌||◌, length, get_or, take}
-use Rattle.std.proofs.Common.{drop, refl, ap, sym, ◌∙◌, arith, Option, Some, None, is_some}
-use Rattle.std.specs.List.{suffix_len, after_last, before_last, list_any}
+use Rattle.std.proofs.Common.{◌≡◌, ℕ, ◌+◌, ◌-◌, Bool, false, not, List, [], ◌∷◌, suc, ◌<◌, ◌||◌, length, get_or}
+use Rattle.std.proofs.Common.{refl, ap, sym, ◌∙◌, arith, Option, Some, None, is_some}
+use Rattle.std.specs.List.{suffix_len, list_any}
 use Rattle.std.proofs.lemmas.Bool.{false_from_ne_true}
 use Rattle.std.proofs.lemmas.List.Sums.{suffix_len_is}
 use Rattle.std.proofs.lemmas.List.Folds.{list_any_at}
@@ -10,29 +10,18 @@ use Rattle.bstr.specs.Find.{IsFirstByte, IsLastByte}
 
 module _ (test : ℕ → Bool) (name : List ℕ) where
   -- where the part after the last byte that passes the test begins
-  past-last : (k : ℕ) → IsLastByte test name (Some k) → length name - suffix_len (λ b. not (test b)) name ≡ k + 1
+  pub past-last : (k : ℕ) → IsLastByte test name (Some k)
+      → length name - suffix_len (λ b. not (test b)) name ≡ k + 1
   past-last k h =
       let place : k + 1 - 1 ≡ k = omega arith in
       search (rules, suffix_len_is)
 
-  past-none : IsLastByte test name None → length name - suffix_len (λ b. not (test b)) name ≡ 0
+  pub past-none : IsLastByte test name None → length name - suffix_len (λ b. not (test b)) name ≡ 0
   past-none h =
       let last = suffix_len_is (λ b. not (test b)) name 0 0 (omega arith)
       (λ j after within. ap not (false_from_ne_true _ (h j after within)))
       (λ some. absurd (omega arith)) in
       omega arith
-
-  pub after-found : (k : ℕ) → IsLastByte test name (Some k) → drop (k + 1) name ≡ after_last test name
-  after-found k h = ap (λ n. drop n name) (sym (past-last k h))
-
-  pub after-none : IsLastByte test name None → name ≡ after_last test name
-  after-none h = ap (λ n. drop n name) (sym (past-none h))
-
-  pub before-found : (k : ℕ) → IsLastByte test name (Some k) → take k name ≡ before_last test name
-  before-found k h = search (rules, past-last)
-
-  pub before-none : IsLastByte test name None → [] ≡ before_last test name
-  before-none h = search (rules, past-none)
 
 none_passes : (test : ℕ → Bool) (bytes : List ℕ)
     → ((j : ℕ) → j < length bytes → test (get_or bytes j 0) ≡ false) → false ≡ list_any test bytes

@@ -2,7 +2,7 @@
 -- some bytes, or the stream fails.
 use Rattle.std.proofs.Common.{rules}
 use Rattle.std.proofs.Common.{◌≡◌, ◌⊎◌, inl, inr, Option, None, Some, ℕ, ◌<◌, ◌-◌, ◌^◌, take, List, []}
-use Rattle.std.proofs.Common.{◌++◌, ap, append-nil, codes, length, length-append, arith, refl, subst, sym}
+use Rattle.std.proofs.Common.{◌++◌, ap, append-nil, codes, length, length-append, arith, refl, subst}
 use Rattle.std.proofs.lemmas.Bool.{false≢true}
 use Rattle.std.specs.Prelude.{IsSome}
 use Rattle.std.specs.Io.KnownBytes.{Appends}
@@ -12,26 +12,18 @@ use Rattle.tangle_script.proofs.FailureLemmas.{small}
 use Rattle.tangle_faults.specs.Faults.{FaultRead, is_error}
 use Rattle.tangle_files.specs.Roles.{RolesRead}
 use Rattle.tangle_folders.specs.Folder.{File, FolderRead}
-use Rattle.tangle_folders.specs.declared.folder.FolderFault.{FolderFault}
 use Rattle.ctangle_cli.specs.Arguments.{names_by_arguments}
 use Rattle.tangle_loading.specs.Loading.{LoadEnd}
 use Rattle.tangle_loading.specs.Loading.LoadEnd.{NoMemory as LoadMemory}
 use Rattle.tangle_session.specs.Headline.{faults_at, output_files}
-use Rattle.ctangle_cli.specs.Messages.{ending_line, unwritten_line, usage_line}
+use Rattle.ctangle_cli.specs.Messages.{ending_line, usage_line}
 use Rattle.ctangle_cli.specs.Run.{EndsUnstarted, Moment, RunEnds, TangledEnds, TriesToWrite, moment}
 use Rattle.ctangle_cli.specs.Run.EndsUnstarted.{IsMisused, IsCutAtUsage, IsUnnamed, IsUnloaded}
 use Rattle.ctangle_cli.specs.Run.RunEnds.{IsUnstarted, IsTangled}
 use Rattle.ctangle_cli.specs.Run.TangledEnds.{IsDone, IsCutAtFaults, IsUnwritten}
 
-stop_some : (f : FolderFault) (name : List ℕ) → 0 < length (unwritten_line f name)
-stop_some fault name = search rules
-
-ending_some : (ending : LoadEnd) → 0 < length (ending_line (codes "ctangle") ending)
-ending_some ending = search rules
-
 keeps : (taken : Option (List ℕ)) → Appends taken taken []
-keeps None = search rules
-keeps (Some xs) = sym (append-nil xs)
+keeps taken = search (rules, append-nil)
 
 module _ (same : Moment) (known : IsSome same.stream.taken) (few : same.stream.failures < 2 ^ 64 - 1) where
   no_failure : Failed same.stream.failures same.stream.failures → ⊥
@@ -57,21 +49,21 @@ module _ (same : Moment) (known : IsSome same.stream.taken) (few : same.stream.f
       by (Some xs) (Some all) is start (inr p) = no_failure (subst (λ n. Failed n same.stream.failures) first.1 p.3)
 
   silent : (ending : LoadEnd) → TriesToWrite same.stream same.stream (ending_line (codes "ctangle") ending) → ⊥
-  silent ending last =
-      silent_after same.stream [] (ending_line (codes "ctangle") ending) (ending_some ending) (keeps same.stream.taken, refl) last
+  silent ending last = silent_after same.stream [] _ (search rules) (keeps same.stream.taken, refl) last
 
   tangled_not_3 : (outputs : List File) (faults : List FaultRead) (folder : FolderRead)
       → TangledEnds outputs faults (moment folder same.stream) same 3 → ⊥
-  tangled_not_3 outputs faults folder (IsDone reported created unfailed status) = let h = small (list_any is_error faults) in omega arith
+  tangled_not_3 outputs faults folder (IsDone reported created unfailed status) =
+      omega (arith, small (list_any is_error faults))
   tangled_not_3 outputs faults folder (IsCutAtFaults reported created status) = no_failure reported.3
   tangled_not_3 outputs faults folder (IsUnwritten stop status) =
-      search (rules, silent_after, stop_some)
+      silent_after stop.between _ _ (search rules) stop.faults_reported stop.output_reported
 
   unstarted_not_3 : (usage : List ℕ) (names : Option RolesRead)
       → EndsUnstarted (codes "ctangle") usage names same same 3 → ⊥
+  unstarted_not_3 usage names (IsUnnamed reported created status) = silent LoadMemory reported
   unstarted_not_3 usage names (IsMisused none reported created status) = omega arith
   unstarted_not_3 usage names (IsCutAtUsage none reported created status) = no_failure reported.3
-  unstarted_not_3 usage names (IsUnnamed reported created status) = silent LoadMemory reported
   unstarted_not_3 usage names (IsUnloaded roles ending is why reported status) = silent ending reported
 
   pub run_not_3 : (arguments : List (List ℕ)) → RunEnds arguments same same 3 → ⊥

@@ -1,40 +1,31 @@
 -- A C compiler reads the output files of plain tangling as the author wrote them.
 use Rattle.std.proofs.Common.{arith}
 use Rattle.std.proofs.Common.{rules}
-use Rattle.std.proofs.Common.{◌≡◌, ℕ, zero, suc, Bool, true, false, List, [], ◌∷◌, ◌++◌, Option, None, Some, Ok, Err, refl, sym, subst, if◌then◌else◌}
-use Rattle.std.specs.List.{list_any}
-use Rattle.std.specs.Str.{bytes_eq}
-use Rattle.tangle_files.specs.Adding.{IsWithinLimits, add_refusal, most_files}
+use Rattle.std.proofs.lemmas.Bool.Decides.{nat_tests}
+use Rattle.std.proofs.Common.{◌≡◌, ℕ, Bool, List, [], ◌∷◌, Option, None, Ok, Err, subst}
+use Rattle.tangle_files.specs.Adding.{IsWithinLimits}
 use Rattle.tangle_files.proofs.EditLimits.{IsWithinLimits-edited}
 use Rattle.tangle_files.proofs.TableLemmas.{IsWithinLimits-none, IsWithinLimits-with_file}
-use Rattle.tangle_files.specs.Edits.{edit_refusal}
 use Rattle.tangle_files.specs.Edited.{edited, edited_all}
 use Rattle.tangle_files.specs.Lines.{FileTable}
 use Rattle.tangle_files.specs.Roles.{RolesRead}
 use Rattle.tangle_files.specs.declared.edits.Edit.{Edit}
-use Rattle.tangle_files.specs.declared.refusal.Refusal.{Refusal}
-use Rattle.tangle_files.specs.declared.marks.MarkMode.{MarkMode}
 use Rattle.tangle_names.specs.NameTable.{table_of}
-use Rattle.tangle_bodies.specs.WebShapes.{shapes}
 use Rattle.tangle_bodies.proofs.InsideLemmas.{table_inside}
-use Rattle.tangle_expansion.specs.Limits.{flat_of}
-use Rattle.tangle_expansion.specs.Numbers.{numbers_of}
-use Rattle.tangle_expansion.specs.Outputs.{output_file_bytes}
 use Rattle.tangle_c_tokens.specs.LineFeeds.{FilesHaveNoLineFeed}
-use Rattle.tangle_c_lines.specs.CountedLines.{DirectivesAreSeen, IsCountedAsWritten}
 use Rattle.tangle_c_lines.proofs.CountedLemmas.{file_counted}
 use Rattle.tangle_c_lines.proofs.LowSources.{source_low}
 use Rattle.tangle_c_tokens.proofs.FileLemmas.{file_is_read}
 use Rattle.tangle_c_tokens.proofs.TableLemmas.{added_have, edited_have, source-has}
 use Rattle.tangle_graph.proofs.OutputLemmas.{outputs_fit}
-use Rattle.tangle_loading.specs.Loading.{Contents, Loaded, add_answer, load_of, unless_refused}
+use Rattle.tangle_loading.specs.Loading.{Contents, Loaded, add_answer, load_of}
 use Rattle.tangle_loading.proofs.RoundLemmas.{load_keeps}
 use Rattle.tangle_session.specs.Edits.{list_refusal}
-use Rattle.tangle_session.specs.Headline.{AreMade, Call, Apply, ApplyAll, History, Started, Answered, IsAnswered}
+use Rattle.tangle_session.specs.Headline.{Call, Apply, ApplyAll, History, Started, Answered, IsAnswered}
 use Rattle.tangle_session.specs.Headline.{source_at, web_at}
 use Rattle.tangle_session.specs.Sessions.{SessionRead}
 use Rattle.ctangle_cli.specs.Run.{Moment, StartsSession}
-use Rattle.ctangle_cli.specs.WhatTheCompilerReads.{OutputsAreReadAsWritten, OutputsStayReadAsWritten, classes_of, node_of}
+use Rattle.ctangle_cli.specs.WhatTheCompilerReads.{OutputsAreReadAsWritten, OutputsStayReadAsWritten, node_of}
 
 -- no name and no line has a line feed, and the files are within the limits of tables
 abbrev pub AreSound : FileTable → Type 0
@@ -48,15 +39,11 @@ read-as-written files roles sound output there =
     let node = node_of files roles output in
     let clear = source-has files roles sound.0 in
     let fit = outputs_fit web (table_of web) (table_inside web) roles.out output there in
-    let bytes : (m : MarkMode) → List ℕ =
-    λ m. output_file_bytes (numbers_of web (table_of web) m) output.has_macros output.has_piece (flat_of (shapes web (table_of web)) node) in
     record {
       tokens = λ whole. file_is_read source roles.marks clear
           output.has_macros output.has_piece node whole.macros (λ is. (fit.there is, whole.pieces is));
       lines = λ full whole.
-          subst (λ (m : MarkMode). DirectivesAreSeen (classes_of files roles output) (bytes m)
-          → IsCountedAsWritten web.file_names (classes_of files roles output) output.name (bytes m)) (sym full)
-          (file_counted source clear (source_low files roles sound.1) output.name
+          rw full (file_counted source clear (source_low files roles sound.1) output.name
           output.has_macros output.has_piece node whole.macros (λ is. (fit.there is, whole.pieces is)));
     }
 
@@ -66,18 +53,9 @@ abbrev IsSound : Loaded → Type 0
 IsSound (Ok files) = AreSound files
 IsSound (Err ending) = Unit {0}
 
-added-sound : (files : FileTable) (name bytes : List ℕ) (refusal : Option Refusal) → add_refusal files name bytes ≡ refusal
-    → AreSound files → IsSound (unless_refused files name bytes refusal)
-added-sound files name bytes None is sound =
-    (added_have files name bytes is sound.0, IsWithinLimits-with_file files name bytes (sym is) sound.1)
-added-sound files name bytes (Some refusal) is sound = tt
-
 answer-sound : (needed : Bool) (files : FileTable) (name : List ℕ) (answer : Option (List ℕ)) → AreSound files
     → IsSound (add_answer needed files name answer)
-answer-sound true files name None sound = tt
-answer-sound false files name None sound = sound
-answer-sound needed files name (Some bytes) sound =
-    grind (arith, added-sound files name bytes (add_refusal files name bytes) refl sound)
+answer-sound needed files name answer sound = search (rules, added_have, IsWithinLimits-with_file)
 
 load-sound : (contents : Contents) (roles : RolesRead) → IsSound (load_of contents roles).loaded
 load-sound contents roles = load_keeps contents roles (λ load. IsSound load.loaded)
@@ -87,7 +65,7 @@ load-sound contents roles = load_keeps contents roles (λ load. IsSound load.loa
 pub started-sound : (roles : RolesRead) (old new : Moment) (session : SessionRead) → StartsSession roles old new session
     → AreSound session.files
 started-sound roles old new session starts =
-    subst AreSound (sym starts.started.files_are)
+    rw starts.started.files_are
     (subst IsSound starts.loads.gives.0 (load-sound starts.loads.contents roles))
 
 -- files that are edited
@@ -96,28 +74,23 @@ edits-sound : (files : FileTable) (roles : RolesRead) (edits : List Edit) → li
     → AreSound files → AreSound (edited_all files edits)
 edits-sound files roles [] none sound = sound
 edits-sound files roles (edit ∷ edits) none sound =
-    let first : edit_refusal files edit ≡ None = grind (arith, none) in
-    edits-sound (edited files edit) roles edits (grind (arith, none))
-    (edited_have files edit first sound.0, IsWithinLimits-edited files edit (sym first) sound.1)
+    let later = edits-sound (edited files edit) roles edits in
+    grind (arith, nat_tests, later, edited_have, IsWithinLimits-edited)
 
-made-sound : (before : SessionRead) (edits : List Edit) (after : SessionRead)
-    → list_refusal before.files before.roles edits ≡ None → AreMade before edits after → AreSound before.files
-    → AreSound after.files
-made-sound before edits after none made sound =
-    subst AreSound (sym made.files) (edits-sound before.files before.roles edits none sound)
+call-sound : (before after : SessionRead) (call : Call) → IsAnswered before call after
+    → AreSound before.files → AreSound after.files
+call-sound before after (Apply edit (Ok done)) a now =
+    rw a.1.files (edits-sound before.files before.roles (edit ∷ []) (grind (arith, a.0)) now)
+call-sound before after (ApplyAll edits (Ok done)) a now =
+    rw a.1.files (edits-sound before.files before.roles edits a.0 now)
+call-sound before after (Apply edit (Err refusal)) a now = rw a.1 now
+call-sound before after (ApplyAll edits (Err refused)) a now = rw a.1 now
 
 history-sound : (files : FileTable) (roles : RolesRead) (calls : List Call) (session : SessionRead) → AreSound files
     → History files roles calls session → AreSound session.files
-history-sound files roles calls session sound (Started is) = subst AreSound (sym is.files_are) sound
+history-sound files roles calls session sound (Started is) = rw is.files_are sound
 history-sound files roles calls session sound (Answered before call history answered) =
-    by call answered (history-sound files roles _ before sound history)
-  where
-    by : (call : Call) → IsAnswered before call session → AreSound before.files → AreSound session.files
-    by (Apply edit (Ok done)) a now =
-        made-sound before (edit ∷ []) session (grind (arith, a.0)) a.1 now
-    by (Apply edit (Err refusal)) a now = subst (λ (s : SessionRead). AreSound s.files) (sym a.1) now
-    by (ApplyAll edits (Ok done)) a now = made-sound before edits session a.0 a.1 now
-    by (ApplyAll edits (Err refused)) a now = subst (λ (s : SessionRead). AreSound s.files) (sym a.1) now
+    call-sound before session call answered (history-sound files roles _ before sound history)
 
 pub stay-read : (files : FileTable) (roles : RolesRead) → AreSound files → OutputsStayReadAsWritten files roles
 stay-read files roles sound calls session history =

@@ -34,16 +34,8 @@ differ x y s t xs yt apart same = search rules
 
 pub distinct_three : (a b c : Arg)
     → a.id.now ≡ codes "WEB" → b.id.now ≡ codes "change" → c.id.now ≡ codes "out" → HasDistinctIds (a ∷ b ∷ c ∷ [])
-distinct_three a b c ea eb ec zero zero d e lj lk h = refl
-distinct_three a b c ea eb ec zero (suc zero) d e lj lk h = absurd (differ a b _ _ ea eb refl h)
-distinct_three a b c ea eb ec zero (suc (suc zero)) d e lj lk h = absurd (differ a c _ _ ea ec refl h)
-distinct_three a b c ea eb ec (suc zero) zero d e lj lk h = absurd (differ b a _ _ eb ea refl h)
-distinct_three a b c ea eb ec (suc zero) (suc zero) d e lj lk h = refl
-distinct_three a b c ea eb ec (suc zero) (suc (suc zero)) d e lj lk h = absurd (differ b c _ _ eb ec refl h)
-distinct_three a b c ea eb ec (suc (suc zero)) zero d e lj lk h = absurd (differ c a _ _ ec ea refl h)
-distinct_three a b c ea eb ec (suc (suc zero)) (suc zero) d e lj lk h = absurd (differ c b _ _ ec eb refl h)
-distinct_three a b c ea eb ec (suc (suc zero)) (suc (suc zero)) d e lj lk h = refl
-distinct_three a b c ea eb ec j k d e lj lk h = absurd (omega arith)
+distinct_three a b c ea eb ec (suc (suc (suc j))) k d e lj lk h = absurd (omega arith)
+distinct_three a b c ea eb ec j k d e lj lk h = search (rules, differ)
 
 pub value_is : (c : Command) (a : App) (m : ArgMatches) (arguments : List Text) (id : Text)
     → app_of c ≡ a → is_simple a ≡ true → HasMatchesOf (app_of c) arguments m

@@ -49,16 +49,21 @@ module _ {X : Type 0} (bytes_of : X → List ℕ) where
       let after = joined_front (front ++ bytes_of x) xs in
       (bytes_of x ++ after.0, after.1 ∙ append_assoc front (bytes_of x) after.0)
 
+  joined_split : (xs : List X) (i : ℕ) → (rest : List ℕ) × (joined [] xs ≡ joined [] (take i xs) ++ rest)
+  joined_split xs i =
+      let rest = joined_front (joined [] (take i xs)) (drop i xs) in (
+        rest.0,
+        ap (joined []) (sym (take-append-drop i xs))
+            ∙ fold-append (λ out x. out ++ bytes_of x) [] (take i xs) (drop i xs) ∙ rest.1,
+      )
+
   -- one more part is written and counted
   pub parts_written : (a b c : Stream) (xs : List X) (i : ℕ) (d : X) (so_far result : Result ℕ WriteFault)
       → i < length xs → length (joined [] xs) < 2 ^ 128 → IsWritten a b (joined [] (take i xs)) so_far
       → IsWrittenAfter b c so_far (bytes_of (get_or xs i d)) result → IsWritten a c (joined [] (take (i + 1) xs)) result
   parts_written a b c xs i d so_far result within fits p q =
       let next = fold_more (λ out x. out ++ bytes_of x) [] xs i d within in
-      let rest = joined_front (joined [] (take (i + 1) xs)) (drop (i + 1) xs) in
-      let whole : joined [] xs ≡ joined [] (take (i + 1) xs) ++ rest.0 =
-      ap (joined []) (sym (take-append-drop (i + 1) xs))
-      ∙ fold-append (λ out x. out ++ bytes_of x) [] (take (i + 1) xs) (drop (i + 1) xs) ∙ rest.1 in
+      let whole = (joined_split xs (i + 1)).1 in
       search (rules, length-append)
 
   module _ (a b c : Stream) (xs : List X) (i : ℕ) (within : i < length xs)
@@ -75,12 +80,8 @@ module _ {X : Type 0} (bytes_of : X → List ℕ) where
     pub parts_cut : (e : WriteFault) → TakesAll a b (joined [] (take i xs)) → IsWritten b c bytes (Err e)
         → TakesPrefix a c (joined [] xs)
     parts_cut e p q =
-        let after = joined_front (joined [] (take i xs) ++ bytes) (drop (i + 1) xs) in
-        let whole : joined [] xs ≡ (joined [] (take i xs) ++ bytes) ++ after.0 =
-        ap (joined []) (sym (take-append-drop (i + 1) xs))
-        ∙ fold-append (λ out x. out ++ bytes_of x) [] (take (i + 1) xs) (drop (i + 1) xs)
-        ∙ ap (λ l. joined l (drop (i + 1) xs)) next ∙ after.1 in
-        rw whole (cut_more a c (joined [] (take i xs) ++ bytes) after.0
+        let split = joined_split xs (i + 1) in
+        rw (split.1, next) (cut_more a c (joined [] (take i xs) ++ bytes) split.0
         (whole_then_cut a b c (joined [] (take i xs)) bytes p (cut_from b c e bytes q)))
 
 -- an answer after bytes that are written

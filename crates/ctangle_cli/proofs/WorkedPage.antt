@@ -58,13 +58,9 @@ header_lines =
 abbrev AreWhole : List (List ℕ) → Type 0
 AreWhole lines = AllByRecursion (λ line. is_whole line ≡ true) lines
 
-program_whole : AreWhole program_lines
+whole : AreWhole program_lines × AreWhole header_lines
 unfolding is_element is_token is_punctuator
-program_whole = search rules
-
-header_whole : AreWhole header_lines
-unfolding is_element is_token is_punctuator
-header_whole = search rules
+whole = search rules
 
 -- what is read of these lines for a choice of regions, directives aside: each token of a.w after the number of its line
 abbrev shown : List Bool → List ℕ → List LineOfTokens → List ℕ
@@ -72,9 +68,6 @@ shown choices name lines =
     join_with_byte line_feed (map (λ read. decimal read.origin.line ++ space ∷ read.token)
     (filter (λ read. not read.in_directive && bytes_eq read.origin.file (codes "a.w"))
     (reads choices true (record { row = 0; origin = record { file = name; line = 1 } }) lines)))
-
-abbrev shown_of : List Bool → List ℕ → List ℕ → List ℕ
-shown_of choices name bytes = shown choices name (lines_from start_of_text bytes)
 
 -- the tokens before the group, in its two regions, and after it
 abbrev before : List ℕ
@@ -103,5 +96,5 @@ reads_of_lines = record { both = refl; debug = refl; other = refl; of_header = r
 worked : Reads (lines_from start_of_text program) (lines_from start_of_text header)
 worked =
     subst (λ (both : List LineOfTokens × List LineOfTokens). Reads both.0 both.1)
-    (λ i. (sym (each_line start_of_text program program_whole) i, sym (each_line start_of_text header header_whole) i))
+    (λ i. (sym (each_line start_of_text program whole.0) i, sym (each_line start_of_text header whole.1) i))
     reads_of_lines

@@ -62,7 +62,7 @@ times zero bytes = []
 times (suc n) bytes = bytes ++ times n bytes
 
 -- a section, a web without lines, changes of lines, and inclusions
-record Changes : Type 0 where
+record AreWorked : Type 0 where
   pub one_section : tangled_web (codes "@ A.\n@c\nint x;\n") ≡ gives [] (codes "/*1:*/\n#line 2 \"a.w\"\n\nint x;\n/*:1*/\n")
   pub no_lines : tangled_web [] ≡ gives (fault_unplaced NoProgram ∷ []) []
   pub a_line_changed : tangled_change (codes "@ A.\n@c\nint a;\nint b;\n") (codes "@x\nint a;\n@y\nint z;\n@z\n")
@@ -97,13 +97,7 @@ record Changes : Type 0 where
   pub inclusions_without_file : tangled_web (codes "@i\n@i \"n.w\" x\n@ A.\n@c\nx\n")
       ≡ gives (fault_at IncludeNoName (line 1) ∷ fault_about IncludeMissing (line 2) (codes "n.w") ∷ [])
       (codes "/*1:*/\n#line 4 \"a.w\"\n\nx\n/*:1*/\n")
-
-changes : Changes
-unfolding faults_at contains_itself reaches_cycle source_at web_at reads_in tokens_from lexeme occurrences_from levels heaviest digits
-changes = search rules
-
--- the text of C parts and macros
-record Parts : Type 0 where
+  -- the text of C parts and macros
   pub macros_at_an_h : tangled_web (codes "@ A.\n@d N 10\n@c\n@h\nint x=N;\n")
       ≡ gives [] (codes "/*1:*/\n#line 3 \"a.w\"\n\n\n#define N 10\n\n#line 4 \"a.w\"\n\nint x=N;\n/*:1*/\n")
   pub a_join_over_lines : tangled_web (codes "@ A.\n@c\na@&\nb;\nc;\n")
@@ -124,13 +118,7 @@ record Parts : Type 0 where
       (codes "#define M 1\n/*1:*/\n#line 3 \"a.w\"\n\nx y\nz\nv\n\n/*:1*/\n")
   pub quoted_texts_over_lines : tangled_web (codes "@ A.\n@c\ns=\"a\\\nb\";@=u@@v@>\n#include <p@@q>\n")
       ≡ gives [] (codes "/*1:*/\n#line 2 \"a.w\"\n\ns=\"a\\\nb\";u@v\n#include <p@q>\n/*:1*/\n")
-
-parts : Parts
-unfolding faults_at contains_itself reaches_cycle source_at web_at reads_in tokens_from lexeme occurrences_from levels heaviest digits
-parts = search rules
-
--- names, and bytes of other codes
-record Names : Type 0 where
+  -- names, and bytes of other codes
   pub names_that_do_not_fit : tangled_web (codes "@ A @<In it@>.\n@c\n@<  In   @>@<Zz...@>\n@<b@>=\n@<q\n@ B.\n")
       ≡ gives (on 4 NameEquals ∷ on 6 NameEnd ∷ fault_about NoFullName (line 3) (codes "Zz...")
       ∷ fault_about PrefixName (line 3) (codes "In")
@@ -162,6 +150,6 @@ record Names : Type 0 where
             ∷ (codes "/../a", codes "/*3:*/\n#line 6 \"a.w\"\n\n/*:3*/\n") ∷ [],
       )
 
-names : Names
+worked : AreWorked
 unfolding faults_at contains_itself reaches_cycle source_at web_at reads_in tokens_from lexeme occurrences_from levels heaviest digits plain_form
-names = search rules
+worked = search rules

@@ -11,7 +11,7 @@ use Rattle.std.specs.Prelude.{map, unwrap_or, IsSome}
 use Rattle.std.specs.List.{IsDistinct}
 use Rattle.std.specs.Map.{lookup}
 use Rattle.std.specs.Str.{bytes_eq}
-use Rattle.std.proofs.Common.{subst, sym}
+use Rattle.std.proofs.Common.{sym}
 use Rattle.std.proofs.lemmas.Cmp.{nat_list_eq_equiv}
 use Rattle.std.proofs.lemmas.List.Elements.{Contains-append_right}
 use Rattle.std.proofs.lemmas.Map.Views.{lookup-from_Contains}
@@ -67,8 +67,7 @@ wrote_prefix (Err fault) a b c s t name bytes m first added put whole prefix =
 -- the sink took all the bytes of an output that a session wrote, or a prefix of them
 pub took : (o : Option (List ℕ)) (a b : Stream) (n : ℕ)
     → IsSome o → WritesOutput o a b (Ok n) → Appends a.taken b.taken (unwrap_or o [])
-took None a b n some h = absurd (cc)
-took (Some bytes) a b n some h = h.1
+took o a b n some h = search rules
 
 pub took_front : (o : Option (List ℕ)) (a b : Stream) (e : Refusal)
     → IsSome o → WritesOutput o a b (Err e) → (m : ℕ) × Appends a.taken b.taken (take m (unwrap_or o []))
@@ -98,40 +97,28 @@ pub record IsNext (outputs : List File) (old new : Option (List File))
   pub created : new ≡ with_created old done
   pub names_are : names ≡ map (λ f. f.0) others
 
-pub next_output : (outputs : List File) (old new : Option (List File))
-    (before : List (List ℕ)) (name : List ℕ) (names : List (List ℕ))
-    → before ≡ name ∷ names
-    → IsDistinct bytes_eq (map (λ f. f.0) outputs) → HasWritten outputs old new before
-    → IsNext outputs old new name names
-next_output outputs old new before name names is distinct h = by h.others (sym is ∙ h.names_are) h.all
-  where
-    by : (others : List File)
-        → name ∷ names ≡ map (λ f. f.0) others → outputs ≡ h.done ++ others → IsNext outputs old new name names
-    by [] e all = absurd (cc)
-    by (f ∷ others) e all =
-        let same : name ≡ f.0 = cc in
-        let found : lookup (bytes_eq name) outputs ≡ Some f.1 =
-        lookup-from_Contains nat_list_eq_equiv name f.1 outputs distinct (rw (all, same)
-        (Contains-append_right h.done (f ∷ others) f (0, omega arith, refl))) in
-        search rules
+module _ (outputs : List File) (old mid : Option (List File))
+    (name : List ℕ) (names : List (List ℕ)) where
+  pub next_output : (before : List (List ℕ)) → before ≡ name ∷ names
+      → IsDistinct bytes_eq (map (λ f. f.0) outputs) → HasWritten outputs old mid before
+      → IsNext outputs old mid name names
+  next_output before is distinct h = by h.others (sym is ∙ h.names_are) h.all
+    where
+      by : (others : List File)
+          → name ∷ names ≡ map (λ f. f.0) others → outputs ≡ h.done ++ others
+          → IsNext outputs old mid name names
+      by [] e all = absurd (cc)
+      by (f ∷ others) e all =
+          let found = lookup-from_Contains nat_list_eq_equiv f.0 f.1 outputs distinct (rw all
+          (Contains-append_right h.done (f ∷ others) f (0, omega arith, refl))) in
+          search rules
 
-pub wrote_next : (outputs : List File) (old mid new : Option (List File)) (name : List ℕ) (names : List (List ℕ))
-    → IsNext outputs old mid name names
-    → new ≡ with_created mid (named outputs name ∷ [])
-    → HasWritten outputs old new names
-wrote_next outputs old mid new name names next is = search (rules, append_assoc, with_created-append)
+  pub wrote_next : (new : Option (List File)) → IsNext outputs old mid name names
+      → new ≡ with_created mid (named outputs name ∷ []) → HasWritten outputs old new names
+  wrote_next new next is = search (rules, append_assoc, with_created-append)
 
--- writing stopped at the next output, because memory ran out or the folder failed
-pub stops_at_next : (outputs : List File) (old mid new : Option (List File))
-    (name : List ℕ) (names : List (List ℕ)) (fault : FolderFault)
-    → IsNext outputs old mid name names
-    → AddsPrefix mid new (named outputs name) → (fault ≡ NoMemory → new ≡ mid)
-    → StopsAt outputs old new name fault
-stops_at_next outputs old mid new name names fault next added nothing = record {
-  before = next.done;
-  bytes = unwrap_or (lookup (bytes_eq name) outputs) [];
-  after = next.others;
-  split = next.all;
-  created = subst (λ files. AddsPrefix files new (named outputs name)) next.created added;
-  no_prefix = λ short. nothing short ∙ next.created;
-}
+  -- writing stopped at the next output, because memory ran out or the folder failed
+  pub stops_at_next : (new : Option (List File)) (fault : FolderFault)
+      → IsNext outputs old mid name names → AddsPrefix mid new (named outputs name)
+      → (fault ≡ NoMemory → new ≡ mid) → StopsAt outputs old new name fault
+  stops_at_next new fault next added nothing = search rules

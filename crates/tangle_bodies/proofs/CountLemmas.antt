@@ -35,5 +35,5 @@ unfolded_count (t ∷ tags) bytes =
     grind (arith, nat_tests, own_counts-append, kind_count t.kind t, unfolded_count tags)
 
 pub body_counted : (names : List (List ℕ)) (shape : Shape) (body : NodeBody) → HoldsShape names shape body
-    → length body.bytes.items + own_counts body.tags.items ≡ own_weight shape
+    → length body.items.value.bytes.items + own_counts body.items.value.tags.items ≡ own_weight shape
 body_counted names shape body h = search (rules, unfolded_count)

@@ -12,9 +12,9 @@ use Rattle.tangle_bodies.specs.Shapes.{Title, Kind, ShapeItem, Written, Shape}
 use Rattle.tangle_bodies.specs.Flat.{Symbol, Byte, items_flat, marks_after_shape_item}
 use Rattle.tangle_bodies.specs.Flat.{pieces_flat}
 use Rattle.tangle_bodies.proofs.EachLemmas.{joins, seams}
-use Rattle.tangle_bodies.specs.Meaning.{next_piece, next_mark, with_used, tags_flat, body_flat}
+use Rattle.tangle_bodies.specs.Meaning.{next_piece, next_mark, with_used, tags_flat, node_flat}
 use Rattle.tangle_bodies.specs.Flat.{own_symbols}
-use Rattle.tangle_bodies.specs.NodeBodies.{HoldsShape, body_title, body_uses, names_at}
+use Rattle.tangle_bodies.specs.NodeBodies.{HoldsShape, body_uses, names_at}
 use Rattle.tangle_bodies.specs.Tags.{item_tag, item_bytes, piece_end, shape_tags, shape_bytes}
 use Rattle.tangle_bodies.specs.Shapes.{item_names, shape_names}
 use Rattle.tangle_scan.specs.UnfoldedTags.{part_tag, run_tags, kind_tags, unfolded_tags}
@@ -91,8 +91,8 @@ module _ (node : Title) where
         grind (joins, first, shape_flat (piece + 1) 0 pieces)
 
 -- the symbols of a body, where each name that it uses has the symbols that it has in the shape
-pub held_flat : (names : List (List ℕ)) (shape : Shape) (body : NodeBody)
+pub held_flat : (node : Title) (names : List (List ℕ)) (shape : Shape) (body : NodeBody)
     (symbols : List ℕ → List Symbol) (used : List (List Symbol)) → HoldsShape names shape body
     → used ≡ map symbols (names_at names (body_uses body))
-    → body_flat body used ≡ pieces_flat symbols (body_title body) 0 shape
-held_flat names shape body symbols used h same = search (rules, unfolded_flat, shape_flat)
+    → node_flat node body.items.value used ≡ pieces_flat symbols node 0 shape
+held_flat node names shape body symbols used h same = search (rules, unfolded_flat, shape_flat)

@@ -6,4 +6,3 @@ pub mod TagLemmas
 pub mod CountLemmas
 pub mod HeldLemmas
 pub mod FlatLemmas
-pub mod LongerLemmas

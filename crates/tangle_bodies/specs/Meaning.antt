@@ -1,20 +1,12 @@
--- The symbols of a body, with those of the names that it uses in the places of the uses.
+-- The symbols of the items of a node, with those of the used names in the places of the uses.
 use Rattle.std.specs.Prelude.{ℕ, ◌+◌, List, [], ◌∷◌, ◌++◌, map, flat_map, take, drop}
-use Rattle.std.specs.Prelude.{Option, None, Some, Vec}
-use Rattle.std.specs.Prelude.{unwrap_or}
-use Rattle.std.specs.Global.{Global}
 use Rattle.tangle_files.specs.Bytes.{space}
-use Rattle.tangle_bodies.specs.Shapes.{Title, Program, Named}
+use Rattle.tangle_bodies.specs.Shapes.{Title}
 use Rattle.tangle_bodies.specs.Flat.{Symbol, Byte, own_symbols}
-use Rattle.tangle_bodies.specs.declared.nodes.NodeBody.{NodeBody}
+use Rattle.tangle_bodies.specs.declared.nodes.NodeItems.{NodeItems}
 use Rattle.tangle_scan.specs.declared.texts.ItemKind.{ItemKind}
 use Rattle.tangle_scan.specs.declared.texts.ItemKind.TheVariants as tag
 use Rattle.tangle_scan.specs.declared.texts.ItemTag.{ItemTag}
-
--- the node with this name; without a name, the program
-abbrev pub title_of : Option (Vec ℕ Global) → Title
-title_of None = Program
-title_of (Some name) = Named name.items
 
 -- the numbers of pieces and marks after a tag of this kind; the opening mark is not counted
 
@@ -37,10 +29,6 @@ with_used tag.Use own [] rest = []
 with_used tag.Use own (symbols ∷ used) rest = own ++ (symbols ++ rest used)
 with_used _ own used rest = own ++ rest used
 
--- the symbols of what is shared for each use; there are none where nothing is
-abbrev pub shared_symbols : List (Option (List Symbol)) → List (List Symbol)
-shared_symbols used = map (λ o. unwrap_or o []) used
-
 -- what is shared for no use comes at the end; no expansion that is made has such
 abbrev pub left_over : List (List Symbol) → List Symbol
 left_over used = flat_map (λ symbols. Byte space ∷ symbols) used
@@ -54,6 +42,7 @@ tags_flat node piece marks bytes (t ∷ tags) used =
     ++ with_used t.kind (own_symbols node piece marks t.kind) used
     (tags_flat node (next_piece piece t.kind) (next_mark marks t.kind) (drop t.size bytes) tags)
 
--- the symbols of a body, where the names that it uses have these ones, in the order of the uses
-abbrev pub body_flat : NodeBody → List (List Symbol) → List Symbol
-body_flat body used = tags_flat (title_of body.name) 0 0 body.bytes.items body.tags.items used
+-- the symbols of a node with these items, where the names that it uses have these ones, in the
+-- order of the uses
+abbrev pub node_flat : Title → NodeItems → List (List Symbol) → List Symbol
+node_flat node items used = tags_flat node 0 0 items.bytes.items items.tags.items used

@@ -1,27 +1,35 @@
 -- The body of a node, as contracts mention it, and its items while they are made.
-use Rattle.std.specs.Prelude.{◌≡◌, ℕ, List, [], ◌∷◌, ◌++◌, map, slice_index_or}
+use Rattle.std.specs.Prelude.{◌≡◌, ◌<◌, ◌+◌, ℕ, List, [], ◌∷◌, ◌++◌, length, map, slice_index_or}
+use Rattle.std.specs.Prelude.{All, slice_get, Some}
+use Rattle.std.specs.Global.{Global}
+use Rattle.std.specs.declared.rc.Rc.{Rc}
+use Rattle.digraph.specs.Nodes.{Node}
 use Rattle.tangle_scan.specs.Texts.{TextRead}
 use Rattle.tangle_scan.specs.Web.{PieceRead}
 use Rattle.tangle_names.specs.NameTable.{TableRead}
-use Rattle.tangle_bodies.specs.Shapes.{Title, Shape}
+use Rattle.tangle_bodies.specs.Shapes.{Shape, Shapes}
 use Rattle.tangle_bodies.specs.Tags.{piece_end, piece_start, shape_tags, shape_bytes}
 use Rattle.tangle_bodies.specs.Shapes.{shape_names}
 use Rattle.tangle_bodies.specs.ItemTags.{names_of, pieces_uses, resolved_tags}
 use Rattle.tangle_bodies.specs.WebShapes.{shape_of}
-use Rattle.tangle_bodies.specs.Meaning.{title_of}
+use Rattle.tangle_bodies.specs.Nodes.{title_at}
 use Rattle.tangle_scan.specs.declared.texts.ItemTag.{ItemTag}
 use Rattle.tangle_scan.specs.UnfoldedTags.{unfolded_tags}
 use Rattle.tangle_bodies.specs.declared.nodes.NodeBody.{NodeBody}
+use Rattle.tangle_bodies.specs.declared.nodes.NodeItems.{NodeItems}
 
--- a body without its name, as it is in memory, where one tag may stand for several items
+-- a body, as it is in memory, where one tag may stand for several items
 pub record ItemsRead : Type 0 where
   pub tags : List ItemTag
   pub bytes : List ℕ
   pub uses : List ℕ
 
+abbrev pub items_read : NodeItems → List ℕ → ItemsRead
+items_read items uses =
+    record { tags = items.tags.items; bytes = items.bytes.items; uses = uses }
+
 abbrev pub body_items : NodeBody → ItemsRead
-body_items body =
-    record { tags = body.tags.items; bytes = body.bytes.items; uses = body.uses.items }
+body_items body = items_read body.items.value body.uses.items
 
 abbrev pub nothing_made : ItemsRead
 nothing_made = record { tags = []; bytes = []; uses = [] }
@@ -34,9 +42,6 @@ with_piece table old text = record old {
   uses = old.uses ++ names_of table text.uses;
 }
 
-abbrev pub body_title : NodeBody → Title
-body_title body = title_of body.name
-
 -- the numbers of the names that the items use: one for each use that resolves to a name
 abbrev pub body_uses : NodeBody → List ℕ
 body_uses body = body.uses.items
@@ -47,8 +52,9 @@ names_at names numbers = map (λ id. slice_index_or names id []) numbers
 
 -- the body determines this shape, where the table has these names
 pub record HoldsShape (names : List (List ℕ)) (shape : Shape) (body : NodeBody) : Type 0 where
-  pub tags : unfolded_tags body.tags.items body.bytes.items ≡ shape_tags shape
-  pub bytes : body.bytes.items ≡ shape_bytes shape
+  pub tags : unfolded_tags body.items.value.tags.items body.items.value.bytes.items
+      ≡ shape_tags shape
+  pub bytes : body.items.value.bytes.items ≡ shape_bytes shape
   pub names_used : names_at names (body_uses body) ≡ shape_names shape
 
 -- these are the items of these pieces
@@ -65,3 +71,22 @@ pub record HaveOneShape (names other_names : List (List ℕ))
   pub tags : unfolded_tags items.tags items.bytes ≡ unfolded_tags others.tags others.bytes
   pub bytes : items.bytes ≡ others.bytes
   pub names_used : names_at names items.uses ≡ names_at other_names others.uses
+
+-- The bodies of the nodes of some shapes.
+
+-- the body of each node
+abbrev pub node_bodies : List (Rc NodeBody Global) → List NodeBody
+node_bodies bodies = map (λ (body : Rc NodeBody Global). body.value) bodies
+
+-- the body determines the node's shape, and uses names of the table
+pub record IsBodyOf (shapes : Shapes) (names : List (List ℕ))
+    (node : Node) (body : NodeBody) : Type 0 where
+  pub shape : HoldsShape names (shapes (title_at names node)) body
+  pub inside : All (λ id. id < length names) (body_uses body)
+
+-- there is a body for each node, which is such a one
+pub record AreBodiesOf (shapes : Shapes) (names : List (List ℕ))
+    (bodies : List NodeBody) : Type 0 where
+  pub size : length bodies ≡ length names + 1
+  pub each : (node : Node) (body : NodeBody) → slice_get bodies node ≡ Some body
+      → IsBodyOf shapes names node body

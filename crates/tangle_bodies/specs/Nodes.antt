@@ -1,5 +1,5 @@
 -- The nodes of a web: their titles, and the rows of their pieces.
-use Rattle.std.specs.Prelude.{◌≡◌, ◌<◌, ℕ, zero, suc, List, [], ◌∷◌, length, map, slice_index_or}
+use Rattle.std.specs.Prelude.{◌≡◌, ◌<◌, ◌≤◌, ℕ, zero, suc, List, [], ◌∷◌, length, map, slice_index_or}
 use Rattle.std.specs.List.{All}
 use Rattle.digraph.specs.Nodes.{Node}
 use Rattle.tangle_scan.specs.Web.{WebRead, PieceRead, no_piece}
@@ -11,6 +11,10 @@ use Rattle.tangle_bodies.specs.WebShapes.{pieces_of}
 abbrev pub title_at : List (List ℕ) → Node → Title
 title_at names zero = Program
 title_at names (suc id) = Named (slice_index_or names id [])
+
+-- the node is the program or a name of the table
+abbrev pub IsNodeOf : List (List ℕ) → Node → Type 0
+IsNodeOf names node = node ≤ length names
 
 -- the pieces with these numbers
 abbrev pub pieces_at : List PieceRead → List ℕ → List PieceRead

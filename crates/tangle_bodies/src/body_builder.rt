@@ -5,16 +5,17 @@ ghost use Rattle.std.specs.List.{All, list_all};
 ghost use Rattle.tangle_scan.specs.Texts.{text_of};
 ghost use Rattle.tangle_scan.specs.declared.texts.ItemTag.{ItemTag as TagRead};
 ghost use Rattle.tangle_bodies.specs.ItemTags.{is_name, names_of, resolved_tags};
-ghost use Rattle.tangle_bodies.specs.Meaning.{title_of};
-ghost use Rattle.tangle_bodies.specs.NodeBodies.{AreItemsOf, HaveOneShape, body_items, body_title};
-ghost use Rattle.tangle_bodies.specs.NodeBodies.{body_uses, nothing_made, with_piece};
+ghost use Rattle.tangle_bodies.specs.NodeBodies.{AreItemsOf, HaveOneShape, body_items};
+ghost use Rattle.tangle_bodies.specs.NodeBodies.{body_uses, items_read, names_at, nothing_made};
+ghost use Rattle.tangle_bodies.specs.NodeBodies.{with_piece};
 ghost use Rattle.tangle_bodies.specs.Nodes.{pieces_at};
 ghost use Rattle.tangle_bodies.specs.WebShapes.{resolved_at};
 
-use crate::nodes::NodeBody;
-use crate::shapes::same_items;
+use crate::nodes::{NodeBody, NodeItems};
+use crate::shapes::{same_items, use_same_names};
 use std::alloc::Global;
 use std::marker::Model;
+use std::rc::Rc;
 use tangle_lines::NoMemory;
 use tangle_names::{NameTable, Names, Resolved};
 use tangle_scan::{ItemKind, ItemTag, OccurrenceNumber, PieceText, Web};
@@ -23,15 +24,16 @@ use tangle_scan::{ItemKind, ItemTag, OccurrenceNumber, PieceText, Web};
 /// so that a body takes only the memory that it needs, and none if an old one has the same items.
 #[derive(Drop)]
 pub struct BodyBuilder {
-    made: NodeBody,
+    items: NodeItems,
+    uses: Vec<usize>,
 }
 
 impl Model for BodyBuilder {
-    ghost use Rattle.tangle_bodies.specs.NodeBodies.{ItemsRead, body_items};
+    ghost use Rattle.tangle_bodies.specs.NodeBodies.{ItemsRead, items_read};
 
     ghost Value = { ItemsRead };
 
-    ghost view = { λ b. body_items b.made };
+    ghost view = { λ b. items_read b.items b.uses.items };
 }
 
 impl BodyBuilder {
@@ -40,12 +42,11 @@ impl BodyBuilder {
         ensures { result ≡ nothing_made }
     {
         BodyBuilder {
-            made: NodeBody {
-                name: None,
+            items: NodeItems {
                 bytes: Vec::new(alloc),
                 tags: Vec::new(alloc),
-                uses: Vec::new(alloc),
             },
+            uses: Vec::new(alloc),
         }
     }
 
@@ -60,9 +61,9 @@ impl BodyBuilder {
         ensures { OnOk result (AreItemsOf web.now.texts table.now
             (pieces_at web.now.pieces numbers.now) self.new) }
     {
-        self.made.bytes.clear();
-        self.made.tags.clear();
-        self.made.uses.clear();
+        self.items.bytes.clear();
+        self.items.tags.clear();
+        self.uses.clear();
         for number in numbers {
             self.add_piece(table, web.piece_text(*number))?;
         }
@@ -70,48 +71,57 @@ impl BodyBuilder {
     }
 
     /// Whether the items that were made, with these names, have the same shape as a body with its
-    /// names. `same_names` says that both have the same names.
+    /// names. `same_uses` says that both use the same names; otherwise they are compared.
     pub fn has_shape_of(
         &self,
         names: &Names,
         body: &NodeBody,
         other_names: &Names,
-        same_names: bool,
+        same_uses: bool,
     ) -> bool
         requires inside { All (λ id. id < length names.now) self.now.uses }
         requires other_inside { All (λ id. id < length other_names.now) (body_uses body.now) }
-        requires same_names { same_names ≡ true → names.now ≡ other_names.now }
+        requires same_uses { same_uses ≡ true
+            → names_at names.now self.now.uses ≡ names_at other_names.now (body_uses body.now) }
         ensures { (result ≡ true)
             ↔ HaveOneShape names.now other_names.now self.now (body_items body.now) }
     {
-        if same_names && self.has_uses_of(body) {
-            return same_items(&self.made, body);
-        }
-        self.made.has_shape_of(names, body, other_names)
+        same_items(&self.items, &body.items)
+            && (same_uses || use_same_names(names, &self.uses, other_names, &body.uses))
     }
 
     /// Whether the uses that were made have the same numbers as those of a body.
     pub fn has_uses_of(&self, body: &NodeBody) -> bool
         ensures { (result ≡ true) ↔ (self.now.uses ≡ body_uses body.now) }
     {
-        self.made.uses == body.uses
+        self.uses == body.uses
     }
 
-    /// The body with the items that were made, under this name.
+    /// The body with the items that were made.
     ///
     /// # Errors
     ///
     /// `NoMemory` where an allocation failed.
-    pub fn body(&self, alloc: Global, name: Option<Vec<u8>>) -> Result<NodeBody, NoMemory>
-        ensures title { IfOk result (λ body. body_title body ≡ title_of name) }
-        ensures items { IfOk result (λ body. body_items body ≡ self.now) }
+    pub fn body(&self, alloc: Global) -> Result<NodeBody, NoMemory>
+        ensures { IfOk result (λ body. body_items body ≡ self.now) }
     {
-        Ok(NodeBody {
-            name,
-            bytes: Vec::from_slice(alloc, &self.made.bytes)?,
-            tags: Vec::from_slice(alloc, &self.made.tags)?,
-            uses: Vec::from_slice(alloc, &self.made.uses)?,
-        })
+        let items = NodeItems {
+            bytes: Vec::from_slice(alloc, &self.items.bytes)?,
+            tags: Vec::from_slice(alloc, &self.items.tags)?,
+        };
+        self.body_of(alloc, Rc::new(alloc, items)?)
+    }
+
+    /// The body with these items and the uses that were made.
+    ///
+    /// # Errors
+    ///
+    /// `NoMemory` where an allocation failed.
+    pub fn body_of(&self, alloc: Global, items: Rc<NodeItems>) -> Result<NodeBody, NoMemory>
+        ensures { IfOk result (λ body. body_items body ≡ items_read items.value self.now.uses) }
+    {
+        let uses = Vec::from_slice(alloc, &self.uses)?;
+        Ok(NodeBody { items, uses })
     }
 
     /// Adds the tag of a border of a piece.
@@ -120,7 +130,7 @@ impl BodyBuilder {
           tags = self.old.tags ++ record { kind = kind; size = 0 } ∷ [];
         }) }
     {
-        self.made.tags.push(ItemTag { kind, size: 0 })?;
+        self.items.tags.push(ItemTag { kind, size: 0 })?;
         Ok(())
     }
 
@@ -137,7 +147,7 @@ impl BodyBuilder {
         let mut all = true;
         for used in uses {
             match table.resolve(used.number()) {
-                Resolved::Name(id) => self.made.uses.push(id)?,
+                Resolved::Name(id) => self.uses.push(id)?,
                 Resolved::NoFullName | Resolved::Ambiguous => all = false,
             }
         }
@@ -151,10 +161,10 @@ impl BodyBuilder {
     {
         let all_resolve = self.add_uses(table, text.uses)?;
         self.add_border(ItemKind::PieceStart)?;
-        let first = self.made.tags.len();
-        self.made.tags.extend_from_slice(text.tags)?;
-        mark_unresolved(&mut self.made.tags, first, table, text.uses, all_resolve);
-        self.made.bytes.extend_from_slice(text.bytes)?;
+        let first = self.items.tags.len();
+        self.items.tags.extend_from_slice(text.tags)?;
+        mark_unresolved(&mut self.items.tags, first, table, text.uses, all_resolve);
+        self.items.bytes.extend_from_slice(text.bytes)?;
         self.add_border(ItemKind::PieceEnd)
     }
 }

@@ -5,7 +5,7 @@ ghost use Rattle.tangle_bodies.specs.Flat.{own_symbols};
 ghost use Rattle.tangle_bodies.specs.NodeBodies.{HoldsShape};
 ghost use Rattle.tangle_bodies.specs.Shapes.{Program, Shape};
 
-use crate::nodes::NodeBody;
+use crate::nodes::{NodeBody, NodeItems};
 use tangle_scan::ItemKind;
 
 /// The number of symbols that a tag of this kind gives besides its bytes.
@@ -29,10 +29,11 @@ impl NodeBody {
             → (cap : ℕ) → cap < 2 ^ 64
             → min cap result ≡ min cap (own_weight shape) }
     {
+        let items: &NodeItems = &self.items;
         let mut count = 0;
-        for tag in self.tags.as_slice() {
+        for tag in items.tags.as_slice() {
             count += symbols_of_kind(tag.kind);
         }
-        self.bytes.len().saturating_add(count)
+        items.bytes.len().saturating_add(count)
     }
 }

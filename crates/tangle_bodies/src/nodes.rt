@@ -2,19 +2,26 @@
 ghost use Rattle.std.specs.Prelude.{◌≡◌};
 ghost use Rattle.tangle_bodies.specs.NodeBodies.{body_uses};
 
+use std::rc::Rc;
 use tangle_scan::ItemTag;
 
-/// The body of a node: its name, the bytes of all its items, their tags, by which the node is
-/// written and shapes are compared, and the numbers of the names that they use.
+/// The items of a node's pieces, without the names that their uses mean. So nothing in them depends
+/// on the numbers of one web, and the expansions that are kept over edits share them.
+#[derive(Drop)]
+pub struct NodeItems {
+    /// The bytes of all items.
+    pub bytes: Vec<u8>,
+    /// What the bytes are, and what comes between them. By these tags the node is written and
+    /// shapes are compared.
+    pub tags: Vec<ItemTag>,
+}
+
+/// The body of a node in one web: the items of its pieces, and the numbers of the names that they
+/// use.
 #[derive(Drop)]
 pub struct NodeBody {
-    /// The name, or none for the program.
-    // A copy, since the body is kept while the table is replaced and the name's number may change.
-    pub name: Option<Vec<u8>>,
-    /// The bytes of all its items.
-    pub bytes: Vec<u8>,
-    /// What the bytes are, and what comes between them.
-    pub tags: Vec<ItemTag>,
+    /// The items of its pieces.
+    pub items: Rc<NodeItems>,
     pub(crate) uses: Vec<usize>,
 }
 

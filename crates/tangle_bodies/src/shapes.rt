@@ -4,13 +4,18 @@ ghost use Rattle.std.specs.List.{All};
 ghost use Rattle.tangle_scan.specs.UnfoldedTags.{unfolded_tags};
 ghost use Rattle.tangle_bodies.specs.NodeBodies.{HaveOneShape, body_items, body_uses, names_at};
 
-use crate::nodes::NodeBody;
+use crate::nodes::{NodeBody, NodeItems};
 use tangle_names::Names;
 use tangle_scan::have_same_items;
 
 /// Whether the names with these numbers in one table are, one by one, those with the other numbers
 /// in the other table.
-fn use_same_names(names: &Names, uses: &[usize], other_names: &Names, other_uses: &[usize]) -> bool
+pub(crate) fn use_same_names(
+    names: &Names,
+    uses: &[usize],
+    other_names: &Names,
+    other_uses: &[usize],
+) -> bool
     requires inside { All (λ id. id < length names.now) uses.now }
     requires other_inside { All (λ id. id < length other_names.now) other_uses.now }
     ensures { (result ≡ true)
@@ -27,13 +32,13 @@ fn use_same_names(names: &Names, uses: &[usize], other_names: &Names, other_uses
     true
 }
 
-/// Whether the items of two bodies have the same kinds and the same bytes.
-pub(crate) fn same_items(body: &NodeBody, other: &NodeBody) -> bool
-    ensures { (result ≡ true) ↔ ((unfolded_tags body.now.tags.items body.now.bytes.items
-        ≡ unfolded_tags other.now.tags.items other.now.bytes.items)
-        × (body.now.bytes.items ≡ other.now.bytes.items)) }
+/// Whether the items have the same kinds and the same bytes as others.
+pub(crate) fn same_items(items: &NodeItems, others: &NodeItems) -> bool
+    ensures { (result ≡ true) ↔ ((unfolded_tags items.now.tags.items items.now.bytes.items
+        ≡ unfolded_tags others.now.tags.items others.now.bytes.items)
+        × (items.now.bytes.items ≡ others.now.bytes.items)) }
 {
-    body.bytes == other.bytes && have_same_items(&body.tags, &other.tags, &body.bytes)
+    items.bytes == others.bytes && have_same_items(&items.tags, &others.tags, &items.bytes)
 }
 
 impl NodeBody {
@@ -46,6 +51,7 @@ impl NodeBody {
         ensures { (result ≡ true)
             ↔ HaveOneShape names.now other_names.now (body_items self.now) (body_items other.now) }
     {
-        same_items(self, other) && use_same_names(names, &self.uses, other_names, &other.uses)
+        same_items(&self.items, &other.items)
+            && use_same_names(names, &self.uses, other_names, &other.uses)
     }
 }

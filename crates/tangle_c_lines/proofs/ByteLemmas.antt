@@ -14,7 +14,7 @@ use Rattle.c_lines.specs.Counting.{next_place, place_after, places, counted, rea
 use Rattle.c_lines.specs.JoinedLines.{joined_lines, lines_of_each}
 use Rattle.tangle_lines.specs.declared.origin.Origin.{Origin}
 use Rattle.tangle_scan.specs.LineTruth.{with_line_end}
-use Rattle.tangle_scan.specs.Directives.{Border, SameRegion, GroupBegins, GroupTurns, ForEachChoice}
+use Rattle.tangle_scan.specs.Directives.{Border, SameRegion, ForEachChoice}
 use Rattle.tangle_expansion.specs.Location.{ByteClass, IsOwnOrigin, border_of}
 use Rattle.tangle_c_lines.specs.CountedLines.{no_class, class_of_byte, is_of_item, later_border, last_border}
 use Rattle.tangle_c_lines.specs.CountedLines.{IsSeen, IsCountedAtItsLine}
@@ -56,8 +56,7 @@ each-choice b read P Q f h = search rules
 later-choice : (b c : Border) (read : Bool) (T : Bool → Type 0) → ForEachChoice b read (λ now. ForEachChoice c now T)
     → ForEachChoice (later_border b c) read T
 later-choice b SameRegion read T h = h
-later-choice b GroupBegins read T h = same-choice b read (λ now. ForEachChoice GroupBegins now T) h
-later-choice b GroupTurns read T h = same-choice b read (λ now. ForEachChoice GroupTurns now T) h
+later-choice b c read T h = same-choice b read (λ now. ForEachChoice c now T) h
 
 -- of what is to be after a byte of this class: the part of the byte itself, and the rest
 pub pending-parts : (b : Border) (k : ByteClass) (read : Bool) (P T : Bool → Type 0)

@@ -3,9 +3,9 @@
 use Rattle.c_lines.proofs.LineDirectiveLemmas.{digits-line}
 use Rattle.std.proofs.Common.{rules}
 use Rattle.std.proofs.Common.{arith}
-use Rattle.std.proofs.Common.{◌≡◌, ℕ, ◌+◌, zero, suc, Bool, true, false, List, [], ◌∷◌, ◌++◌, map}
+use Rattle.std.proofs.Common.{◌≡◌, ℕ, ◌+◌, zero, suc, false, List, [], ◌∷◌, ◌++◌, map}
 use Rattle.std.proofs.Common.{refl, sym, subst}
-use Rattle.std.specs.Prelude.{◌==◌, if◌then◌else◌, filter, flat_map}
+use Rattle.std.specs.Prelude.{◌==◌, filter, flat_map}
 use Rattle.std.specs.List.{AllZip, zip}
 use Rattle.std.proofs.lemmas.Bool.Decides.{nat_tests}
 use Rattle.c_tokens.specs.Bytes.{line_feed}
@@ -52,21 +52,10 @@ module _ (web : WebRead) (lines : List SourceLine) (same : web.texts ≡ texts_o
   items-fit node piece marks line [] ss = (tt, tt)
   items-fit node piece marks line (x ∷ items) ss =
       let on = items-fit node piece marks (line ++ x ∷ []) items in
-      let marked = items-fit node piece (marks + 1) [] items ss in
+      let mark = items-fit node piece (marks + 1) [] items ss in
       let first = items-fit node piece marks [] items ss in
       let next = items-fit node piece marks (after_line_end (texts_of lines) line) items ss in
-      search (
-        rules,
-        bytes-fit,
-        zip-both,
-        span-fits,
-        digits-line,
-        decimal-digits,
-        on,
-        marked,
-        first,
-        next,
-      )
+      search (rules, bytes-fit, zip-both, span-fits, digits-line, decimal-digits, on, mark, first, next)
 
   abbrev of_node : Title → List PieceRead → List PieceRead
   of_node node pieces = filter (is_piece_of (table_of web) node) pieces
@@ -83,17 +72,9 @@ module _ (web : WebRead) (lines : List SourceLine) (same : web.texts ≡ texts_o
   pieces-fit R node piece [] locations long = tt
   pieces-fit R node piece (p ∷ pieces) [] long = absurd long
   pieces-fit R node piece (p ∷ pieces) (e ∷ locations) long =
-      by (is_piece_of (table_of web) node p) (λ n. pieces-fit R node n pieces locations long.1)
-    where
-      others : List (PieceRead × List Location)
-      others = filter (λ p. is_piece_of (table_of web) node p.0) (zip pieces locations)
-
-      by : (t : Bool)
-          → ((n : ℕ) → AllZip FitsClass (pieces_flat used node n (shape_of web.texts (table_of web) (of_node node pieces))) (classes_in node others))
-          → AllZip FitsClass (pieces_flat used node piece (shape_of web.texts (table_of web) (if t then p ∷ of_node node pieces else of_node node pieces)))
-          (classes_in node (if t then (p, e) ∷ others else others))
-      by true more = (tt, (tt, zip-both FitsClass _ _ _ _ (items-fit node piece 0 [] p.items e) (more (piece + 1))))
-      by false more = more piece
+      let items = items-fit node piece 0 [] p.items e in
+      let later = pieces-fit R node (piece + 1) pieces locations in
+      search (rules, zip-both, items, later, pieces-fit R node piece pieces locations)
 
 pub node-fits : (source : SourceRead) (fuel : ℕ) (node : Title) → PiecesAreAtTheirLines source (web_of source) → SourceLinesHaveNoLineFeed source.lines
     → AllZip FitsClass (flat fuel (shapes (web_of source) (table_of (web_of source))) node) (classes fuel source (web_of source) node)

@@ -2,7 +2,7 @@
 use Rattle.std.proofs.Common.{rules}
 use Rattle.std.proofs.Common.{arith}
 use Rattle.std.proofs.Common.{ℕ, ◌+◌, zero, suc, Bool, true, List, [], ◌∷◌, ◌++◌, map, Option}
-use Rattle.std.proofs.Common.{refl, sym, subst, append_assoc, append-nil}
+use Rattle.std.proofs.Common.{subst, append_assoc, append-nil}
 use Rattle.std.specs.Prelude.{flat_map}
 use Rattle.std.specs.List.{AllByRecursion}
 use Rattle.digraph.specs.Reach.{here, on}
@@ -58,12 +58,8 @@ module _ (texts : List (List ℕ)) (table : TableRead) (used : List ℕ → List
       search (rules, append_assoc, all-front, all-back, items-kept node piece marks [] items rest kept)
   items-kept node piece marks so_far (item.AllMacros ∷ items) rest kept names h = items-kept node piece marks [] items rest kept names h
   items-kept node piece marks so_far (x ∷ items) rest kept names h =
-      search (
-        rules,
-        append_assoc,
-        bytes-kept so_far,
-        items-kept node piece marks (so_far ++ bytes_in texts x) items rest kept,
-      )
+      let later = items-kept node piece marks (so_far ++ bytes_in texts x) items rest kept in
+      search (rules, append_assoc, bytes-kept so_far, later)
 
   pieces-kept : (node : Title) (piece : ℕ) (pieces : List PieceRead) → AllByRecursion (λ p. MarksAreKept texts [] p.items) pieces
       → AllByRecursion (λ name. KeepOn (used name)) (shape_names (shape_of texts table pieces))

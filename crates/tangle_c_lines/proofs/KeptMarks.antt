@@ -17,8 +17,8 @@ use Rattle.tangle_scan.specs.ItemBytes.{bytes_in, piece_item_bytes}
 use Rattle.tangle_scan.specs.Rules.{texts_of, part_tokens, part_items}
 use Rattle.tangle_c_tokens.proofs.OneLineLemmas.{AreOnLine}
 use Rattle.tangle_c_tokens.specs.Groups.{Group}
-use Rattle.tangle_c_tokens.specs.Pieces.{Passage, OfPart, OfMark, mark_place, row_after, line_feed_follows, IsWholePart}
-use Rattle.tangle_c_tokens.proofs.LayoutLemmas.{is_inner, is_mark, IsUseItem, OfUse, OfMacros, Meets, IsPart, piece-lays}
+use Rattle.tangle_c_tokens.specs.Pieces.{Passage, OfPart, OfMark, mark_place, row_after, IsWholePart}
+use Rattle.tangle_c_tokens.proofs.LayoutLemmas.{is_inner, is_mark, IsUseItem, OfUse, OfMacros, IsPart, piece-lays}
 
 -- the bytes of a line after a line feed, which ends the line or is taken out
 abbrev pub after_feed : List ℕ → List ℕ
@@ -79,12 +79,7 @@ module _ (lines : List SourceLine) (used : ℕ → List ℕ) (macros : List ℕ)
       → ((line : List ℕ) → EndsAs line (t ++ own_bytes own) → MarksAreKept texts line xs) → MarksAreKept texts so_far (own ++ xs)
   own-kept [] xs so_far t inner ends next = next so_far (subst (EndsAs so_far) (sym (append-nil t)) ends)
   own-kept (item.LineEnd ∷ own) xs so_far t inner ends next =
-      search (
-        rules,
-        own-kept own xs (after_feed so_far) (t ++ line_feed ∷ []),
-        feed-kept,
-        append_assoc,
-      )
+      search (rules, own-kept own xs (after_feed so_far) (t ++ line_feed ∷ []), feed-kept, append_assoc)
   own-kept (x ∷ own) xs so_far t inner ends next =
       let more = own-kept own xs (so_far ++ bytes_in texts x) (t ++ bytes_in texts x) in
       search (rules, false≢true, ends-more, append_assoc)

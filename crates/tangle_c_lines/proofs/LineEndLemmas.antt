@@ -73,10 +73,7 @@ module _ (f : FileOfBytes) where
   -- the tokens of a line
   read-own : (r : Reader) (known : Bool) → AllByRecursion (FirstFits r known) (tokens_of r)
       → AllByRecursion (IsOwn f) (if r.read then read_of r.count (tokens_of r) else [])
-  read-own r known firsts =
-      cond_both r.read (read_of r.count (tokens_of r)) [] (AllByRecursion (IsOwn f))
-      (λ now. all-map (IsOwn f) _ (tokens_of r) (all-each _ _ (tokens_of r) (λ e first. first.2.0 now) firsts))
-      (λ now. tt)
+  read-own r known firsts = search (rules, cond_both, all-map, all-each)
 
   region-read : (r : Reader) (known choice : Bool) (T : Bool → Type 0) (es : List PlacedElement)
       → AllByRecursion (FirstFits r known) es → IsSeen f.classes (record { tokens = es; end = Some r.here })
@@ -99,19 +96,14 @@ module _ (f : FileOfBytes) where
       → AreRead f (at_next r now) more rest) → AreRead f r choices (c ∷ rest)
   ends r choices origin c rest k ks T next s is pending new onward =
       let split = lines-split r c rest s.at is in
+      let classes = rest-drop f.classes r.here.at k ks s.classes_are in
       let seen = subst (AllByRecursion (IsSeen f.classes)) split s.seen in
       let firsts = tokens-first (Fits f r (is_some origin)) r.start r.line s.fits in
       subst (λ ls. AllByRecursion (IsOwn f) (reads choices r.read r.count ls)) (sym split)
       (all-append (IsOwn f) _ _ (read-own r (is_some origin) firsts) (onward _ _
       (region-read r (is_some origin) (slice_index_or choices 0 true) T (tokens_of r) firsts seen.0
       (subst (λ b. ForEachChoice b r.read T) (sym (border-next f r origin c rest k ks s)) pending))
-      (search (
-        rules,
-        new seen.0 firsts,
-        border-none f,
-        seen.1,
-        rest-drop f.classes r.here.at k ks s.classes_are,
-      ))))
+      (search (rules, new seen.0 firsts, border-none f, seen.1, classes))))
 
   -- a line whose bytes are plain is no `#line`
   no-line : (r : Reader) (es : List PlacedElement) → AllByRecursion (FirstFits r true) es

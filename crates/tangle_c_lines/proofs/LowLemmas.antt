@@ -2,24 +2,24 @@
 -- source lines are.
 use Rattle.std.proofs.Common.{rules}
 use Rattle.std.proofs.Common.{arith}
-use Rattle.std.proofs.Common.{ℕ, Bool, false, List, [], ◌∷◌, ◌++◌, map}
-use Rattle.std.proofs.Common.{Option, None, Some}
+use Rattle.std.proofs.Common.{ℕ, Bool, List, [], ◌∷◌, ◌++◌, map}
+use Rattle.std.proofs.Common.{Option, Some}
 use Rattle.std.specs.Prelude.{filter, flat_map}
 use Rattle.std.specs.List.{AllByRecursion}
 use Rattle.tangle_files.specs.declared.marks.MarkMode.TheVariants.{Full}
 use Rattle.tangle_lines.specs.declared.origin.Origin.{Origin}
-use Rattle.tangle_lines.specs.Reading.{SourceLine, SourceRead, origin_at}
+use Rattle.tangle_lines.specs.Reading.{SourceLine, SourceRead}
 use Rattle.tangle_lexer.specs.Steps.{all_tokens}
 use Rattle.tangle_lexer.specs.declared.tokens.Token.{Token}
 use Rattle.tangle_scan.specs.declared.items.Item.{Item}
 use Rattle.tangle_scan.specs.declared.items.Item.TheVariants as item
-use Rattle.tangle_scan.specs.Rules.{texts_of, with_all_marks, with_needed_marks, part_items, blanks, part_tokens, next_line}
+use Rattle.tangle_scan.specs.Rules.{texts_of, with_all_marks, with_needed_marks, part_items, next_line}
 use Rattle.tangle_scan.specs.Texts.{item_origins}
 use Rattle.tangle_scan.specs.Web.{WebRead, PieceRead, web_of, Block, blocks, piece_of}
 use Rattle.tangle_names.specs.NameTable.{TableRead, table_of}
 use Rattle.tangle_bodies.specs.Shapes.{Title, Program, Named}
 use Rattle.tangle_bodies.specs.WebShapes.{pieces_of, is_piece_of}
-use Rattle.tangle_expansion.specs.Numbers.{NumbersRead, PieceNumbersRead, numbers_of, numbers_of_piece, numbers_at, node_numbers, row_number, origin_of_mark, no_origin, no_numbers}
+use Rattle.tangle_expansion.specs.Numbers.{NumbersRead, PieceNumbersRead, numbers_of, numbers_of_piece, origin_of_mark, no_origin, no_numbers}
 use Rattle.tangle_expansion.specs.SymbolLimits.{IsLow}
 use Rattle.tangle_c_tokens.proofs.ListLemmas.{all-get}
 use Rattle.tangle_c_lines.specs.CountedLines.{SourceLinesAreLow}
@@ -60,23 +60,18 @@ numbers-low test [] low = tt
 numbers-low test (p ∷ pieces) low = search (rules, numbers-low test pieces)
 
 names-low : (web : WebRead) (table : TableRead) → AllByRecursion IsLowPiece web.pieces → (names : List (List ℕ))
-    → AllByRecursion AreLowNumbers (map (map numbers_of_piece) (map (λ name. pieces_of web table (Named name)) names))
+    → AllByRecursion AreLowNumbers (map (λ name. map numbers_of_piece (pieces_of web table (Named name))) names)
 names-low web table each [] = tt
-names-low web table each (name ∷ names) = search (
-  rules,
-  numbers-low,
-  names-low web table each names,
-)
+names-low web table each (name ∷ names) = search (rules, numbers-low, names-low web table each names)
 
 -- the origin of each mark is low
 pub mark-low : (source : SourceRead) → SourceLinesAreLow source.lines → (node : Title) (piece mark : ℕ)
     → IsLow (origin_of_mark (numbers_of (web_of source) (table_of (web_of source)) Full) node piece mark)
 mark-low source low node piece mark =
-    let web : WebRead = web_of source in
-    let table : TableRead = table_of web in
-    let numbers : NumbersRead = numbers_of web table Full in
     let each = pieces-low source.lines low (blocks 0 (all_tokens source.lines)) in
-    all-get IsLow (numbers_at numbers node piece).origins mark no_origin (omega arith)
-    (all-get (λ (n : PieceNumbersRead). AllByRecursion IsLow n.origins) (node_numbers numbers node) piece no_numbers tt
-    (all-get AreLowNumbers numbers.rows (row_number numbers.names node) [] tt
-    (numbers-low (is_piece_of table Program) web.pieces each, names-low web table each numbers.names)))
+    let web = web_of source in
+    let numbers : NumbersRead = numbers_of web (table_of web) Full in
+    all-get IsLow _ mark no_origin (omega arith)
+    (all-get (λ (n : PieceNumbersRead). AllByRecursion IsLow n.origins) _ piece no_numbers tt
+    (all-get AreLowNumbers numbers.rows _ [] tt
+    (numbers-low (is_piece_of (table_of web) Program) web.pieces each, names-low web (table_of web) each _)))

@@ -66,8 +66,8 @@ rows-same p (b ∷ l) none = grind (arith, nat_tests, rows-same (next_place p b)
 
 joined-more : (line bs rest : List ℕ) → IsInLine bs → joined_lines line (bs ++ rest) ≡ joined_lines (line ++ bs) rest
 joined-more line [] rest none = ap (λ l. joined_lines l rest) (sym (append-nil line))
-joined-more line (b ∷ bs) rest none = grind
-    (arith, nat_tests, joined-more (line ++ b ∷ []) bs rest, append_assoc line (b ∷ []) bs)
+joined-more line (b ∷ bs) rest none =
+    grind (arith, nat_tests, joined-more (line ++ b ∷ []) bs rest, append_assoc)
 
 stays-first : (origin : Option Origin) (b : ℕ) (bs : List ℕ) (k : ByteClass) → StaysAt origin (b ∷ bs)
     → IsPlainByte (is_some origin) b k × (after_byte b origin ≡ origin) × StaysAt origin bs
@@ -78,8 +78,7 @@ stays-first origin b bs k stays = search (rules, and_parts, not-true, or_parts)
 -- the name is what is read of it
 unescaped-quoted : (name : List ℕ) → unescaped (quoted name) ≡ name
 unescaped-quoted [] = refl
-unescaped-quoted (b ∷ name) =
-    grind (arith, nat_tests, unescaped-quoted name)
+unescaped-quoted (b ∷ name) = grind (arith, nat_tests, unescaped-quoted name)
 
 module _ (f : FileOfBytes) where
   -- What is after any line so far, of which each region that the border permits has this property,

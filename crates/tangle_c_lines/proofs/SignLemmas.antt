@@ -1,6 +1,6 @@
 -- What holds of each byte of a line, and of its place, holds of the first byte of each token.
 use Rattle.std.proofs.Common.{rules}
-use Rattle.std.proofs.Common.{◌≡◌, ℕ, true, List, [], ◌∷◌, ◌++◌, drop, length, refl, sym, subst}
+use Rattle.std.proofs.Common.{◌≡◌, ℕ, true, List, [], ◌∷◌, ◌++◌, drop, length, sym, subst}
 use Rattle.std.specs.List.{AllByRecursion, AllZip, list_all, concat}
 use Rattle.std.proofs.lemmas.Bool.{false≢true}
 use Rattle.std.proofs.lemmas.List.Elements.{All-filter, All-from_recursion, recursion_from_All}
@@ -30,8 +30,7 @@ module _ (Q : Place → ℕ → Type 0) where
   firsts ps [] some h = tt
   firsts ps ([] ∷ es) some h = absurd (false≢true some)
   firsts [] ((b ∷ e) ∷ es) some h = absurd h
-  firsts (p ∷ ps) ((b ∷ e) ∷ es) some h =
-      ((b, refl, h.0), firsts (drop (length e) ps) es some (zip-drop e ps (concat es) h.1))
+  firsts (p ∷ ps) ((b ∷ e) ∷ es) some h = search (rules, firsts (drop (length e) ps) es, zip-drop e)
 
   -- what holds of each byte of a line holds of the first one of each token
   pub tokens-first : (p : Place) (l : List ℕ) → AllZip Q (places p l) (spliced l) → AllByRecursion IsFirst

@@ -80,8 +80,7 @@ module _ (web : WebRead) (table : TableRead) (named : AllByRecursion TextHasNoLi
   -- the bytes of a symbol, of those after it, and what is after them
   grouped : (kept : Bool) (origin : Option Origin) (a b c : List ℕ) (x y z : List ByteClass) (T : Bool → Type 0)
       → ReadOn kept origin (a ++ (b ++ c)) (x ++ (y ++ z)) T → ReadOn kept origin ((a ++ b) ++ c) ((x ++ y) ++ z) T
-  grouped kept origin a b c x y z T h =
-      rw (append_assoc a b c, append_assoc x y z) h
+  grouped kept origin a b c x y z T h = rw (append_assoc a b c, append_assoc x y z) h
 
   -- the bytes of symbols and the last line feed, and their classes
   abbrev later : List Symbol → List ℕ

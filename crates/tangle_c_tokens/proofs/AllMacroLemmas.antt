@@ -22,8 +22,7 @@ use Rattle.tangle_c_tokens.proofs.FeedLemmas.{KeepsFeed, keeps-more, keeps-last}
 pub macros-keep : (texts : List (List ℕ)) (macros : List (List Item))
     → KeepsFeed (flat_map (macro_bytes texts) macros)
 macros-keep texts [] = refl
-macros-keep texts (items ∷ macros) =
-    search (rules, keeps-more, keeps-last, macros-keep texts macros)
+macros-keep texts (items ∷ macros) = search (rules, keeps-more, keeps-last, macros-keep texts macros)
 
 -- `rest` is written after all macros, and read as the texts `ts`.
 module _ (lines : List SourceLine) (rest : List ℕ) (ts : List (List ℕ))

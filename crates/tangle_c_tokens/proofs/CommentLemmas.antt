@@ -1,20 +1,20 @@
 -- The comments that open and close a piece have no tokens, and are apart from what is before and
 -- after them.
 use Rattle.tangle_c_tokens.specs.Reading.{IsReadAsTexts}
-use Rattle.std.proofs.Common.{subst, flat_map}
+use Rattle.std.proofs.Common.{subst}
 use Rattle.c_tokens.proofs.GrammarLemmas.{all-weaker}
 use Rattle.std.proofs.Common.{rules}
 use Rattle.tangle_c_tokens.proofs.DecimalLemmas.{decimal-digits}
 use Rattle.c_tokens.specs.Bytes.{is_digit}
 use Rattle.std.proofs.Common.{◌≡◌, ℕ, Bool, true, false, List, []}
-use Rattle.std.proofs.Common.{◌∷◌, ◌++◌, refl, ap, ◌∙◌, append_assoc, codes, arith}
+use Rattle.std.proofs.Common.{◌∷◌, ◌++◌, refl, ◌∙◌, append_assoc, codes, arith}
 use Rattle.std.specs.Prelude.{◌&&◌, not, ◌==◌, filter, decimal}
 use Rattle.std.specs.List.{list_all}
 use Rattle.std.proofs.lemmas.Bool.{or_right}
 use Rattle.std.proofs.lemmas.List.Folds.{list_all-append}
 use Rattle.c_tokens.specs.Bytes.{line_feed, space, slash, asterisk, backslash}
 use Rattle.c_tokens.specs.Grammar.{is_token, is_punctuator, is_comment, ends_once}
-use Rattle.c_tokens.specs.Reading.{spliced, elements, elements_from, tokens}
+use Rattle.c_tokens.specs.Reading.{spliced, elements, elements_from}
 use Rattle.c_tokens.specs.Borders.{last_element}
 use Rattle.c_tokens.specs.Borders.{have_border}
 use Rattle.c_tokens.proofs.ElementLemmas.{one-element, comment-element, last-append}

@@ -1,5 +1,5 @@
 -- The tokens of the file of a node are those of its row.
-use Rattle.std.proofs.Common.{rules, ◌≡◌, ℕ, zero, suc, Bool, true, false, if◌then◌else◌, List, [], ◌∷◌, ◌++◌, map, flat_map, append-nil, refl, sym, subst, drop, append_assoc, Option, ap, ◌∙◌}
+use Rattle.std.proofs.Common.{rules, ◌≡◌, ℕ, zero, suc, Bool, true, false, if◌then◌else◌, List, [], ◌∷◌, ◌++◌, map, flat_map, append-nil, refl, sym, subst, drop, append_assoc, Option}
 use Rattle.tangle_c_tokens.proofs.TextLemmas.{IsMarkText, IsWholeLine, no-text, feed-front, apart-from, slash-border, mark-between}
 use Rattle.tangle_c_tokens.proofs.MarkLemmas.{mark-is_line, mark_end-at, name-at}
 use Rattle.std.specs.List.{AllByRecursion}
@@ -15,7 +15,7 @@ use Rattle.tangle_bodies.specs.Flat.{Symbol, flat, pieces_flat}
 use Rattle.tangle_bodies.specs.WebShapes.{pieces_of, shape_item, shape_of}
 use Rattle.tangle_bodies.proofs.InsideLemmas.{table_inside}
 use Rattle.tangle_expansion.specs.Limits.{flat_of, levels, IsExpandableNode}
-use Rattle.tangle_expansion.specs.Numbers.{NumbersRead, expansion_bytes, mark_bytes, opening_bytes, closing_bytes}
+use Rattle.tangle_expansion.specs.Numbers.{NumbersRead, expansion_bytes, mark_bytes, closing_bytes}
 use Rattle.tangle_expansion.specs.PieceBytes.{bytes_after_mark, piece_bytes, used_bytes, items_bytes}
 use Rattle.tangle_expansion.proofs.NumberLemmas.{node_numbers_of}
 use Rattle.tangle_expansion.proofs.PieceLemmas.{pieces_written}
@@ -24,7 +24,6 @@ use Rattle.tangle_c_tokens.specs.Reading.{IsReadAsTexts}
 use Rattle.tangle_c_tokens.specs.Pieces.{passage_text, Passage, mark_place, row_after, row_of_piece}
 use Rattle.tangle_c_tokens.specs.Files.{FilesAreReadByParts, SourceHasNoLineFeed, IsWholePassage, MacrosAreReadAlone, NodesAreReadByParts, ReachesWholePieces, numbers_in, shapes_in, texts_of_node, row_of_node}
 use Rattle.tangle_c_tokens.proofs.ListLemmas.{each, all-back, all-front}
-use Rattle.c_lines.specs.JoinedLines.{LinesAreWhole}
 use Rattle.digraph.specs.Reach.{here, on}
 use Rattle.tangle_c_tokens.proofs.FeedLemmas.{KeepsFeed, keeps-more, closing-keeps}
 use Rattle.tangle_c_tokens.proofs.AllMacroLemmas.{macros-keep, macros-whole}
@@ -101,8 +100,7 @@ module _ (source : SourceRead) (modes : MarkMode)
         let tokens = part_tokens (texts_of lines) b.tokens in
         let places = flat_map mark_place (part_items lines line b.tokens) in
         let us = texts_in (row_after (texts_of lines) [] places tokens) ++ ts in
-        subst (IsReadAsTexts (mark ∷ us))
-        (search (rules, append_assoc, line_feed_first))
+        subst (IsReadAsTexts (mark ∷ us)) (search (rules, append_assoc, line_feed_first))
         (after-opening b.section (line_feed ∷ (mark ++ (items ++ tail))) _
         (feed-front (mark ++ (items ++ tail)) _ (mark-between mark (items ++ tail) (mark-lines origin) us
         (piece-by-parts source used_text (bytes_after_mark numbers) numbers.macros mark-lines macros-line tail ts
@@ -114,8 +112,7 @@ module _ (source : SourceRead) (modes : MarkMode)
     -- the bytes of pieces do not end in a backslash
     pieces-keep : (pieces : List PieceRead) → KeepsFeed (flat_map bytes_of pieces)
     pieces-keep [] = refl
-    pieces-keep (piece ∷ pieces) =
-        search (rules, keeps-more, closing-keeps, pieces-keep pieces)
+    pieces-keep (piece ∷ pieces) = search (rules, keeps-more, closing-keeps, pieces-keep pieces)
 
     -- the bytes of a node are those of its pieces
     written : (node : Title) → expansion_bytes numbers (pieces_flat used node 0 (all_shapes node))
@@ -138,17 +135,16 @@ module _ (source : SourceRead) (modes : MarkMode)
       one-more b occurrence line row pieces are next ready =
           let piece = piece_at lines b occurrence line in
           let own : List Passage = row_of_piece (texts_of lines) piece (part_tokens (texts_of lines) b.tokens) in
-          let names = names_in piece.items in
-          let others = shape_names (shape_of (texts_of lines) table pieces) in
           let later = flat_map bytes_of pieces in
+          let names = names_in piece.items in
           subst (λ us. IsReadAsTexts us ((bytes_of piece ++ later) ++ tail))
           (search (rules, map-append, append_assoc))
           (subst (IsReadAsTexts (texts_in own ++ (texts_in row ++ us)))
           (sym (append_assoc (bytes_of piece) later tail))
           (piece-read b occurrence line (later ++ tail) (texts_in row ++ us) are
           (all-front (IsWholePassage source) own row ready.0)
-          (all-front IsWholeName names others ready.1)
-          (next (all-back (IsWholePassage source) own row ready.0, all-back IsWholeName names others ready.1))))
+          (all-front IsWholeName names _ ready.1)
+          (next (all-back (IsWholePassage source) own row ready.0, all-back IsWholeName names _ ready.1))))
 
       -- what a node reaches its names reach
       node-by-parts : ReachesWholePieces source node

@@ -1,7 +1,7 @@
 -- How the items of a piece lie in its row: those of parts, with a blank, a line end or a mark between two of them, and
 -- each use by itself.
 use Rattle.std.proofs.Common.{rules, arith}
-use Rattle.std.proofs.Common.{◌≡◌, ◌+◌, ℕ, Bool, true, false, ◌&&◌, ◌||◌, not, if◌then◌else◌, List, [], ◌∷◌, ◌++◌, flat_map, map}
+use Rattle.std.proofs.Common.{◌≡◌, ◌+◌, ℕ, Bool, true, false, ◌&&◌, not, if◌then◌else◌, List, [], ◌∷◌, ◌++◌, flat_map, map}
 use Rattle.std.proofs.Common.{append_assoc, append-nil, Option, Some, None, is_some, refl, ap, sym, ◌∙◌, subst}
 use Rattle.std.proofs.Math.Bool.{and-true}
 use Rattle.std.specs.List.{last_or, list_all}
@@ -181,18 +181,10 @@ module _ (lines : List SourceLine) (used : ℕ → List ℕ) (mark : Origin → 
         let t = token_bytes texts (written_for texts used macros) e in
         let more = text-more (token_bytes texts (written_for texts used macros)) items e in
         let ends = ap (ends_back false) more ∙ back-append false (text items) t in
+        let so_far : AreItems (items ++ e ∷ []) (own ++ xs) =
+        search (rules, flat_map-append, list_all-append, more, taken-append, and_from, o, of_e, on.0) in
         record {
-          so_far = search (
-            rules,
-            flat_map-append,
-            list_all-append,
-            more,
-            taken-append,
-            and_from,
-            o,
-            of_e,
-            on.0,
-          );
+          so_far = so_far;
           later = subst (λ b. AreOnLine texts b es) (sym ends) on.1.1;
           some = ap is_some before;
           before = before ∙ sym (last-item None items e);

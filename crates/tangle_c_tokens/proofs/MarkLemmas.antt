@@ -1,14 +1,13 @@
 -- Each line mark is a line, if no file has a line feed in its name.
-use Rattle.std.proofs.Common.{append-nil, sym}
+use Rattle.std.proofs.Common.{append-nil}
 use Rattle.tangle_c_tokens.specs.Reading.{IsReadAsTexts}
-use Rattle.c_tokens.specs.Reading.{tokens}
 use Rattle.std.proofs.Common.{rules}
 use Rattle.std.proofs.Common.{arith}
 use Rattle.tangle_c_tokens.proofs.DecimalLemmas.{decimal-digits}
 use Rattle.tangle_c_tokens.proofs.TextLemmas.{IsMarkText}
 use Rattle.std.proofs.Common.{◌≡◌, ℕ, true, false, List}
 use Rattle.std.proofs.Common.{[], ◌∷◌}
-use Rattle.std.proofs.Common.{◌++◌, map, drop, get_or, inl, inr, refl, ap, subst}
+use Rattle.std.proofs.Common.{◌++◌, map, drop, get_or, inl, inr, refl}
 use Rattle.std.proofs.Common.{append_assoc, codes}
 use Rattle.std.specs.Prelude.{decimal}
 use Rattle.std.specs.List.{AllByRecursion}
@@ -56,15 +55,7 @@ mark-lines n name none =
     let string = double_quote ∷ quoted name in
     let in_line : IsInLine string = name-line name (double_quote ∷ []) none refl in
     let alone : IsReadAsTexts (string ∷ []) string =
-    search (
-      rules,
-      append-nil,
-      lines-one,
-      string-whole,
-      name-quoted name none,
-      in_line,
-      in-line-taken,
-    ) in
+    search (rules, append-nil, lines-one, string-whole, name-quoted name none, in_line, in-line-taken) in
     let digits = digits-line (decimal n) (decimal-digits n) in
     (space-between (codes "#line") (decimal n ++ space ∷ string) word-whole refl _
     (space-between (decimal n) string (digits-whole (decimal n) (decimal-digits n))

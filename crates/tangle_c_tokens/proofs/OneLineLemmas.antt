@@ -8,7 +8,7 @@ use Rattle.std.proofs.Common.{rules}
 use Rattle.std.proofs.Common.{arith}
 use Rattle.std.proofs.Common.{◌≡◌, ℕ, zero, suc, ◌+◌, ◌-◌, Bool, true, false, List, [], ◌∷◌, ◌++◌}
 use Rattle.std.proofs.Common.{take, drop, get_or}
-use Rattle.std.proofs.Common.{Some, refl, ap, sym, ◌∙◌, subst}
+use Rattle.std.proofs.Common.{Some, refl}
 use Rattle.std.specs.Prelude.{◌==◌}
 use Rattle.std.specs.List.{list_all}
 use Rattle.std.specs.Option.{IfSome}
@@ -116,16 +116,7 @@ module _ (texts : List (List ℕ)) where
       → IsLast items e × AreOnLine (ends_back false (group_text texts (items ++ e ∷ []))) es
   one-more items e es item one on =
       let next = solid-on_line (ends_back false (group_text texts items)) e es item on in
-      search (
-        rules,
-        text-more,
-        taken-append,
-        back-append,
-        and_from,
-        next.0.taken,
-        next.0.edges,
-        next.1,
-      )
+      search (rules, text-more, taken-append, back-append, and_from, next.0.taken, next.0.edges, next.1)
 
   -- the next item after white space and line ends
   pub next-edges : (es : List Token) (after : Bool) → AreOnLine after es → IfSome (next_item es) HasItsEdges
@@ -136,8 +127,7 @@ module _ (texts : List (List ℕ)) where
 
   pub written-on_line : (es : List Token) (after : Bool) → AreOnLine after es → AreOnLine after (written_tokens texts es)
   written-on_line [] after all = tt
-  written-on_line (e ∷ es) after all =
-      search (rules, written-on_line es)
+  written-on_line (e ∷ es) after all = search (rules, written-on_line es)
 
 -- tokens that are texts, one after another
 module _ (lines : List SourceLine) (none : SourceLinesHaveNoLineFeed lines) where

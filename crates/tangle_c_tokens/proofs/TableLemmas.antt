@@ -64,27 +64,17 @@ entry-removed name (f ∷ files) h = let rest = entry-removed name files (record
 text-has : (text : List ℕ) → text_refusal text ≡ None → TextHasNoLineFeed text
 text-has text none = grind (arith, nat_tests)
 
+ruleset of_edits = (lines-edited, replaced-have, trimmed-has, text-has, file-more, new-name, entry-removed)
+
 pub edited_have : (files : FileTable) (edit : Edit) → edit_refusal files edit ≡ None
     → FilesHaveNoLineFeed files → FilesHaveNoLineFeed (edited files edit)
-edited_have files (edits.Create file) none h = file-more files file.items [] (new-name files file.items none) tt h
-edited_have files (edits.Discard file) none h = entry-removed file.items files h
 edited_have files (edits.Marks mode) none h = h
-edited_have files edit none h = search (
-  rules,
-  lines-edited,
-  replaced-have,
-  trimmed-has,
-  text-has,
-  nat_tests,
-)
+edited_have files edit none h =
+    search (rules, nat_tests, of_edits)
 
 -- no source line and no name of a file has one either
 pub source-has : (files : FileTable) (roles : RolesRead) → FilesHaveNoLineFeed files → SourceHasNoLineFeed (source_of files roles)
-source-has files roles h = search (
-  rules,
-  source_clear,
-  all-map TextHasNoLineFeed (λ f. f.0) files h.names,
-  h,
-)
+source-has files roles h =
+    search (rules, source_clear, all-map TextHasNoLineFeed (λ f. f.0) files h.names, h)
 
 pub ruleset have_no_feeds = (cut_have, source_clear, added_have, edited_have)

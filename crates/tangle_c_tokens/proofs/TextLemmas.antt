@@ -2,9 +2,9 @@
 use Rattle.std.proofs.Common.{rules}
 use Rattle.std.proofs.Common.{arith}
 use Rattle.std.proofs.Common.{◌⊎◌}
-use Rattle.std.proofs.Common.{◌≡◌, ℕ, Bool, true, false, List, [], ◌∷◌, ◌++◌, refl, ap, sym, subst}
+use Rattle.std.proofs.Common.{◌≡◌, ℕ, Bool, true, false, List, [], ◌∷◌, ◌++◌, refl, ap, subst}
 use Rattle.std.proofs.Common.{inl, inr, ◌∙◌, append-nil, append_assoc}
-use Rattle.std.specs.Prelude.{◌==◌, not, filter, flat_map}
+use Rattle.std.specs.Prelude.{◌==◌, not}
 use Rattle.std.specs.List.{list_any}
 use Rattle.std.proofs.lemmas.Bool.{or_right}
 use Rattle.std.proofs.lemmas.Bool.{false≢true, not-true}
@@ -127,16 +127,7 @@ is_kept text = keep_lines text (line_feed ∷ [])
 pub feed-apart : (a rest : List ℕ) → LinesAreWhole a → is_kept a ≡ true → Follows (a ∷ []) (line_feed ∷ rest)
     (a ++ line_feed ∷ rest)
 feed-apart a rest lines kept ts read =
-    search (
-      rules,
-      tokens-apart,
-      lines-whole,
-      keep-feed,
-      spliced-other,
-      white-next,
-      read,
-      lines-feed,
-    )
+    search (rules, tokens-apart, lines-whole, keep-feed, spliced-other, white-next, read, lines-feed)
 
 pub feed-between : (a rest : List ℕ) → LinesAreWhole a → is_kept a ≡ true → Follows (a ∷ []) rest
     (a ++ line_feed ∷ rest)

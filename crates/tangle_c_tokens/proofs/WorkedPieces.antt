@@ -39,8 +39,7 @@ module _ (used : List ℕ) (mark : Origin → List ℕ) where
 
   -- C reads these words of the piece, and these of its row
   abbrev AreRead : List Token → String → String → Type 0
-  AreRead es read of_row =
-      (tokens (bytes es) ≡ words read) × (flat_map tokens (texts es) ≡ words of_row)
+  AreRead es read of_row = (tokens (bytes es) ≡ words read) × (flat_map tokens (texts es) ≡ words of_row)
 
 abbrev line_mark : Origin → List ℕ
 line_mark origin = codes "#line " ++ (origin.line + 48) ∷ codes " \"a.w\"\n"

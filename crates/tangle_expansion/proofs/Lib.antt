@@ -11,4 +11,5 @@ pub mod CursorLemmas
 pub mod UsedLemmas
 pub mod SameShapes
 pub mod Unaffected
+pub mod SharedLemmas
 pub mod FilledLemmas

@@ -6,11 +6,13 @@ use Rattle.std.specs.Prelude.{Contains, sum_by}
 use Rattle.std.proofs.lemmas.List.Sums.{sum_by-cons}
 use Rattle.digraph.specs.Reach.{Reaches, here, on, ReachesCycle}
 use Rattle.digraph.proofs.OrderLemmas.{cycle_used}
-use Rattle.tangle_names.proofs.ContainsLemmas.{map_same}
+use Rattle.tangle_names.proofs.ContainsLemmas.{here as first, map_same, there}
 use Rattle.tangle_bodies.specs.Shapes.{Title, Named, Shape, Shapes, Uses, shape_names}
 use Rattle.tangle_bodies.specs.Flat.{Symbol, pieces_flat, flat, pieces_weight, weight, greatest_by, pieces_depth, depth}
 use Rattle.tangle_bodies.proofs.FlatLemmas.{shape_flat}
+use Rattle.tangle_bodies.specs.Meaning.{tags_flat}
 use Rattle.tangle_expansion.specs.Affected.{IsExpandable}
+use Rattle.tangle_expansion.specs.Expanded.{Expanded, Shared, End, Next, shared_symbols, symbols_of, used_names}
 use Rattle.tangle_expansion.proofs.UsedLemmas.{pieces_depth-use, pieces_weight-use, deeper, heavier}
 use Rattle.tangle_expansion.proofs.Weights.{weight-suc, pieces_length}
 
@@ -67,6 +69,26 @@ same_reached (suc fuel) old new node same =
       pieces_flat-same _ _ node (new node) (λ name u. (below name u).0),
       pieces_depth-same _ _ (new node) (λ name u. (below name u).1),
     )
+
+-- what an expansion gives follows from the names that these nodes use
+shared_same : (old new : Shapes) (shared : Shared) (names : List (List ℕ))
+    → ((name : List ℕ) → Contains names name → SameReached old new (Named name))
+    → shared_symbols (used_names new) shared names ≡ shared_symbols (used_names old) shared names
+shared_same old new End names same = refl
+shared_same old new (Next items used rest) [] same = refl
+shared_same old new (Next items used rest) (name ∷ names) same =
+    let own = same name (first name names) in
+    let below = shared_same old new used (shape_names (new (Named name))) (λ n c other r. own other (on {b = Named n} c r)) in
+    let more = shared_same old new rest names (λ n c. same n (there name names n c)) in
+    λ i. tags_flat (Named name) 0 0 items.bytes items.tags
+    ((below ∙ ap (λ s. shared_symbols (used_names old) used (shape_names s)) (own (Named name) here)) i) ∷ more i
+
+pub same_symbols : (old new : Shapes) (node : Title) → SameReached old new node → (e : Expanded)
+    → symbols_of (used_names new) node e ≡ symbols_of (used_names old) node e
+same_symbols old new node same e =
+    ap (tags_flat node 0 0 e.items.bytes e.items.tags)
+    (shared_same old new e.used (shape_names (new node)) (λ n c other r. same other (on {b = Named n} c r))
+    ∙ ap (λ s. shared_symbols (used_names old) e.used (shape_names s)) (same node here))
 
 -- the expansion of a node that is not too deep, from those of the used names with the same fuel
 pub flat_by_uses : (fuel : ℕ) (shapes : Shapes) (node : Title) → depth fuel shapes node < fuel

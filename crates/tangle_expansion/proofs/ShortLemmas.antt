@@ -4,9 +4,10 @@ use Rattle.std.proofs.Common.{ℕ, ◌^◌, ◌<◌, ◌≤◌, Bool, List, [], 
 use Rattle.std.proofs.Common.{length, arith, length-append, get_or, All, map, ◌≡◌, ◌+◌}
 use Rattle.std.specs.Prelude.{decimal}
 use Rattle.std.proofs.lemmas.List.Elements.{All-map, All-nil}
-use Rattle.std.specs.List.{AllByRecursion}
+use Rattle.std.specs.List.{AllByRecursion, IsDistinct}
+use Rattle.std.specs.Str.{bytes_eq}
 use Rattle.std.proofs.lemmas.Fmt.{length-decimal-le}
-use Rattle.tangle_bodies.specs.Shapes.{Title}
+use Rattle.tangle_bodies.specs.Shapes.{Title, Shapes}
 use Rattle.tangle_bodies.proofs.EachLemmas.{all_or}
 use Rattle.tangle_bodies.specs.Flat.{Symbol, Byte, MarkOf, AllMacros}
 use Rattle.tangle_expansion.specs.Limits.{heaviest}
@@ -14,6 +15,12 @@ use Rattle.tangle_expansion.specs.Numbers.{PieceNumbersRead, NumbersRead, no_num
 use Rattle.tangle_expansion.specs.Numbers.{numbers_at, origin_of_mark, row_number}
 use Rattle.tangle_expansion.specs.Outputs.{front_bytes}
 use Rattle.tangle_expansion.specs.NumbersKept.{NumbersInvariant, numbers_read}
+use Rattle.std.proofs.lemmas.List.{length-map}
+use Rattle.std.specs.Global.{Global}
+use Rattle.std.specs.declared.rc.Rc.{Rc}
+use Rattle.tangle_bodies.specs.NodeBodies.{AreBodiesOf, node_bodies}
+use Rattle.tangle_bodies.specs.declared.nodes.NodeBody.{NodeBody}
+use Rattle.tangle_expansion.proofs.NumberLemmas.{number_found}
 use Rattle.tangle_expansion.specs.PieceNumbers.{numbers_of_position}
 use Rattle.tangle_expansion.specs.declared.numbers.Numbers.TheInside.{Inside}
 use Rattle.tangle_expansion.specs.Numbers.{mark_bytes, mark_end, symbol_bytes, expansion_bytes}
@@ -64,8 +71,14 @@ module _ (n : Inside) where
   symbols_short AllMacros = omega arith
   symbols_short x = search (rules, decimal_short, pieces_short, length-append)
 
-pub numbers_hold : (n : Inside) → length n.rows.value ≡ length n.names + 1 → NumbersInvariant n
-numbers_hold n size = record { rows = size; short = symbols_short n }
+pub numbers_hold : (n : Inside) (all : Shapes) → IsDistinct bytes_eq n.names
+    → AreBodiesOf all n.names (node_bodies n.bodies.value.items) → NumbersInvariant n
+numbers_hold n all distinct are = record {
+  found = number_found n.names distinct;
+  bodies = omega (arith, are.size, length-map n.bodies.value.items (λ (t : Rc NodeBody Global). t.value));
+  inside = λ node body at. (are.each node body at).inside;
+  short = symbols_short n;
+}
 
 all_symbols : (numbers : NumbersRead) → SymbolsAreShort numbers → (symbols : List Symbol)
     → AllByRecursion (λ symbol. length (symbol_bytes numbers symbol) ≤ longest_symbol) symbols

@@ -8,24 +8,30 @@ use Rattle.digraph.specs.Reach.{here, ReachesCycle}
 use Rattle.tangle_bodies.specs.Shapes.{Title, kind_discrete, item_discrete, Shape, Shapes, Uses}
 use Rattle.tangle_bodies.specs.Flat.{flat}
 use Rattle.tangle_expansion.specs.Affected.{IsExpandable, IsAffected}
-use Rattle.tangle_expansion.proofs.SameShapes.{SameReached, same_reached, cycle_deep_and_heavy}
+use Rattle.tangle_expansion.specs.Expanded.{Expanded, symbols_of, used_names}
+use Rattle.tangle_expansion.proofs.SameShapes.{SameReached, same_reached, same_symbols, cycle_deep_and_heavy}
 
 -- equality of shapes can be decided
 
 pub shape_discrete : Discrete Shape
 shape_discrete = List-discrete (List-discrete (item_discrete kind_discrete (List-discrete ℕ_discrete)))
 
-pub stays : (levels limit : ℕ) (old new : Shapes) (node : Title)
-    → IsExpandable levels limit new node → ((h : IsAffected levels limit old new node) → ⊥)
-    → IsExpandable levels limit old node × (flat levels new node ≡ flat levels old node)
-stays levels limit old new node expandable unaffected =
-    let same : SameReached old new node = λ other r. elim (shape_discrete (new other) (old other)) [
-      | yes e ↦ e
-      | no f ↦ absurd (unaffected (record { expandable = expandable; cause = other; reaches = r; changed = f }))
-    ] in
-    let shape : new node ≡ old node = same node here in
-    let reached = same_reached levels old new node same in
-    search rules
+module _ (levels limit : ℕ) (old new : Shapes) (node : Title) (expandable : IsExpandable levels limit new node)
+    (unaffected : (h : IsAffected levels limit old new node) → ⊥) where
+  same : SameReached old new node
+  same other r = elim (shape_discrete (new other) (old other)) [
+    | yes e ↦ e
+    | no f ↦ absurd (unaffected (record { expandable = expandable; cause = other; reaches = r; changed = f }))
+  ]
+
+  pub stays : IsExpandable levels limit old node × (flat levels new node ≡ flat levels old node)
+  stays =
+      let shape : new node ≡ old node = same node here in
+      let reached = same_reached levels old new node same in
+      search rules
+
+  pub stays_given : (e : Expanded) → symbols_of (used_names new) node e ≡ symbols_of (used_names old) node e
+  stays_given e = same_symbols old new node same e
 
 -- an expandable node reaches no name that contains itself
 pub no_cycle : (levels limit : ℕ) (shapes : Shapes) (node : Title)

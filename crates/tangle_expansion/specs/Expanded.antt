@@ -1,8 +1,68 @@
--- The symbols of an expansion as it is in memory.
-use Rattle.std.specs.Prelude.{List}
+-- An expansion, and what it gives in a web.
+use Rattle.std.specs.Prelude.{ℕ, suc, max, List, [], ◌∷◌, Option, unwrap_or}
 use Rattle.tangle_bodies.specs.Flat.{Symbol}
-use Rattle.tangle_bodies.specs.Meaning.{body_flat, shared_symbols}
-use Rattle.tangle_expansion.specs.declared.expansion.Expansion.TheInside.{Inside}
+use Rattle.tangle_bodies.specs.Meaning.{tags_flat}
+use Rattle.tangle_bodies.specs.Shapes.{Title, Named, Shapes, shape_names}
+use Rattle.tangle_bodies.specs.declared.nodes.NodeItems.{NodeItems}
+use Rattle.tangle_scan.specs.declared.texts.ItemTag.{ItemTag}
 
-abbrev pub expansion_symbols : Inside → List Symbol
-expansion_symbols e = body_flat e.shared.value.body.value (shared_symbols e.shared.value.used.items)
+-- the items of a node, by their tags and their bytes
+pub record ItemsOfNode : Type 0 where
+  pub tags : List ItemTag
+  pub bytes : List ℕ
+
+-- What is shared for the uses of a node, in their order: the items of the used name, and what is
+-- shared for its own uses. A name without a piece has no items.
+pub data Shared : Type 0 where
+  End : Shared
+  Next : ItemsOfNode → Shared → Shared → Shared
+
+-- An expansion. It has neither titles nor numbers, since it may be kept while these change.
+pub record Expanded : Type 0 where
+  pub items : ItemsOfNode
+  pub used : Shared
+
+-- the expansion of a node without a piece
+abbrev pub nothing : Expanded
+nothing = record { items = record { tags = []; bytes = [] }; used = End }
+
+abbrev pub shared_of : List (Option Expanded) → Shared
+shared_of [] = End
+shared_of (shared ∷ used) =
+    Next (unwrap_or shared nothing).items (unwrap_or shared nothing).used (shared_of used)
+
+-- the expansion of a node with these items, where these are shared for its uses
+abbrev pub expanded : NodeItems → List (Option Expanded) → Expanded
+expanded items used = record {
+  items = record { tags = items.tags.items; bytes = items.bytes.items };
+  used = shared_of used;
+}
+
+-- how deep used names are in what is shared
+abbrev pub shared_depth : Shared → ℕ
+shared_depth End = 0
+shared_depth (Next items used rest) = max (suc (shared_depth used)) (shared_depth rest)
+
+-- the names that each node uses: one for each use that resolves to a name
+abbrev pub UsedNames : Type 0
+UsedNames = Title → List (List ℕ)
+
+abbrev pub used_names : Shapes → UsedNames
+used_names shapes node = shape_names (shapes node)
+
+module _ (uses : UsedNames) where
+  -- the symbols of what is shared for the uses of these names
+  abbrev pub shared_symbols : Shared → List (List ℕ) → List (List Symbol)
+  shared_symbols (Next items used rest) (name ∷ names) =
+      tags_flat (Named name) 0 0 items.bytes items.tags
+      (shared_symbols used (uses (Named name))) ∷ shared_symbols rest names
+  shared_symbols _ _ = []
+
+  -- The symbols that an expansion gives, where nodes use these names, to the node with this
+  -- title. If there is no expansion, there are none.
+  abbrev pub symbols_of : Title → Expanded → List Symbol
+  symbols_of node e =
+      tags_flat node 0 0 e.items.bytes e.items.tags (shared_symbols e.used (uses node))
+
+  abbrev pub symbols_if_any : Title → Option Expanded → List Symbol
+  symbols_if_any node e = symbols_of node (unwrap_or e nothing)

@@ -3,7 +3,9 @@ pub mod Limits
 pub mod Numbers
 pub mod Location
 pub mod Expanded
-pub mod Longer
+pub mod ExpansionView
+pub mod ExpandedCode
+pub mod Deeper
 pub mod NumbersKept
 pub mod PieceNumbers
 pub mod SymbolLimits

@@ -14,7 +14,8 @@ use Rattle.tangle_scan.specs.Web.{WebRead, PieceRead}
 use Rattle.tangle_names.specs.NameTable.{TableRead}
 use Rattle.tangle_bodies.specs.Shapes.{Title, Program, Named}
 use Rattle.tangle_bodies.specs.Flat.{Symbol, Byte, Opening, MarkOf, Closing, AllMacros}
-use Rattle.tangle_bodies.specs.WebShapes.{pieces_of}
+use Rattle.tangle_bodies.specs.WebShapes.{pieces_of, shapes}
+use Rattle.tangle_expansion.specs.Expanded.{UsedNames, used_names}
 use Rattle.tangle_files.specs.declared.marks.MarkMode.{MarkMode}
 use Rattle.tangle_files.specs.declared.marks.MarkMode.TheVariants.{Full, Bare}
 use Rattle.tangle_scan.specs.MacroBytes.{macro_bytes}
@@ -28,9 +29,11 @@ pub record PieceNumbersRead : Type 0 where
 pub record NumbersRead : Type 0 where
   -- for each file, what comes after the number in its line marks
   pub mark_ends : List (List ℕ)
-  -- the names of the table, and the rows of the numbers of the program's pieces and of each name's
+  -- the names of the table; and a row for the program and for each name, with the numbers of its
+  -- pieces, and one with the names that it uses
   pub names : List (List ℕ)
   pub rows : List (List PieceNumbersRead)
+  pub uses : List (List (List ℕ))
   pub macros : List ℕ
   -- how line marks are written
   pub marks : MarkMode
@@ -51,12 +54,16 @@ abbrev pub numbers_of_piece : PieceRead → PieceNumbersRead
 numbers_of_piece piece =
     record { section = piece.section; origins = piece.origin ∷ flat_map item_origins piece.items }
 
+-- what is made of the program, and then of each of these names
+abbrev pub each_node : {X : Type 0} → List (List ℕ) → (Title → X) → List X
+each_node names f = f Program ∷ map (λ name. f (Named name)) names
+
 abbrev pub numbers_of : WebRead → TableRead → MarkMode → NumbersRead
 numbers_of web table marks = record {
   mark_ends = map mark_end web.file_names;
   names = table.names;
-  rows = map (map numbers_of_piece) (pieces_of web table Program
-      ∷ map (λ name. pieces_of web table (Named name)) table.names);
+  rows = each_node table.names (λ node. map numbers_of_piece (pieces_of web table node));
+  uses = each_node table.names (used_names (shapes web table));
   macros = flat_map (macro_bytes web.texts) web.macros;
   marks = marks;
 }
@@ -90,6 +97,10 @@ module _ (numbers : NumbersRead) where
   -- the numbers of a node's pieces
   abbrev pub node_numbers : Title → List PieceNumbersRead
   node_numbers node = row_at numbers.rows (row_number numbers.names node)
+
+  -- the names that each node uses
+  abbrev pub names_used : UsedNames
+  names_used node = row_at numbers.uses (row_number numbers.names node)
 
   abbrev pub numbers_at : Title → ℕ → PieceNumbersRead
   numbers_at node piece = get_or (node_numbers node) piece no_numbers

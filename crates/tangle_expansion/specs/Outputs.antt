@@ -1,10 +1,12 @@
 -- The bytes of an output file.
-use Rattle.std.specs.Prelude.{◌≡◌, ◌≤◌, length, true, unwrap_or, IsSome, ℕ, Bool, List, [], ◌∷◌}
+use Rattle.std.specs.Prelude.{◌≡◌, ◌≤◌, length, true, IsSome, ℕ, Bool, List, [], ◌∷◌}
 use Rattle.std.specs.Prelude.{◌++◌, if◌then◌else◌}
+use Rattle.tangle_bodies.specs.Nodes.{IsNodeOf, title_at}
 use Rattle.tangle_files.specs.Bytes.{line_feed}
 use Rattle.tangle_bodies.specs.Flat.{Symbol}
 use Rattle.tangle_expansion.specs.Limits.{heaviest}
-use Rattle.tangle_expansion.specs.Numbers.{NumbersRead, expansion_bytes}
+use Rattle.tangle_expansion.specs.Expanded.{symbols_if_any}
+use Rattle.tangle_expansion.specs.Numbers.{NumbersRead, expansion_bytes, names_used}
 use Rattle.tangle_expansion.specs.Kept.{kept_at}
 use Rattle.digraph.specs.Nodes.{Node}
 use Rattle.tangle_expansion.specs.declared.kept.Kept.{Kept}
@@ -27,15 +29,19 @@ pub record OutputRead : Type 0 where
   pub has_macros : Bool
   pub has_piece : Bool
 
--- the symbols that are kept for the node; none where no expansion is kept
-abbrev pub node_symbols : Kept → Node → List Symbol
-node_symbols kept node = unwrap_or (kept_at kept node) []
+module _ (numbers : NumbersRead) (kept : Kept) where
+  -- the symbols of what is kept for the node; none where no expansion is kept
+  abbrev pub node_symbols : Node → List Symbol
+  node_symbols node =
+      symbols_if_any (names_used numbers) (title_at numbers.names node) (kept_at kept node)
 
--- if its node has a piece, the expansion is kept and within the limit of weight
-pub record IsReady (output : OutputRead) (kept : Kept) : Type 0 where
-  pub there : output.has_piece ≡ true → IsSome (kept_at kept output.node)
-  pub light : length (node_symbols kept output.node) ≤ heaviest
+  -- the output's node is one of the web; if it has a piece, its expansion is kept, and within the
+  -- limit of weight
+  pub record IsReady (output : OutputRead) : Type 0 where
+    pub inside : IsNodeOf numbers.names output.node
+    pub there : output.has_piece ≡ true → IsSome (kept_at kept output.node)
+    pub light : length (node_symbols output.node) ≤ heaviest
 
-abbrev pub kept_output_bytes : NumbersRead → Kept → OutputRead → List ℕ
-kept_output_bytes numbers kept output =
-    output_file_bytes numbers output.has_macros output.has_piece (node_symbols kept output.node)
+  abbrev pub kept_output_bytes : OutputRead → List ℕ
+  kept_output_bytes output =
+      output_file_bytes numbers output.has_macros output.has_piece (node_symbols output.node)

@@ -1,12 +1,13 @@
--- Writing a body from one of its tags on. Only private contracts cite these definitions.
+-- Writing a node from one of its tags on. Only private contracts cite these definitions.
 use Rattle.std.specs.Prelude.{◌≡◌, ◌+◌, ◌-◌, ◌^◌, ℕ, min, List, [], ◌∷◌, ◌++◌, take, drop}
 use Rattle.std.specs.Prelude.{Result}
 use Rattle.tangle_files.specs.Bytes.{space}
 use Rattle.tangle_streams.specs.declared.failures.WriteFault.{WriteFault}
 use Rattle.tangle_streams.specs.Streams.{Stream, IsWrittenAfter}
 use Rattle.tangle_bodies.specs.Flat.{Symbol}
-use Rattle.tangle_bodies.specs.Meaning.{title_of, tags_flat, next_piece, next_mark}
-use Rattle.tangle_bodies.specs.declared.nodes.NodeBody.{NodeBody}
+use Rattle.tangle_bodies.specs.Shapes.{Title}
+use Rattle.tangle_bodies.specs.Meaning.{tags_flat, next_piece, next_mark}
+use Rattle.tangle_bodies.specs.declared.nodes.NodeItems.{NodeItems}
 use Rattle.tangle_scan.specs.declared.texts.ItemTag.{ItemTag}
 use Rattle.tangle_expansion.specs.Numbers.{NumbersRead, expansion_bytes}
 use Rattle.tangle_expansion.specs.declared.cursor.Cursor.{Cursor}
@@ -22,12 +23,12 @@ pub record IsAfterTag (at : Cursor) (t : ItemTag) (next : Cursor) : Type 0 where
   pub marks : next.marks ≡ next_mark at.marks t.kind
   pub start : next.start ≡ min (at.start + t.size) (2 ^ 64 - 1)
 
-module _ (body : NodeBody) (at : Cursor) where
+module _ (node : Title) (items : NodeItems) (at : Cursor) where
   -- the symbols of the remaining tags
   abbrev pub symbols_from : List (List Symbol) → List Symbol
   symbols_from used =
-      tags_flat (title_of body.name) at.piece at.marks
-      (drop at.start body.bytes.items) (drop at.tag body.tags.items) used
+      tags_flat node at.piece at.marks
+      (drop at.start items.bytes.items) (drop at.tag items.tags.items) used
 
   -- their bytes
   abbrev pub bytes_from : NumbersRead → List (List Symbol) → List ℕ

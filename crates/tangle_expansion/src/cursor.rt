@@ -1,8 +1,8 @@
-//! Positions in a body that is being written.
+//! Positions in a node that is being written.
 ghost use Rattle.std.specs.Prelude.{◌≡◌, ◌≤◌};
 
-/// A position in a body that is being written: the numbers of tags passed, of pieces closed, of
-/// marks written in the current piece, and of bytes of the body passed.
+/// A position in a node that is being written: the numbers of tags passed, of pieces closed, of
+/// marks written in the current piece, and of bytes passed.
 #[derive(Clone, Copy, Debug)]
 pub(crate) struct Cursor {
     pub(crate) tag: usize,
@@ -13,7 +13,7 @@ pub(crate) struct Cursor {
     ghost marks_low: { marks ≤ tag },
 }
 
-/// The cursor at the start of a body.
+/// The cursor at the start of a node.
 pub(crate) fn first_cursor() -> Cursor
     ensures tag { result.tag ≡ 0 }
     ensures piece { result.piece ≡ 0 }

@@ -1,7 +1,7 @@
 //! Makes the expansion of a node from those of the names that it uses.
-ghost use Rattle.std.specs.Prelude.{◌≡◌, ◌++◌, ◌∷◌, [], map, suc, IfOk, OnOk, OnErr};
-ghost use Rattle.tangle_expansion.specs.Kept.{kept_at, used_symbols};
-ghost use Rattle.tangle_bodies.specs.Meaning.{body_flat};
+ghost use Rattle.std.specs.Prelude.{◌≡◌, ◌++◌, ◌∷◌, [], suc, IfOk, OnOk, OnErr};
+ghost use Rattle.tangle_expansion.specs.Expanded.{expanded};
+ghost use Rattle.tangle_expansion.specs.Kept.{kept_at, kept_for};
 ghost use Rattle.tangle_bodies.specs.NodeBodies.{body_uses};
 
 use crate::expansion::{Expansion, SharedExpansion};
@@ -23,24 +23,23 @@ fn share_kept(kept: &Kept, id: usize) -> Result<Option<Expansion>, NoMemory>
     }
 }
 
-/// Makes the expansion of a node, which shares the node's body and the kept expansions of the names
-/// that the node uses.
-fn expansion_of(alloc: Global, body: &Rc<NodeBody>, kept: &Kept) -> Result<Expansion, NoMemory>
-    ensures { IfOk result (λ e. e ≡ body_flat body.now.value
-        (map (used_symbols kept.now) (body_uses body.now.value))) }
+/// Makes the expansion of a node, which shares the node's items and the kept expansions of the
+/// names that the node uses.
+fn expansion_of(alloc: Global, body: &NodeBody, kept: &Kept) -> Result<Expansion, NoMemory>
+    ensures { IfOk result
+        (λ e. e ≡ expanded body.now.items.value (kept_for kept.now (body_uses body.now))) }
 {
-    let stored: &NodeBody = body;
-    let mut used = Vec::with_capacity(alloc, stored.uses().len())?;
-    for id in stored.uses() {
+    let mut used = Vec::with_capacity(alloc, body.uses().len())?;
+    for id in body.uses() {
         used.push(share_kept(kept, *id)?)?;
     }
-    let body = body.clone()?;
-    let shared = Rc::new(alloc, SharedExpansion { body, used })?;
+    let items = body.items.clone()?;
+    let shared = Rc::new(alloc, SharedExpansion { items, used })?;
     Ok(Expansion { shared })
 }
 
-/// Expands a node with this body: its own symbols, with the kept expansion of each used name, if
-/// there is one, after a space. The node is added to the end of the work's list.
+/// Expands a node with this body: its items, with the kept expansion of each used name, if there is
+/// one. The node is added to the end of the work's list.
 ///
 /// # Errors
 ///
@@ -48,12 +47,12 @@ fn expansion_of(alloc: Global, body: &Rc<NodeBody>, kept: &Kept) -> Result<Expan
 pub fn expand(
     alloc: Global,
     node: Node,
-    body: &Rc<NodeBody>,
+    body: &NodeBody,
     kept: &Kept,
     work: &mut Work,
 ) -> Result<Expansion, NoMemory>
-    ensures right { IfOk result (λ e. e ≡ body_flat body.now.value
-        (map (used_symbols kept.now) (body_uses body.now.value))) }
+    ensures right { IfOk result
+        (λ e. e ≡ expanded body.now.items.value (kept_for kept.now (body_uses body.now))) }
     ensures listed { OnOk result (work.new ≡ work.old ++ node ∷ []) }
     ensures err { OnErr result (work.new ≡ work.old) }
 {

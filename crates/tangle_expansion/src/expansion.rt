@@ -3,10 +3,11 @@ ghost use Rattle.std.specs.Prelude.{◌≡◌, IfOk};
 
 use std::marker::Model;
 use std::rc::Rc;
-use tangle_bodies::NodeBody;
+use tangle_bodies::NodeItems;
 use tangle_lines::NoMemory;
 
-/// The expansion of a node: a list of symbols.
+/// The expansion of a node: its items, and the expansions of the names that it uses. It has neither
+/// names nor numbers, since it may be kept while they change: these are given where it is written.
 #[cycle(expansion)]
 #[derive(Drop)]
 pub struct Expansion {
@@ -16,26 +17,31 @@ pub struct Expansion {
 #[cycle(expansion)]
 #[derive(Drop)]
 pub(crate) struct SharedExpansion {
-    pub(crate) body: Rc<NodeBody>,
+    pub(crate) items: Rc<NodeItems>,
     /// For each use of a name, the expansion of the name, if it has a piece.
     pub(crate) used: Vec<Option<Expansion>>,
 }
 
 impl Model for Expansion {
-    ghost use Rattle.std.specs.Prelude.{List, length};
-    ghost use Rattle.tangle_bodies.specs.Flat.{Symbol};
+    ghost use Rattle.tangle_expansion.specs.Expanded.{Expanded};
+    ghost use Rattle.tangle_expansion.specs.ExpandedCode.{expanded_code};
+    ghost use Rattle.std.specs.Coded.{codes};
 
-    ghost Value = { List Symbol };
+    ghost Value = { Expanded };
 
-    ghost use Rattle.tangle_expansion.specs.Expanded.{expansion_symbols};
+    ghost coded = { expanded_code (Prim.hlevel codes) };
 
-    ghost view = { expansion_symbols };
+    ghost use Rattle.tangle_expansion.specs.ExpansionView.{expansion_read};
 
-    ghost size = { length };
+    ghost view = { expansion_read };
 
-    ghost use Rattle.tangle_expansion.specs.Longer.{is_longer};
+    ghost use Rattle.tangle_expansion.specs.Expanded.{shared_depth};
 
-    ghost size_decreases = { λ e h. is_longer e };
+    ghost size = { λ e. shared_depth e.used };
+
+    ghost use Rattle.tangle_expansion.specs.Deeper.{is_deeper};
+
+    ghost size_decreases = { λ e h. is_deeper e };
 }
 
 impl Expansion {

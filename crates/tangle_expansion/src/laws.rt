@@ -10,12 +10,13 @@ ghost use Rattle.tangle_files.specs.declared.marks.MarkMode.{MarkMode};
 ghost use Rattle.tangle_files.specs.declared.marks.MarkMode.TheVariants.{Full};
 ghost use Rattle.digraph.specs.Reach.{ReachesCycle};
 ghost use Rattle.tangle_bodies.specs.Shapes.{Title, Named, Shapes, Uses};
-ghost use Rattle.tangle_bodies.specs.Meaning.{body_flat};
-ghost use Rattle.tangle_bodies.specs.NodeBodies.{HoldsShape, body_title, body_uses};
+ghost use Rattle.tangle_bodies.specs.NodeBodies.{HoldsShape, body_uses};
 ghost use Rattle.tangle_bodies.specs.declared.nodes.NodeBody.{NodeBody};
 ghost use Rattle.tangle_bodies.specs.Flat.{Symbol, flat, weight, depth, pieces_flat};
 ghost use Rattle.tangle_bodies.specs.Flat.{pieces_weight, pieces_depth};
 ghost use Rattle.tangle_expansion.specs.Affected.{IsExpandable, IsAffected};
+ghost use Rattle.tangle_expansion.specs.Expanded.{Expanded, expanded, symbols_if_any};
+ghost use Rattle.tangle_expansion.specs.Expanded.{symbols_of, used_names};
 ghost use Rattle.tangle_bodies.specs.WebShapes.{shapes, pieces_of, ResolvesInside};
 ghost use Rattle.tangle_expansion.specs.Numbers.{NumbersRead, numbers_of, symbol_bytes};
 ghost use Rattle.tangle_expansion.specs.Numbers.{expansion_bytes};
@@ -37,13 +38,16 @@ pub fn bytes_are_at_their_origins()
 {}
 
 /// A node that is expandable after an edit, and not affected by it, was expandable before, with the
-/// same symbols. This holds whatever the edit redefines, resolves otherwise or renumbers, and
-/// whatever cycles it makes or removes.
-#[tactic(auto, using(crate::proofs::Unaffected::stays))]
+/// same symbols; and an expansion gives it the same symbols as before. This holds whatever the edit
+/// redefines, resolves otherwise or renumbers, and whatever cycles it makes or removes.
+#[tactic(auto, using(crate::proofs::Unaffected::stays, crate::proofs::Unaffected::stays_given))]
 pub fn unaffected_nodes_stay()
-    ensures { (levels limit : ℕ) (old new : Shapes) (node : Title)
+    ensures stays { (levels limit : ℕ) (old new : Shapes) (node : Title)
         → IsExpandable levels limit new node → ¬ (IsAffected levels limit old new node)
         → IsExpandable levels limit old node × (flat levels new node ≡ flat levels old node) }
+    ensures given { (levels limit : ℕ) (old new : Shapes) (node : Title) (e : Expanded)
+        → IsExpandable levels limit new node → ¬ (IsAffected levels limit old new node)
+        → symbols_of (used_names new) node e ≡ symbols_of (used_names old) node e }
 {}
 
 /// An expandable node reaches no name that contains itself. So a caller that expands only
@@ -80,17 +84,17 @@ pub fn used_names_are_expandable()
         → shapes (Named name) ≢ [] → IsExpandable levels limit shapes (Named name) }
 {}
 
-/// A body that determines the shape of its node gives the expansion of the node, where each use is
-/// replaced by the expansion of the used name.
-#[tactic(auto, using(crate::proofs::FilledLemmas::body_expands))]
+/// A body that determines the shape of a node gives the expansion of the node, if what is shared
+/// for each use gives that of the used name.
 pub fn bodies_give_expansions()
-    ensures { (names : List (List ℕ)) (shapes : Shapes) (levels : ℕ) (body : NodeBody)
-        (symbols : ℕ → List Symbol)
-        → HoldsShape names (shapes (body_title body)) body
-        → depth levels shapes (body_title body) < levels
+    ensures { (names : List (List ℕ)) (shapes : Shapes) (levels : ℕ) (node : Title)
+        (body : NodeBody) (shared : ℕ → Option Expanded)
+        → HoldsShape names (shapes node) body → depth levels shapes node < levels
         → ((id : ℕ) → Contains (body_uses body) id
-        → symbols id ≡ flat levels shapes (Named (slice_index_or names id [])))
-        → body_flat body (map symbols (body_uses body)) ≡ flat levels shapes (body_title body) }
+        → symbols_if_any (used_names shapes) (Named (slice_index_or names id [])) (shared id)
+        ≡ flat levels shapes (Named (slice_index_or names id [])))
+        → symbols_of (used_names shapes) node
+        (expanded body.items.value (map shared (body_uses body))) ≡ flat levels shapes node }
 {}
 
 /// If at most `most` bytes are written for each symbol of a node, at most `most` times the limit of

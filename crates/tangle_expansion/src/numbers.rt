@@ -1,10 +1,10 @@
 //! The section numbers and origins of a web, and the bytes of its macros.
-ghost use Rattle.std.specs.Prelude.{◌≡◌, ◌+◌, [], IfOk, get_or, length};
+ghost use Rattle.std.specs.Prelude.{◌≡◌, ◌<◌, ◌+◌, ◌^◌, [], IfOk, get_or, length, All};
 ghost use Rattle.tangle_names.specs.NameTable.{table_of};
-ghost use Rattle.tangle_bodies.specs.Meaning.{title_of};
-ghost use Rattle.tangle_bodies.specs.Nodes.{IsGroupedBy};
-ghost use Rattle.tangle_expansion.specs.Numbers.{node_numbers, numbers_of, mark_end};
-ghost use Rattle.tangle_expansion.specs.Numbers.{row_number};
+ghost use Rattle.tangle_bodies.specs.NodeBodies.{AreBodiesOf, names_at, node_bodies};
+ghost use Rattle.tangle_bodies.specs.Nodes.{IsGroupedBy, IsNodeOf, title_at};
+ghost use Rattle.tangle_bodies.specs.WebShapes.{shapes};
+ghost use Rattle.tangle_expansion.specs.Numbers.{mark_end, names_used, node_numbers, numbers_of};
 ghost use Rattle.tangle_expansion.specs.SymbolLimits.{SymbolsAreShort};
 
 use crate::mark_ends::mark_ends;
@@ -14,12 +14,13 @@ use digraph::{Node, Rows};
 use std::alloc::Global;
 use std::marker::Model;
 use std::rc::Rc;
+use tangle_bodies::NodeBody;
 use tangle_lines::{MarkMode, NoMemory, Origin};
 use tangle_names::Names;
 use tangle_scan::Web;
 
-/// What the outputs of a web need besides the symbols of its expansions: section numbers, origins
-/// of marks and the bytes of the macros.
+/// What the outputs of a web need besides the items in its expansions: section numbers, origins of
+/// marks, the numbers of used names, and the bytes of the macros.
 #[derive(Drop)]
 pub struct Numbers {
     mark_ends: Vec<Vec<u8>>,
@@ -27,6 +28,7 @@ pub struct Numbers {
     // For each node the positions of its pieces in the web.
     rows: Rc<Rows<usize>>,
     pieces: PieceNumbers,
+    bodies: Rc<Vec<Rc<NodeBody>>>,
     macros: Vec<u8>,
     marks: MarkMode,
 }
@@ -43,9 +45,10 @@ impl Model for Numbers {
 }
 
 impl Numbers {
-    /// Reads from a web what its outputs need besides the symbols: section numbers, the origins of
-    /// marks and the bytes of the macros. Line marks are written as `marks` says. The names must be
-    /// those of the web; the rows have the numbers of the pieces of each node.
+    /// Reads from a web what its outputs need besides the items in its expansions: section
+    /// numbers, the origins of marks and the bytes of the macros. Line marks are written as `marks`
+    /// says. The names and the bodies must be those of the web; the rows have the numbers of the
+    /// pieces of each node.
     ///
     /// # Errors
     ///
@@ -55,10 +58,13 @@ impl Numbers {
         web: &Web,
         names: &Names,
         pieces: &Rc<Rows<usize>>,
+        bodies: &Rc<Vec<Rc<NodeBody>>>,
         marks: MarkMode,
     ) -> Result<Numbers, NoMemory>
         requires names { names.now ≡ (table_of web.now).names }
         requires pieces { IsGroupedBy web.now (table_of web.now) pieces.now.value }
+        requires bodies { AreBodiesOf (shapes web.now (table_of web.now)) names.now
+            (node_bodies bodies.now.value.items) }
         ensures { IfOk result (λ numbers. numbers ≡ numbers_of web.now (table_of web.now) marks) }
     {
         Ok(Numbers {
@@ -66,18 +72,31 @@ impl Numbers {
             names: names.share()?,
             rows: pieces.clone()?,
             pieces: PieceNumbers::read(alloc, web)?,
+            bodies: bodies.clone()?,
             macros: Vec::from_slice(alloc, web.macro_bytes())?,
             marks,
         })
     }
 
-    /// The numbers of the pieces of the name, or of the program where there is no name.
-    pub(crate) fn of_node(&self, name: &Option<Vec<u8>>) -> NodeNumbers<'_>
-        ensures numbers { result ≡ node_numbers self.now (title_of name.now) }
+    /// The numbers of the pieces of the node.
+    pub(crate) fn of_node(&self, node: Node) -> NodeNumbers<'_>
+        requires { IsNodeOf self.now.names node }
+        ensures numbers { result ≡ node_numbers self.now (title_at self.now.names node) }
         ensures short { SymbolsAreShort self.now }
     {
-        let row = row_number(&self.names, name, self.rows.len());
-        NodeNumbers::at(&self.pieces, &self.rows, row)
+        NodeNumbers::at(&self.pieces, &self.rows, node.number())
+    }
+
+    /// The numbers of the names that the node uses: one for each use that resolves to a name.
+    pub(crate) fn uses(&self, node: Node) -> &[usize]
+        requires { IsNodeOf self.now.names node }
+        ensures names { names_at self.now.names result.now
+            ≡ names_used self.now (title_at self.now.names node) }
+        ensures inside { All (λ id. id < length self.now.names) result.now }
+        ensures few { length self.now.names + 1 < 2 ^ 64 }
+    {
+        let bodies: &Vec<Rc<NodeBody>> = &self.bodies;
+        bodies[node.number()].uses()
     }
 
     /// What comes after the number in the line marks of the file at this origin.
@@ -102,20 +121,5 @@ impl Numbers {
         ensures short { SymbolsAreShort self.now }
     {
         self.macros.as_slice()
-    }
-}
-
-/// The number of the row of the name, or of the program where there is no name; `none` where the
-/// name is none of these.
-fn row_number(names: &Names, name: &Option<Vec<u8>>, none: usize) -> usize
-    requires { none ≡ length names.now + 1 }
-    ensures { result ≡ row_number names.now (title_of name.now) }
-{
-    match name {
-        None => Node::program().number(),
-        Some(name) => match names.find(name.as_slice()) {
-            Some(id) => Node::name(id).number(),
-            None => none,
-        },
     }
 }

@@ -1,9 +1,8 @@
 //! Output files, and how they are written.
-ghost use Rattle.std.specs.Prelude.{◌≡◌, [], if◌then◌else◌, length, IsSome};
+ghost use Rattle.std.specs.Prelude.{◌≡◌, [], if◌then◌else◌, length, IsSome, Some};
 ghost use Rattle.tangle_streams.specs.Streams.{IsWritten};
 ghost use Rattle.tangle_expansion.specs.Kept.{kept_at};
-ghost use Rattle.tangle_expansion.specs.Outputs.{IsReady, node_symbols};
-ghost use Rattle.tangle_expansion.specs.Outputs.{kept_output_bytes};
+ghost use Rattle.tangle_expansion.specs.Outputs.{IsReady, kept_output_bytes};
 
 use crate::expansion::Expansion;
 use crate::kept::Kept;
@@ -94,7 +93,7 @@ fn front_of<'a>(output: &Output, macros: &'a [u8]) -> &'a [u8]
 
 fn kept_expansion(kept: &Kept, node: Node) -> &Expansion
     requires { IsSome (kept_at kept.now node) }
-    ensures { result.now ≡ node_symbols kept.now node }
+    ensures { kept_at kept.now node ≡ Some result.now }
 {
     kept.get(node).unwrap()
 }
@@ -106,7 +105,7 @@ fn kept_expansion(kept: &Kept, node: Node) -> &Expansion
 ///
 /// `WriteFault(n)` where the sink failed, or took no byte, after the first `n` bytes of the file.
 pub fn write_file<S: Sink>(output: &Output, kept: &Kept, numbers: &Numbers, sink: &mut S) -> Written
-    requires { IsReady output.now kept.now }
+    requires { IsReady numbers.now kept.now output.now }
     ensures { IsWritten (S.stream sink.old) (S.stream sink.new)
         (kept_output_bytes numbers.now kept.now output.now) result }
 {
@@ -114,14 +113,14 @@ pub fn write_file<S: Sink>(output: &Output, kept: &Kept, numbers: &Numbers, sink
     if !output.has_piece() {
         return begun;
     }
-    let expansion = kept_expansion(kept, output.node());
-    let written = expansion.write_text_after(numbers, sink, begun);
+    let node = output.node();
+    let written = kept_expansion(kept, node).write_text_after(node, numbers, sink, begun);
     write_after(sink, written, b"\n")
 }
 
 /// The size of an output file in bytes. Nothing is allocated.
 pub fn file_size(output: &Output, kept: &Kept, numbers: &Numbers) -> u128
-    requires { IsReady output.now kept.now }
+    requires { IsReady numbers.now kept.now output.now }
     ensures { result ≡ length (kept_output_bytes numbers.now kept.now output.now) }
 {
     write_file(output, kept, numbers, &mut Discarding).unwrap_or(0)

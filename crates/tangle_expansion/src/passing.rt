@@ -1,24 +1,25 @@
-//! Passes tags of a body that is being written.
+//! Passes tags of a node that is being written.
 ghost use Rattle.std.specs.Prelude.{◌≡◌, ◌≤◌, ◌+◌, ◌<◌, ◌^◌, ◌++◌, List};
 ghost use Rattle.tangle_bodies.specs.Flat.{Symbol};
+ghost use Rattle.tangle_bodies.specs.Shapes.{Title};
 ghost use Rattle.tangle_expansion.specs.Numbers.{NumbersRead};
 ghost use Rattle.tangle_expansion.specs.Writing.{IsAfterTag, bytes_between, bytes_from};
 
 use crate::cursor::Cursor;
-use tangle_bodies::{ItemKind, ItemTag, NodeBody, symbols_of_kind};
+use tangle_bodies::{ItemKind, ItemTag, NodeItems, symbols_of_kind};
 
 /// The cursor after the next tags that have no symbols besides their bytes.
-pub(crate) fn after_bytes(body: &NodeBody, from: Cursor) -> Cursor
+pub(crate) fn after_bytes(items: &NodeItems, from: Cursor) -> Cursor
     ensures tag { from.tag ≤ result.tag }
     ensures start { from.start ≤ result.start }
-    ensures text { (numbers : NumbersRead) (used : List (List Symbol))
-        → bytes_from body.now from numbers used
-        ≡ bytes_between body.now.bytes.items from.start result.start
-        ++ bytes_from body.now result numbers used }
+    ensures text { (node : Title) (numbers : NumbersRead) (used : List (List Symbol))
+        → bytes_from node items.now from numbers used
+        ≡ bytes_between items.now.bytes.items from.start result.start
+        ++ bytes_from node items.now result numbers used }
 {
     let mut at = from;
-    while at.tag < body.tags.len() {
-        let tag = body.tags[at.tag];
+    while at.tag < items.tags.len() {
+        let tag = items.tags[at.tag];
         if symbols_of_kind(tag.kind) > 0 {
             return at;
         }

@@ -1,12 +1,13 @@
 //! Writing an expansion.
 ghost use Rattle.std.specs.Prelude.{◌≡◌, ◌+◌, ◌^◌, ◌<◌, ◌≤◌, ◌++◌, ℕ, List, codes, decimal, length};
 ghost use Rattle.tangle_streams.specs.Streams.{IsWritten, IsWrittenAfter};
+ghost use Rattle.tangle_expansion.specs.Expanded.{symbols_of};
 ghost use Rattle.tangle_expansion.specs.Limits.{heaviest};
 ghost use Rattle.tangle_bodies.specs.Flat.{Symbol};
-ghost use Rattle.tangle_bodies.specs.Meaning.{title_of};
 ghost use Rattle.tangle_bodies.specs.Flat.{own_symbols};
-ghost use Rattle.tangle_expansion.specs.Numbers.{node_numbers};
-ghost use Rattle.tangle_expansion.specs.Numbers.{mark_bytes_at, expansion_bytes};
+ghost use Rattle.tangle_bodies.specs.Nodes.{IsNodeOf, title_at};
+ghost use Rattle.tangle_bodies.specs.Shapes.{Title};
+ghost use Rattle.tangle_expansion.specs.Numbers.{expansion_bytes, mark_bytes_at, names_used, node_numbers};
 ghost use Rattle.tangle_expansion.specs.SymbolLimits.{SymbolsAreShort};
 ghost use Rattle.tangle_expansion.specs.Writing.{Wrote, bytes_between, bytes_from, from_use};
 
@@ -15,19 +16,20 @@ use crate::expansion::{Expansion, SharedExpansion};
 use crate::node_numbers::NodeNumbers;
 use crate::numbers::Numbers;
 use crate::passing::{after_bytes, cursor_after};
+use digraph::Node;
 use itoa::Buffer;
-use tangle_bodies::{ItemKind, NodeBody};
+use tangle_bodies::{ItemKind, NodeItems};
 use tangle_lines::{MarkMode, Origin, Sink, WriteFault, write_after};
 
 /// How many bytes the sink took so far, or a fault, after which nothing is written.
 pub(crate) type Written = Result<u128, WriteFault>;
 
-/// What the text of a node is written from: its body, the numbers of its web, and among those the
+/// What the text of a node is written from: its items, the numbers of its web, and among those the
 /// numbers of its own pieces.
 #[derive(Drop)]
 struct NodeParts<'n> {
     numbers: &'n Numbers,
-    body: &'n NodeBody,
+    items: &'n NodeItems,
     pieces: NodeNumbers<'n>,
 }
 
@@ -82,12 +84,10 @@ fn write_symbols<S: Sink>(
     sink: &mut S,
     so_far: Written,
 ) -> Written
-    requires ours { text.now.pieces
-        ≡ node_numbers text.now.numbers.now (title_of text.now.body.now.name) }
-    requires tag { at.tag + 1 < 2 ^ 64 }
-    ensures { IsWrittenAfter (S.stream sink.old) (S.stream sink.new) so_far
-        (expansion_bytes text.now.numbers.now
-        (own_symbols (title_of text.now.body.now.name) at.piece at.marks kind)) result }
+    requires { at.tag + 1 < 2 ^ 64 }
+    ensures { (node : Title) → text.now.pieces ≡ node_numbers text.now.numbers.now node
+        → IsWrittenAfter (S.stream sink.old) (S.stream sink.new) so_far
+        (expansion_bytes text.now.numbers.now (own_symbols node at.piece at.marks kind)) result }
 {
     match kind {
         ItemKind::PieceStart => {
@@ -119,36 +119,36 @@ fn write_to_use<S: Sink>(
     sink: &mut S,
     so_far: Written,
 ) -> (Cursor, Written)
-    requires { text.now.pieces
-        ≡ node_numbers text.now.numbers.now (title_of text.now.body.now.name) }
-    ensures { (used : List (List Symbol)) → Wrote (S.stream sink.old) (S.stream sink.new)
-        so_far result.1 (from_use text.now.numbers.now
-        (bytes_from text.now.body.now result.0 text.now.numbers.now) used)
-        (bytes_from text.now.body.now from text.now.numbers.now used) }
+    ensures { (node : Title) (used : List (List Symbol))
+        → text.now.pieces ≡ node_numbers text.now.numbers.now node
+        → Wrote (S.stream sink.old) (S.stream sink.new) so_far result.1
+        (from_use text.now.numbers.now
+        (bytes_from node text.now.items.now result.0 text.now.numbers.now) used)
+        (bytes_from node text.now.items.now from text.now.numbers.now used) }
 {
-    let body = text.body;
+    let items = text.items;
     let mut at = from;
-    let mut end = after_bytes(body, at);
+    let mut end = after_bytes(items, at);
     let mut so_far = so_far;
-    while end.tag < body.tags.len() {
-        let tag = body.tags[end.tag];
+    while end.tag < items.tags.len() {
+        let tag = items.tags[end.tag];
         let next = cursor_after(end, tag);
-        let bytes = bytes_between(&body.bytes, at.start, next.start);
+        let bytes = bytes_between(&items.bytes, at.start, next.start);
         so_far = write_after(sink, so_far, bytes);
         if let ItemKind::Use = tag.kind {
             return (next, so_far);
         }
         so_far = write_symbols(text, end, tag.kind, sink, so_far);
         at = next;
-        end = after_bytes(body, at);
+        end = after_bytes(items, at);
     }
-    let rest = bytes_between(&body.bytes, at.start, end.start);
+    let rest = bytes_between(&items.bytes, at.start, end.start);
     (end, write_after(sink, so_far, rest))
 }
 
 impl Expansion {
-    /// Writes the text of the expansion, unless `so_far` is an error. Returns the number of bytes
-    /// written in all, with those of `so_far`.
+    /// Writes the text of the expansion, which is that of this node, unless `so_far` is an error.
+    /// Returns the number of bytes written in all, with those of `so_far`.
     ///
     /// # Errors
     ///
@@ -156,28 +156,33 @@ impl Expansion {
     /// after `n` bytes in all.
     pub fn write_text_after<S: Sink>(
         &self,
+        node: Node,
         numbers: &Numbers,
         sink: &mut S,
         so_far: Written,
     ) -> Written
-        ensures writes { IsWrittenAfter (S.stream sink.old) (S.stream sink.new)
-            so_far (expansion_bytes numbers.now self.now) result }
+        requires { IsNodeOf numbers.now.names node }
+        ensures writes { IsWrittenAfter (S.stream sink.old) (S.stream sink.new) so_far
+            (expansion_bytes numbers.now (symbols_of (names_used numbers.now)
+            (title_at numbers.now.names node) self.now)) result }
         ensures short { SymbolsAreShort numbers.now }
     {
         let shared: &SharedExpansion = &self.shared;
-        let body: &NodeBody = &shared.body;
+        let items: &NodeItems = &shared.items;
         let text = NodeParts {
             numbers,
-            body,
-            pieces: numbers.of_node(&body.name),
+            items,
+            pieces: numbers.of_node(node),
         };
+        let uses = numbers.uses(node);
         let mut at = first_cursor();
         let mut so_far = so_far;
-        for used in &shared.used {
+        // A right expansion shares one entry for each use.
+        for i in 0..uses.len().min(shared.used.len()) {
             let (next, before) = write_to_use(&text, at, sink, so_far);
             so_far = write_after(sink, before, b" ");
-            if let Some(expansion) = used {
-                so_far = expansion.write_text_after(numbers, sink, so_far);
+            if let Some(used) = &shared.used[i] {
+                so_far = used.write_text_after(Node::name(uses[i]), numbers, sink, so_far);
             }
             at = next;
         }
@@ -186,15 +191,23 @@ impl Expansion {
     }
 }
 
-/// Writes the text of an expansion. Returns its length in bytes.
+/// Writes the text of an expansion, which is that of this node. Returns its length in bytes.
 ///
 /// # Errors
 ///
 /// `WriteFault(n)` where the sink failed, or took no byte, after the first `n` bytes of the text.
-pub fn write_text<S: Sink>(expansion: &Expansion, numbers: &Numbers, sink: &mut S) -> Written
-    requires { length expansion.now ≤ heaviest }
+pub fn write_text<S: Sink>(
+    expansion: &Expansion,
+    node: Node,
+    numbers: &Numbers,
+    sink: &mut S,
+) -> Written
+    requires inside { IsNodeOf numbers.now.names node }
+    requires light { length (symbols_of (names_used numbers.now)
+        (title_at numbers.now.names node) expansion.now) ≤ heaviest }
     ensures { IsWritten (S.stream sink.old) (S.stream sink.new)
-        (expansion_bytes numbers.now expansion.now) result }
+        (expansion_bytes numbers.now (symbols_of (names_used numbers.now)
+        (title_at numbers.now.names node) expansion.now)) result }
 {
-    expansion.write_text_after(numbers, sink, Ok(0))
+    expansion.write_text_after(node, numbers, sink, Ok(0))
 }

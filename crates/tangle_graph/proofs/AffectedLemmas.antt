@@ -42,42 +42,29 @@ module _ (shapes : Shapes) (store : StoreRead) (order : List Node)
       (ordered.inside used (out_of_filter p order used c).0, u) in
       elim (dec_lt c.0 k) [
         | yes low ↦ search (rules, get_or-take)
-        | no high ↦ elim (ℕ_discrete k c.0) [
-          | yes same ↦ grind (arith, nat_tests, get_or_default listed c.0 used program c.1, before_only there.0 there.0 node)
-          | no other ↦ absurd (AllPairs-filter (λ a b. Contains (uses_at store a) b → ⊥) p order
-              (λ i j d less. before_only i j d (omega arith)) k c.0 used (omega arith) c.1
-              (rw (c.2, get_or_default listed k used program h) uses))
-        ]
+        | no high ↦ grind (
+          arith,
+          nat_tests,
+          get_or_default listed c.0 used program c.1,
+          before_only there.0 there.0 node,
+          AllPairs-filter (λ a b. Contains (uses_at store a) b → ⊥) p order (λ i j d less. before_only
+              i j d (omega arith)) k c.0 used,
+          get_or_default listed k used program h,
+        )
       ]
 
   module _ (old : Shapes) (flags : List Bool) (are : AreFlagged old shapes store flags order) where
     pub lists_affected : ListsAffected old shapes store (filter (is_expandable_and_flagged store flags) order)
-    lists_affected = record {
+    lists_affected = (let p = is_expandable_and_flagged store flags in record {
       once = AllPairs-filter (λ a b. a ≢ b) p order ordered.once;
       just = λ a. (
-        λ c. (let there = out_of_filter p order a c in
-            let both = and_parts (is_expandable_at store a) (flag_at flags a) there.1 in
-            let inside = ordered.inside a there.0 in
-            let r = (are a there.0).0 both.1 in (
-              inside,
-              record {
-                expandable = (expandable_at shapes store is a inside).0 both.0;
-                cause = r.0;
-                reaches = r.1;
-                changed = r.2;
-              },
-            )),
-        λ is_so. (let affected = is_so.1 in
-            let flag = (expandable_at shapes store is a is_so.0).1 affected.expandable in
-            let c = ordered.expandable a is_so.0 flag in
-            let flagged = (are a c).1 (affected.cause, affected.reaches, affected.changed) in
-            into_filter p order a c (and_from (is_expandable_at store a) (flag_at flags a) flag flagged)),
+        λ c. (let test = expandable_at shapes store is a in
+            grind (arith, nat_tests, out_of_filter p order a c, ordered.inside a, are a, test)),
+        λ is_so. (let test = expandable_at shapes store is a in
+            grind (arith, nat_tests, ordered.inside a, ordered.expandable a, are a, test, into_filter p order a)),
       );
       after = filtered_after p;
-    }
-      where
-        p : Node → Bool
-        p = is_expandable_and_flagged store flags
+    })
 
 pub no_element : (nodes : List Node) → ((a : Node) → Contains nodes a → ⊥) → nodes ≡ []
 no_element [] none = refl

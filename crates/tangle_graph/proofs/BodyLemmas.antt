@@ -16,29 +16,14 @@ use Rattle.tangle_bodies.specs.NodeBodies.{body_uses}
 use Rattle.tangle_bodies.specs.Shapes.{Named, Shape, Shapes, Uses}
 use Rattle.tangle_bodies.proofs.TagLemmas.{bodies_decide}
 use Rattle.tangle_bodies.specs.declared.nodes.NodeBody.{NodeBody}
-use Rattle.tangle_graph.specs.Bodies.{IsBodyOf, node_bodies}
-
--- a part of a body, read from the rows of this part of all bodies
-pub part_read : {Y : Type 0} (f : NodeBody → List Y) (bodies : List NodeBody) (n : ℕ) (body : NodeBody)
-    → slice_get bodies n ≡ Some body → row_at (map f bodies) n ≡ f body
-part_read f bodies n body at = grind (arith, common_steps, gets)
-
-pub some_at : {X : Type 0} (xs : List X) (n : ℕ) → n < length xs → (x : X) × (slice_get xs n ≡ Some x)
-some_at [] n h = absurd (omega arith)
-some_at (x ∷ xs) n h = (get_or (x ∷ xs) n x, slice_get-get_or (x ∷ xs) n x h)
-
--- a body that is read by its number
-pub read : (bodies : List (Rc NodeBody Global)) (n : ℕ) (body : Rc NodeBody Global)
-    → n < length bodies → body ≡ get_or bodies n body → slice_get (node_bodies bodies) n ≡ Some body.value
-read bodies n body low same = grind (arith, common_steps, gets)
+use Rattle.tangle_bodies.specs.NodeBodies.{IsBodyOf, node_bodies}
 
 -- the names with the numbers that a body has are those that its node uses
 module _ (shapes : Shapes) (names : List (List ℕ))
     (node : ℕ) (body : NodeBody) (is : IsBodyOf shapes names node body) where
   pub used_name : (id : ℕ) → Contains (body_uses body) id
       → Uses shapes (title_at names node) (Named (get_or names id []))
-  used_name id c = subst (λ l. Contains l (get_or names id [])) is.shape.names_used
-      (into_map (λ k. get_or names k []) (body_uses body) id c)
+  used_name id c = rw (← is.shape.names_used) (into_map (λ k. get_or names k []) (body_uses body) id c)
 
   pub name_used : (name : List ℕ) → Uses shapes (title_at names node) (Named name)
       → (id : ℕ) × Contains (body_uses body) id × (id < length names) × (get_or names id [] ≡ name)
@@ -51,5 +36,4 @@ module _ (shapes : Shapes) (names : List (List ℕ))
 pub new_unless_same : (names old_names : List (List ℕ)) (body before : NodeBody) (s t : Shape) (same : Bool)
     → ((same ≡ true) ↔ HaveOneShape names old_names (body_items body) (body_items before))
     → HoldsShape names s body → HoldsShape old_names t before → ((not same ≡ true) ↔ (s ≢ t))
-new_unless_same names old_names body before s t true decides held had = search (rules, bodies_decide)
-new_unless_same names old_names body before s t false decides held had = search rules
+new_unless_same names old_names body before s t same decides held had = search (rules, bodies_decide)

@@ -8,15 +8,15 @@ use Rattle.digraph.specs.Graph.{row_at}
 use Rattle.digraph.specs.Nodes.{Node}
 use Rattle.tangle_scan.specs.Web.{PieceRead}
 use Rattle.tangle_bodies.specs.Nodes.{pieces_at, title_at}
-use Rattle.tangle_bodies.specs.NodeBodies.{ItemsRead, AreItemsOf, HaveOneShape, HoldsShape, body_items, body_title}
+use Rattle.tangle_bodies.specs.NodeBodies.{ItemsRead, AreItemsOf, HaveOneShape, HoldsShape, body_items}
 use Rattle.tangle_bodies.specs.NodeBodies.{body_uses, names_at}
 use Rattle.tangle_bodies.specs.Shapes.{Shape}
 use Rattle.tangle_bodies.specs.WebShapes.{pieces_of, shapes}
 use Rattle.tangle_bodies.proofs.HeldLemmas.{names_held}
 use Rattle.tangle_bodies.proofs.TagLemmas.{bodies_decide}
 use Rattle.tangle_bodies.specs.declared.nodes.NodeBody.{NodeBody}
-use Rattle.tangle_graph.specs.Bodies.{IsBodyOf}
-use Rattle.tangle_graph.specs.Nodes.{IsNodeOf}
+use Rattle.tangle_bodies.specs.NodeBodies.{IsBodyOf}
+use Rattle.tangle_bodies.specs.Nodes.{IsNodeOf}
 use Rattle.tangle_graph.specs.NewBodies.{IsGrouped}
 use Rattle.tangle_graph.specs.declared.bodies.GroupedWeb.{GroupedWeb}
 use Rattle.tangle_graph.proofs.GraphLemmas.{pieces_are, pieces_inside, resolves_inside}
@@ -47,12 +47,11 @@ module _ (grouped : GroupedWeb) (is : IsGrouped grouped) (node : Node) (inside :
         (pieces_below grouped.table.now (resolves_inside grouped.web.now grouped.table.now is.table)
         (pieces_of grouped.web.now grouped.table.now (title_at grouped.table.now.names node)))
 
-    -- a body with the items of a node's pieces, under the node's name
-    pub body_of_items : {others other : List (List ℕ)} (body : NodeBody) → body_title body ≡ title_at names node
+    -- a body with the items of a node's pieces
+    pub body_of_items : {others other : List (List ℕ)} (body : NodeBody)
         → HaveOneShape others other items (body_items body) → items.uses ≡ body_uses body
         → IsBodyOf (shapes grouped.web.now grouped.table.now) names node body
-    body_of_items body title same uses = record {
-      title = title;
+    body_of_items body same uses = record {
       shape = record {
         tags = sym same.tags ∙ own.tags;
         bytes = sym same.bytes ∙ own.bytes;
@@ -63,9 +62,9 @@ module _ (grouped : GroupedWeb) (is : IsGrouped grouped) (node : Node) (inside :
       inside = subst (All (λ id. id < length names)) uses uses_below;
     }
 
-    pub body_made : (body : NodeBody) → body_title body ≡ title_at grouped.table.now.names node → body_items body ≡ items
+    pub body_made : (body : NodeBody) → body_items body ≡ items
         → IsBodyOf (shapes grouped.web.now grouped.table.now) names node body
-    body_made body title e = body_of_items {others = []} {other = []} body (rw is.names title)
+    body_made body e = body_of_items {others = []} {other = []} body
         (subst (λ i. HaveOneShape [] [] i (body_items body)) e
         (record { tags = refl; bytes = refl; names_used = refl }))
         (sym (ap (λ (i : ItemsRead). i.uses) e))

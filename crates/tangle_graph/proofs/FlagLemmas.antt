@@ -36,10 +36,8 @@ pub value_next : (order : List Node) (i node : Node) → i < length order → no
     → (P Q : Node → Type 0) → ((a : Node) → a ≢ node → P a → Q a) → Q node
     → (Premise : Type 0) (a : Node) → ((Premise → Contains (take i order) a) → P a)
     → (Premise → Contains (take (i + 1) order) a) → Q a
-value_next order i node h at P Q stays own Premise a was into = elim (ℕ_discrete a node) [
-  | yes same ↦ subst Q (sym same) own
-  | no other ↦ stays a other (was (λ p. in_next order i node a h at other (into p)))
-]
+value_next order i node h at P Q stays own Premise a was into =
+    grind (arith, nat_tests, in_next order i node a h at)
 
 -- a node that reaches a new shape has one, or uses a name that reaches one
 first_step : (old new : Shapes) (t : Title) → ReachesNewShape old new t
@@ -68,21 +66,22 @@ module _ (store : StoreRead) (order : List Node) (ordered : IsOrderIn store orde
             (are found.1 (after_used found.1 used)).0 found.4,
           )),
       λ some. (let m = use_of_title new store node some.0 is at_position some.1 in
-          list_any_at (flag_at flags) (uses_at store node) m.1.0 m.0 m.1.1 (ap (flag_at flags) m.1.2
-          ∙ (are m.0 (after_used m.0 m.1)).1 (subst (ReachesNewShape old new) (sym m.2) some.2))),
+          let flagged = list_any_at (flag_at flags) (uses_at store node) m.1.0 m.0 in
+          grind (arith, nat_tests, flagged, are m.0 (after_used m.0 m.1))),
     )
 
     pub flagged_next : (own : Bool) → length flags ≡ length store.names + 1
         → ((own ≡ true) ↔ (new (title_in_store store node) ≢ old (title_in_store store node)))
         → AreFlagged old new store (set flags node (own || uses_flagged store flags node)) (take (i + 1) order)
-    flagged_next own size is_new =
-        let b = own || uses_flagged store flags node in
-        λ a c. value_next order i node inside at
+    flagged_next own size is_new = λ a c. value_next order i node inside at
         (λ a. (flag_at flags a ≡ true) ↔ ReachesNewShape old new (title_in_store store a))
-        (λ a. (flag_at (set flags node b) a ≡ true) ↔ ReachesNewShape old new (title_in_store store a))
-        (λ a other. Decides-at _ _ (get_or-set_other flags node a b false other))
-        (Decides-at _ b (get_or-set_same flags node b false (omega (arith, at_position)))
-        (Decides-like b (λ some. elim some [
+        (λ a. (flag_at (set flags node (own || uses_flagged store flags node)) a ≡ true)
+        ↔ ReachesNewShape old new (title_in_store store a)) (search (rules, get_or-set_other))
+        (rw (get_or-set_same flags node (own || uses_flagged store flags node) false (omega (
+          arith,
+          at_position,
+        )))
+        (Decides-like _ (λ some. elim some [
           | inl differs ↦ (title_in_store store node, here, differs)
           | inr used ↦ (used.2.0, on {b = used.0} used.1 used.2.1, used.2.2)
         ]) (first_step old new (title_in_store store node))

@@ -23,10 +23,11 @@ use Rattle.tangle_bodies.proofs.InsideLemmas.{table_inside}
 use Rattle.digraph.specs.Graph.{Graph, HasUse, row_at}
 use Rattle.digraph.specs.Rows.{IsRowsOf}
 use Rattle.digraph.proofs.GraphLemmas.{node_in}
-use Rattle.tangle_graph.specs.Bodies.{AreBodiesOf}
+use Rattle.tangle_bodies.specs.NodeBodies.{AreBodiesOf}
 use Rattle.tangle_graph.specs.Grouping.{positions_of}
 use Rattle.tangle_graph.specs.NameGraphs.{AreUsesOf}
-use Rattle.tangle_graph.proofs.BodyLemmas.{name_used, part_read, some_at, used_name}
+use Rattle.tangle_bodies.proofs.EachLemmas.{part_read, some_at}
+use Rattle.tangle_graph.proofs.BodyLemmas.{name_used, used_name}
 use Rattle.tangle_graph.proofs.RowLemmas.{numbers_below, positions_read}
 
 module _ (web : WebRead) (table : TableRead) (ours : table ≡ table_of web) where
@@ -47,8 +48,7 @@ module _ (web : WebRead) (table : TableRead) (ours : table ≡ table_of web) whe
     -- the positions of pieces are numbers of pieces
     pub pieces_inside : All (All (λ i. i < length web.pieces)) rows
     pieces_inside = All-from_get_or (All (λ i. i < length web.pieces)) rows []
-        (λ n h. subst (All (λ i. i < length web.pieces)) (sym (grouped.row n (omega arith)))
-        (numbers_below _ (length web.pieces)))
+        (λ n h. rw (grouped.row n (omega arith)) (numbers_below _ (length web.pieces)))
 
 module _ (shapes : Shapes) (names : List (List ℕ)) (bodies : List NodeBody) (uses : Graph)
     (are : AreBodiesOf shapes names bodies) (used : AreUsesOf (map body_uses bodies) uses) where
@@ -60,19 +60,16 @@ module _ (shapes : Shapes) (names : List (List ℕ)) (bodies : List NodeBody) (u
       → Contains (body_uses body) id → HasUse uses n (suc id)
   use_up n id body at c =
       ((used.once n (omega (arith, slice_get_within bodies n body at, length-map bodies body_uses))).same (suc id)).1
-      (grind (arith, nat_tests, into_map suc, part_read body_uses bodies n body at))
+      (grind (arith, nat_tests, into_map suc, part_read body_uses bodies n body [] at))
 
   pub sound : (n m : ℕ) → HasUse uses n m → Uses shapes (title_at names n) (title_at names m)
   sound n m u =
       let inside = node_in uses n m u in
       let own = some_at bodies n (omega (arith, uses_count)) in
-      let body = own.0 in
-      let is = are.each n body own.1 in
-      let found = out_of_map suc (row_at (map body_uses bodies) n) m
-      (((used.once n (omega arith)).same m).0 u) in
-      let c = subst (λ r. Contains r found.0) (part_read body_uses bodies n body own.1) found.1 in
-      subst (Uses shapes (title_at names n)) (ap (title_at names) found.2)
-      (used_name shapes names n body is found.0 c)
+      let found = out_of_map suc (row_at (map body_uses bodies) n) m (((used.once n (omega
+      arith)).same m).0 u) in
+      let name = used_name shapes names n own.0 (are.each n own.0 own.1) found.0 in
+      grind (arith, nat_tests, part_read body_uses bodies n own.0 [] own.1, name)
 
   pub complete : (n : ℕ) (t : Title) → n < length uses → Uses shapes (title_at names n) t
       → (m : ℕ) × HasUse uses n m × (m < length uses) × (title_at names m ≡ t)

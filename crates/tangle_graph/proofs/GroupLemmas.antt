@@ -32,9 +32,8 @@ module _ (table : TableRead) (distinct : IsDistinct bytes_eq table.names) (insid
 
 item_below : (table : TableRead) → ResolvesInside table → (x : Item)
     → All (λ id. id < length table.names) (uses_in table x)
-item_below table inside (item.UseOf occurrence) =
-    search rules
-item_below table inside _ = All-nil (λ id. id < length table.names)
+item_below table inside (item.UseOf occurrence) = search rules
+item_below table inside x = search rules
 
 pub pieces_below : (table : TableRead) → ResolvesInside table → (pieces : List PieceRead)
     → All (λ id. id < length table.names) (pieces_uses table pieces)

@@ -2,15 +2,15 @@
 use Rattle.std.proofs.Common.{rules}
 use Rattle.std.proofs.lemmas.Bool.Decides.{nat_tests}
 use Rattle.std.proofs.Common.{◌≡◌, ◌∙◌, ◌+◌, ◌<◌, ◌≤◌, ◌++◌, ℕ, Bool, true, false, cond, List, [], ◌∷◌, length, take}
-use Rattle.std.proofs.Common.{get_or, refl, suc, ap, sym, subst, append_assoc, arith, Contains}
+use Rattle.std.proofs.Common.{get_or, refl, suc, ap, sym, subst, append_assoc, arith, inl, inr, Contains}
 use Rattle.std.specs.Prelude.{None, Option, Some, unwrap_or}
 use Rattle.std.specs.List.{filter}
 use Rattle.std.proofs.lemmas.List.{take_all}
 use Rattle.std.proofs.lemmas.List.Elements.{filter_more}
-use Rattle.std.proofs.lemmas.Bool.{both_ways}
+use Rattle.std.proofs.lemmas.Bool.{both_ways, cases_Bool}
 use Rattle.tangle_graph.proofs.NameLemmas.{empty_unless}
 use Rattle.tangle_expansion.proofs.SameShapes.{used_expandable}
-use Rattle.tangle_expansion.specs.Kept.{kept_at, PutsKept}
+use Rattle.tangle_expansion.specs.Expanded.{symbols_if_any, used_names}
 use Rattle.tangle_expansion.specs.Limits.{levels, heaviest, flat_of}
 use Rattle.tangle_bodies.specs.Flat.{Symbol, flat, pieces_flat}
 use Rattle.tangle_bodies.specs.Shapes.{Title, Named, Shape, Shapes}
@@ -20,20 +20,14 @@ use Rattle.tangle_graph.specs.Ordering.{IsOrderIn}
 use Rattle.tangle_graph.specs.Stores.{StoreRead, IsStoreOf, KeepsUsed, IsNodeIn, is_expandable_at}
 use Rattle.tangle_graph.specs.Stores.{title_in_store, uses_at}
 use Rattle.tangle_graph.proofs.ExpandLemmas.{expandable_at, expandable_in}
-use Rattle.tangle_graph.specs.Keeping.{IsKeptRight, KeepsJust}
+use Rattle.tangle_graph.specs.Keeping.{IsKept, KeepsJust, PutsRight}
 use Rattle.tangle_graph.proofs.FlagLemmas.{after_used, at_position, in_next, value_next}
-
--- what is kept of a node at the end: its expansion, if it is expandable
-abbrev right_of : Shapes → StoreRead → Node → Option (List Symbol)
-right_of shapes store node =
-    cond (is_expandable_at store node) (Some (flat_of shapes (title_in_store store node))) None
 
 -- the right expansion is kept of each expandable node among these, and none of a node that is not
 -- expandable
 abbrev pub AreKept : Shapes → StoreRead → List Node → Kept → Type 0
 AreKept shapes store nodes kept =
-    (node : Node) → (is_expandable_at store node ≡ true → Contains nodes node)
-    → kept_at kept node ≡ right_of shapes store node
+    (node : Node) → (is_expandable_at store node ≡ true → Contains nodes node) → IsKept shapes store kept node
 
 flat_empty : (all : Shapes) (node : Title) → all node ≡ [] → flat_of all node ≡ []
 unfolding levels
@@ -57,17 +51,25 @@ module _ {shapes : Shapes} {store : StoreRead} {order : List Node}
         (used_expandable levels heaviest shapes _ _ used u.uses has)))) in
         let right = keeps (suc id)
         (λ _. after_used store order ordered i h node at (suc id) next) in
-        grind (arith, nat_tests, right, none)
+        let given = symbols_if_any (used_names shapes) (Named (get_or store.names id [])) in
+        elim (cases_Bool (is_expandable_at store (suc id))) [
+          | inl on ↦ (let e = right.expandable on in ap given e.1 ∙ e.2)
+          | inr off ↦ ap given (right.other off) ∙ sym (none off)
+        ]
 
     pub kept_more : (before after : Kept) → is_expandable_at store node ≡ true
         → AreKept shapes store (take i order) before
-        → (KeepsUsed shapes store before node → PutsKept before after node (flat_of shapes (title_in_store store node)))
+        → (KeepsUsed shapes store before node → PutsRight shapes store before after node)
         → AreKept shapes store (take (i + 1) order) after
     kept_more before after flag keeps made a into =
         let puts = made (used_kept before flag keeps) in
-        value_next order i node h at (λ b. kept_at before b ≡ right_of shapes store b)
-        (λ b. kept_at after b ≡ right_of shapes store b) (λ b other was. puts.others b other ∙ was)
-        (puts.put ∙ rw flag refl) (is_expandable_at store a ≡ true) a (keeps a) into
+        value_next order i node h at (IsKept shapes store before) (IsKept shapes store after)
+        (λ b other was. record {
+          expandable = λ on. (let e = was.expandable on in (e.0, puts.1.others b other ∙ e.1, e.2));
+          other = λ off. puts.1.others b other ∙ was.other off;
+        })
+        (record { expandable = λ on. (puts.0, puts.1.put, puts.2); other = λ off. absurd (both_ways _ off flag) })
+        (is_expandable_at store a ≡ true) a (keeps a) into
 
     pub kept_same : (kept : Kept) → is_expandable_at store node ≡ false
         → AreKept shapes store (take i order) kept → AreKept shapes store (take (i + 1) order) kept
@@ -76,10 +78,8 @@ module _ {shapes : Shapes} {store : StoreRead} {order : List Node}
 
   pub kept_all : (i : ℕ) (kept : Kept)
       → length order ≤ i → AreKept shapes store (take i order) kept → KeepsJust shapes store kept
-  kept_all i kept h keeps =
-      let all = λ (node : Node). keeps node (λ e. rw (take_all i order h)
-      (ordered.expandable node (expandable_in shapes store is node e) e)) in
-      record { expandable = λ node e. rw e at (all node); others = λ node e. rw e at (all node) }
+  kept_all i kept h keeps node = keeps node (λ e. rw (take_all i order h)
+      (ordered.expandable node (expandable_in shapes store is node e) e))
 
 -- one more node of the order is listed or not
 pub listed_more : (p : Node → Bool) (order : List Node) (i : ℕ) (node : Node) (b : Bool) (before work after : List Node)

@@ -16,9 +16,9 @@ use Rattle.tangle_bodies.specs.Shapes.{Shapes}
 use Rattle.tangle_bodies.specs.declared.nodes.NodeBody.{NodeBody}
 use Rattle.digraph.specs.Graph.{Graph, InRange, row_at}
 use Rattle.digraph.specs.Rows.{IsOnceEach}
-use Rattle.tangle_graph.specs.Bodies.{AreBodiesOf, node_bodies}
+use Rattle.tangle_bodies.specs.NodeBodies.{AreBodiesOf, node_bodies}
 use Rattle.tangle_graph.specs.NameGraphs.{AreUsesOf}
-use Rattle.tangle_graph.proofs.BodyLemmas.{part_read, read}
+use Rattle.tangle_bodies.proofs.EachLemmas.{part_read, read}
 
 -- the nodes of the names that bodies use have bodies
 pub uses_inside : (shapes : Shapes) (names : List (List ℕ)) (bodies : List (Rc NodeBody Global))
@@ -36,25 +36,22 @@ module _ (ids : List (List ℕ)) (rows : Graph) (are : AreUsesOf ids rows) where
 
   -- the nodes of the names are nodes of the graph
   pub each_in_range : All (All (λ id. suc id < length ids)) ids → InRange rows
-  each_in_range all = All-from_get_or (All (λ m. m < length rows)) rows [] (λ n h. (
-      let low : n < length ids = omega (arith, h, are.size) in
-      λ j d l. (
-      let used = Contains-get_or (row_at rows n) j d l in
-      let found = out_of_map suc (row_at ids n) _ (((are.once n low).same _).0 used) in
+  each_in_range all = All-from_get_or (All (λ m. m < length rows)) rows [] (λ n h j d l. (
+      let low : n < length ids = omega (arith, are.size) in
+      let used = ((are.once n low).same _).0 (Contains-get_or (row_at rows n) j d l) in
+      let found = out_of_map suc (row_at ids n) _ used in
       let below = All-contains (λ id. suc id < length ids) _ found.0 (all n [] low) found.1 in
-      omega (arith, below, found.2, are.size))))
+      omega (arith, below, found.2, are.size)))
 
 -- each number with 1 added to it
 pub once_more : (all once : List ℕ) → IsOnceEach all once → IsOnceEach (map suc all) (map suc once)
 once_more all once is = record {
-  increasing = λ k h. (
-      let low : k + 1 < length once = omega (arith, length-map once suc) in
-      grind (arith, nat_tests, get_or-map suc once k, get_or-map suc once));
+  increasing = λ k h. grind (arith, nat_tests, length-map once suc, get_or-map suc once k, get_or-map suc once);
   same = λ m. (
-    λ c. (let found = out_of_map suc once m c in
-        rw (← found.2) (into_map suc all found.0 ((is.same found.0).0 found.1))),
-    λ c. (let found = out_of_map suc all m c in
-        rw (← found.2) (into_map suc once found.0 ((is.same found.0).1 found.1))),
+    λ c. (let found = out_of_map suc once m c in rw (← found.2) (into_map suc all found.0 ((is.same
+        found.0).0 found.1))),
+    λ c. (let found = out_of_map suc all m c in rw (← found.2) (into_map suc once found.0 ((is.same
+        found.0).1 found.1))),
   );
 }
 
@@ -79,7 +76,7 @@ pub once_all : (P : ℕ → Type 0) (bodies : List (Rc NodeBody Global)) (i : �
     → All P once
 once_all P bodies i body once low same all is =
     let had = read bodies i body low same in
-    All-from_get_or P once 0 (λ k h. All-contains P (body_uses body.value) (get_or once k 0) (grind (arith, nat_tests, part_read body_uses, length-map))
+    All-from_get_or P once 0 (λ k h. All-contains P (body_uses body.value) (get_or once k 0) (grind (arith, nat_tests, part_read body_uses (node_bodies bodies) i body.value [], length-map))
     ((is.same (get_or once k 0)).0 (Contains-get_or once k 0 h)))
 
 -- one more body
@@ -87,7 +84,4 @@ pub uses_more : (bodies : List (Rc NodeBody Global)) (i : ℕ) (body : Rc NodeBo
     → i < length bodies → body ≡ get_or bodies i body
     → map body_uses (node_bodies (take (i + 1) bodies))
     ≡ map body_uses (node_bodies (take i bodies)) ++ body_uses body.value ∷ []
-uses_more bodies i body low read =
-    ap (λ l. map body_uses (node_bodies l)) (take_more bodies i body low ∙ (λ j. take i bodies ++ sym read j ∷ []))
-    ∙ ap (map body_uses) (map-append (λ (t : Rc NodeBody Global). t.value) (take i bodies) (body ∷ []))
-    ∙ map-append body_uses (node_bodies (take i bodies)) (body.value ∷ [])
+uses_more bodies i body low read = simp (take_more bodies i body low, map-append) (cc read)

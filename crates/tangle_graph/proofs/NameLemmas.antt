@@ -8,7 +8,8 @@ use Rattle.tangle_bodies.specs.Shapes as title
 use Rattle.tangle_bodies.specs.declared.nodes.NodeBody.{NodeBody}
 use Rattle.tangle_graph.specs.NewBodies.{AreNewBodies}
 use Rattle.tangle_graph.specs.Stores.{AreNewShapes, StoreRead, IsStoreOf, IsNodeIn, title_in_store, uses_at}
-use Rattle.tangle_graph.proofs.BodyLemmas.{name_used, some_at}
+use Rattle.tangle_bodies.proofs.EachLemmas.{some_at}
+use Rattle.tangle_graph.proofs.BodyLemmas.{name_used}
 
 -- a title with a piece is the title of a node
 pub node_with_piece : (shapes : Shapes) (store : StoreRead) (node : Title)

@@ -1,4 +1,5 @@
 -- Flags of names, and the forms of files, with one name more.
+use Rattle.std.proofs.Common.{rules}
 use Rattle.std.proofs.Common.{◌≡◌, ◌∙◌, ◌<◌, ◌+◌, ◌&&◌, ◌||◌, ℕ, suc, Bool, not}
 use Rattle.std.proofs.Common.{List, [], ◌∷◌, ◌++◌, length, ap, sym, arith}
 use Rattle.std.specs.Prelude.{if◌then◌else◌, nat_lt}
@@ -24,20 +25,15 @@ use Rattle.tangle_graph.specs.NamedFiles.{flags_of}
 pub form_more : (forms : List (Vec ℕ Global)) (form : Vec ℕ Global) (other : List ℕ)
     → has_form (if has_form forms form.items then forms else forms ++ form ∷ []) other
     ≡ (has_form forms other || bytes_eq other form.items)
-form_more forms form other = grind (
-  arith,
-  nat_tests,
-  bytes_eq-Decides other form.items,
-  list_any-append (λ (o : Vec ℕ Global). bytes_eq other o.items) forms (form ∷ []),
-)
+form_more forms form other =
+    let append = list_any-append (λ (o : Vec ℕ Global). bytes_eq other o.items) forms (form ∷ []) in
+    grind (arith, nat_tests, bytes_eq-Decides other form.items, append)
 
 -- what is recorded of a name says whether it has a piece
 pub piece_of_name : (shapes : Shapes) (table : TableRead) (measures : List Measure) (id : ℕ) → id < length table.names
     → AreMeasures shapes table.names measures
     → nat_lt 0 (measure_at measures (suc id)).depth ≡ shape_has_piece (shapes (Named (name_at table id)))
-piece_of_name shapes table measures id low measured =
-    piece_by_measure shapes (Named (name_at table id)) (measure_at measures (suc id))
-    (measured (suc id) (omega arith))
+piece_of_name shapes table measures id low measured = search (rules, piece_by_measure)
 
 -- One name more: the forms with that of its file, and its two flags. It is said whether the name is that of a file, and
 -- whether the form `text` of this file is the main file's.

@@ -37,10 +37,9 @@ expandable_is shapes node = search rules
 
 -- a shape is empty if the row of pieces is
 pub piece_of_row : (row : List ℕ) (s : Shape) → length s ≡ length row → (not (length row == 0) ≡ true) ↔ (s ≢ [])
-piece_of_row [] [] e = ((λ t. absurd (cc)), (λ h. absurd (h refl)))
-piece_of_row [] (x ∷ s) e = absurd (omega arith)
-piece_of_row (k ∷ row) [] e = absurd (omega arith)
-piece_of_row (k ∷ row) (x ∷ s) e = ((λ t none. cc), (λ h. grind (arith, nat_tests)))
+piece_of_row [] [] e = grind (arith, nat_tests)
+piece_of_row (k ∷ row) (x ∷ s) e = grind (arith, nat_tests)
+piece_of_row row s e = absurd (omega arith)
 
 -- the test of a capped weight and depth gives whether the node is expandable
 pub expandable_by_limits : (shapes : Shapes) (node : Title) (w d : ℕ)

@@ -2,7 +2,8 @@
 use Rattle.std.proofs.lemmas.Bool.Decides.{nat_tests}
 use Rattle.std.proofs.Common.{rules}
 use Rattle.std.proofs.Common.{◌≡◌, ◌<◌, ◌≤◌, ◌||◌, ℕ, Bool, true, false, List, [], ◌∷◌, length, map, filter}
-use Rattle.std.proofs.Common.{subst, inl, inr, arith}
+use Rattle.std.proofs.Common.{◌∙◌, ap, refl, subst, inl, inr, arith}
+use Rattle.std.proofs.lemmas.Bool.{cases_Bool}
 use Rattle.std.specs.Prelude.{not, if◌then◌else◌, Contains, All}
 use Rattle.std.specs.List.{range_with_len}
 use Rattle.std.proofs.lemmas.Bool.{and_parts}
@@ -12,17 +13,21 @@ use Rattle.tangle_scan.specs.Web.{WebRead}
 use Rattle.tangle_names.specs.NameTable.{TableRead}
 use Rattle.tangle_names.proofs.ContainsLemmas.{out_of_filter, out_of_map}
 use Rattle.tangle_expansion.specs.Limits.{IsExpandableNode, flat_of, heaviest}
-use Rattle.tangle_expansion.specs.Outputs.{OutputRead, IsReady}
+use Rattle.tangle_expansion.specs.Expanded.{symbols_if_any, used_names}
+use Rattle.tangle_expansion.specs.Numbers.{NumbersRead, names_used}
+use Rattle.tangle_expansion.specs.Outputs.{OutputRead, IsReady, node_symbols}
+use Rattle.digraph.specs.Nodes.{Node}
 use Rattle.tangle_expansion.specs.declared.kept.Kept.{Kept}
 use Rattle.tangle_bodies.specs.WebShapes.{name_at, shapes, ResolvesInside}
 use Rattle.tangle_bodies.specs.Shapes.{Title, Named, Shapes}
 use Rattle.tangle_bodies.specs.Shapes as title
 use Rattle.tangle_bodies.specs.Nodes.{title_at}
 use Rattle.tangle_graph.specs.Keeping.{KeepsJust}
-use Rattle.tangle_graph.specs.Nodes.{IsNodeOf}
+use Rattle.tangle_bodies.specs.Nodes.{IsNodeOf}
 use Rattle.tangle_graph.specs.Outputs.{shape_has_piece, is_expandable, file_names, first_file_name}
 use Rattle.tangle_graph.specs.Outputs.{main_output, named_file, main_file, is_written, outputs}
-use Rattle.tangle_graph.specs.Stores.{StoreRead, IsStoreOf}
+use Rattle.tangle_graph.specs.Stores.{StoreRead, IsStoreOf, is_expandable_at, title_in_store}
+use Rattle.tangle_graph.proofs.ExpandLemmas.{expandable_at}
 use Rattle.tangle_graph.proofs.ListLemmas.{all_flat}
 use Rattle.tangle_graph.proofs.NodeMeasureLemmas.{expandable_is, no_pieces}
 
@@ -70,8 +75,26 @@ module _ (web : WebRead) (table : TableRead) (resolves : ResolvesInside table) w
           subst (IsFit (shapes web table) table.names) found.2 (named_fits found.0 low passes.1))
     ]
 
--- an output file is ready to be written where what its node expands to is kept
-pub ready : (shapes : Shapes) (store : StoreRead) (kept : Kept) → IsStoreOf shapes store → KeepsJust shapes store kept
-    → (output : OutputRead) → IsFit shapes store.names output
-    → ((p : Shapes) (t : Title) → IsExpandableNode p t → length (flat_of p t) ≤ heaviest) → IsReady output kept
-ready shapes store kept is keeps output fit law = search rules
+-- what is kept gives the symbols of a node, and an output file is then ready to be written
+module _ (shapes : Shapes) (store : StoreRead) (kept : Kept) (numbers : NumbersRead) (is : IsStoreOf shapes store)
+    (keeps : KeepsJust shapes store kept) (uses_are : names_used numbers ≡ used_names shapes)
+    (names_are : numbers.names ≡ store.names) where
+  pub kept_symbols : (node : Node) → is_expandable_at store node ≡ true
+      → node_symbols numbers kept node ≡ flat_of shapes (title_in_store store node)
+  kept_symbols node on =
+      let e = (keeps node).expandable on in
+      (λ i. symbols_if_any (uses_are i) (title_at (names_are i) node) (e.1 i)) ∙ e.2
+
+  pub ready : (output : OutputRead) → IsFit shapes store.names output
+      → ((p : Shapes) (t : Title) → IsExpandableNode p t → length (flat_of p t) ≤ heaviest) → IsReady numbers kept output
+  ready output fit law =
+      let node = output.node in
+      let expandable = expandable_at shapes store is node fit.inside in
+      record {
+        inside = rw names_are fit.inside;
+        there = λ t. (let e = (keeps node).expandable (expandable.1 (fit.there t)) in rw e.1 refl);
+        light = elim (cases_Bool (is_expandable_at store node)) [
+          | inl on ↦ rw (kept_symbols node on) (law shapes _ (expandable.0 on))
+          | inr off ↦ rw ((keeps node).other off) (omega arith)
+        ];
+      }

@@ -21,6 +21,5 @@ pub parts_more : (c : ℕ) (xs : List (Bor (List ℕ))) (i : ℕ) (d : Bor (List
     ++ ((if i == 0 then [] else c ∷ []) ++ (get_or xs i d).now)
 parts_more c xs i d low =
     let text = λ (part : Bor (List ℕ)). part.now in
-    let count : length (map text (take i xs)) ≡ i = omega (arith, length-map (take i xs) text, length-take i xs) in
-    ap (join_with_byte c) (map_more text xs i d low)
-    ∙ (rw count at (join_more c (map text (take i xs)) (get_or xs i d).now))
+    let joined = join_more c (map text (take i xs)) in
+    grind (arith, nat_tests, map_more text xs i d low, joined, length-map (take i xs) text, length-take i xs)

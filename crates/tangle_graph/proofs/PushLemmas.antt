@@ -9,7 +9,7 @@ use Rattle.std.specs.declared.rc.Rc.{Rc}
 use Rattle.std.specs.Prelude.{slice_get, IfSome, None, Option, Some}
 use Rattle.std.proofs.lemmas.List.{length-map, map-append}
 use Rattle.tangle_bodies.specs.declared.nodes.NodeBody.{NodeBody}
-use Rattle.tangle_graph.specs.Bodies.{IsBodyOf, node_bodies}
+use Rattle.tangle_bodies.specs.NodeBodies.{IsBodyOf, node_bodies}
 use Rattle.tangle_graph.specs.NewBodies.{AreNewBodies, IsNewBody}
 use Rattle.tangle_bodies.specs.WebShapes.{shapes}
 use Rattle.tangle_graph.specs.declared.bodies.GroupedWeb.{GroupedWeb}

@@ -24,7 +24,7 @@ use Rattle.tangle_bodies.specs.declared.nodes.NodeBody.{NodeBody}
 use Rattle.tangle_expansion.specs.Limits.{levels}
 use Rattle.tangle_expansion.specs.Outputs.{OutputRead}
 use Rattle.tangle_expansion.proofs.UsedLemmas.{deeper}
-use Rattle.tangle_graph.specs.Bodies.{AreBodiesOf}
+use Rattle.tangle_bodies.specs.NodeBodies.{AreBodiesOf}
 use Rattle.tangle_graph.specs.Measures.{AreMeasures, measure_at}
 use Rattle.tangle_graph.specs.NameGraphs.{IsNameGraphOf}
 use Rattle.tangle_graph.specs.Ordering.{IsOrderIn}
@@ -70,26 +70,21 @@ module _ (web : WebRead) (table : TableRead) (stored : List NodeBody) (name_grap
 
   uses_are : (a b : ℕ) → a ≤ length names
       → HasUse name_graph.uses a b ↔ ((b ≤ length names) × Uses all (title a) (title b))
-  uses_are a b ha = (
-    λ u. (omega (arith, use_in name_graph.uses is.range a b u, count), titled.sound a b u),
-    λ u. (let found = titled.complete a (title b) (here a ha) u.1 in
-        subst (HasUse name_graph.uses a) (titled.once found.0 b found.2 (here b u.0) found.3) found.1),
-  )
+  uses_are a b ha =
+      let inside = use_in name_graph.uses is.range a b in
+      grind (arith, nat_tests, inside, count, titled.sound a b, titled.complete a (title b), titled.once)
 
   users_are : (a b : ℕ) → a ≤ length names
       → HasUse name_graph.users a b ↔ ((b ≤ length names) × Uses all (title b) (title a))
-  users_are a b ha = (
-    λ u. (let used = (is.users.reversed b a).0 u in
-        (omega (arith, node_in name_graph.uses b a used, count), titled.sound b a used)),
-    λ u. (is.users.reversed b a).1 ((uses_are b a u.0).1 (ha, u.1)),
-  )
+  users_are a b ha =
+      let inside = node_in name_graph.uses b a in
+      grind (arith, nat_tests, (is.users.reversed b a), inside, count, titled.sound b a, uses_are b a)
 
   -- a node reaches a name that contains itself, if it does so in the graph of numbers
   pub reaching_is : (n : ℕ) → n ≤ length names
       → (not (flag_at name_graph.order.acyclic.items n) ≡ true) ↔ ReachesCycle (Uses all) (title n)
   reaching_is n low =
-      let alike = cycle_alike name_graph.uses (Uses all) (title_at names) titled n (here n low) in
-      grind (arith, nat_tests, here n low)
+      grind (arith, nat_tests, cycle_alike name_graph.uses (Uses all) (title_at names) titled n, here n low)
 
   module _ (pieces : List (List ℕ)) (measures : List Measure) (outputs : List OutputRead)
       (sized : length measures ≡ length name_graph.uses) (measured : AreMeasures all names measures) where

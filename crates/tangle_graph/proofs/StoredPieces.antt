@@ -21,8 +21,7 @@ module _ (web : WebRead) (table : TableRead) (stored : List Piece) (i : ℕ) (p 
 
   -- the occurrence that defines the piece at an index
   occurrence_at : (get_or web.pieces i no_piece).occurrence ≡ p.occurrence
-  occurrence_at = sym (ap (λ (q : Piece). q.occurrence)
-      (at ∙ ap (λ ps. get_or ps i p) is ∙ get_or-map stored_piece web.pieces i no_piece p inside))
+  occurrence_at = search (rules, get_or-map, inside)
 
   -- it is one of the table
   pub defined_inside : table ≡ table_of web → IsWellFormed web → (occurrence : Option ℕ) → occurrence ≡ p.occurrence
@@ -33,6 +32,5 @@ module _ (web : WebRead) (table : TableRead) (stored : List Piece) (i : ℕ) (p 
   pub is_of_node : table ≡ table_of web → (occurrence : Option ℕ) → occurrence ≡ p.occurrence
       → (made : Option ℕ) → made ≡ node_of_piece table occurrence → (n : ℕ) → n < length table.names + 1
       → has_number_in n made ≡ is_piece_of table (title_at table.names n) (get_or web.pieces i no_piece)
-  is_of_node ours occurrence same made known n h =
-      ap (has_number_in n) (known ∙ ap (node_of_piece table) (same ∙ sym occurrence_at))
-      ∙ piece_is table (distinct_names web table ours) (resolves_inside web table ours) n (omega arith) _
+  is_of_node ours occurrence same made known n h = (let p = piece_is table (distinct_names web table
+      ours) (resolves_inside web table ours) n (omega arith) in search (rules, p, occurrence_at))

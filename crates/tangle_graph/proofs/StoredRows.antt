@@ -1,4 +1,5 @@
 -- The rows of a store have the pieces of each node.
+use Rattle.std.proofs.Common.{rules}
 use Rattle.std.proofs.Common.{◌≡◌, ◌∙◌, ◌<◌, ◌+◌, ℕ, zero, suc, List, [], ◌∷◌, length, map, get_or, sym, arith}
 use Rattle.std.proofs.lemmas.List.{get_or-map, length-map, same_lists}
 use Rattle.tangle_scan.specs.Web.{WebRead, PieceRead}
@@ -17,8 +18,7 @@ module _ (web : WebRead) (table : TableRead) where
 
   of_node : (n : ℕ) (d : List PieceRead)
       → n < length table.names + 1 → pieces_of web table (title_at table.names n) ≡ get_or all n d
-  of_node zero d h = λ i. pieces_of web table Program
-  of_node (suc n) d h = sym (get_or-map (λ name. pieces_of web table (Named name)) table.names n [] d (omega arith))
+  of_node n d h = search (rules, get_or-map)
 
   pub grouped_by : (rows : List (List ℕ)) → table ≡ table_of web
       → IsRowsOf (length table.names + 1) (positions_of table web.pieces (length web.pieces)) rows

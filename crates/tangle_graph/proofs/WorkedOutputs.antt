@@ -42,20 +42,14 @@ faults bytes = flat_map fault_line (graph_faults (web bytes) (table_of (web byte
 abbrev cycle : List ℕ
 cycle = codes "@ P.\n@c\n@<A@>\n@ @<A@>=\n@<B@>\n@ @<B@>=\n@<A@>\n@ @(h@>=\n1\n@ @(i@>=\n@<B@>\n"
 
-record Files : Type 0 where
+record Made : Type 0 where
   -- in the order in which names are first opened by `@(`, also by a mention
-  pub order : files (codes "@ @<b@> @(a@>.\n@c\nx\n@ @(b@>=\n1\n@ @<a@>=\n2\n")
+  pub file_order : files (codes "@ @<b@> @(a@>.\n@c\nx\n@ @(b@>=\n1\n@ @<a@>=\n2\n")
       ≡ codes "a.c 0 macros pieces\na 2 pieces\nb 1 pieces\n"
   -- `@h` in a piece that is never used takes the macros from the front; a name without a piece is no file
   pub no_pieces : files (codes "@ @(n@>.\n@<u@>=\n@h\n") ≡ codes "a.c 0\n"
   pub macros_alone : files (codes "@ A.\n@d M 1\n") ≡ codes "a.c 0 macros\n"
   pub no_file_that_reaches_a_cycle : files cycle ≡ codes "h 3 pieces\n"
-
-files_are : Files
-unfolding reads_in tokens_from lexeme occurrences_from levels heaviest plain_form digits
-files_are = search rules
-
-record Faults : Type 0 where
   -- at the first use, and not for a mention
   pub undefined : faults (codes "@ @<u@> @<v@>.\n@c\n@<u@>\n") ≡ codes "a:3: error: undefined: <u>\n"
   -- at the first occurrence
@@ -70,9 +64,9 @@ record Faults : Type 0 where
   -- only what contains itself has a fault; what reaches it is not too large
   pub cycles : faults cycle ≡ codes "a:3: error: contains itself: <A>\na:5: error: contains itself: <B>\n"
 
-faults_are : Faults
+made : Made
 unfolding contains_itself reaches_cycle reads_in tokens_from lexeme occurrences_from levels heaviest plain_form digits
-faults_are = search rules
+made = search rules
 
 -- a name with one piece uses the name that is one byte shorter
 abbrev chain : Shapes

@@ -2,7 +2,8 @@
 use Rattle.std.specs.Prelude.{◌≡◌, ◌≢◌, ◌↔◌, ◌++◌, true, false, List}
 use Rattle.std.specs.Prelude.{Some, None, AllPairs, Contains}
 use Rattle.tangle_expansion.specs.Affected.{IsAffected}
-use Rattle.tangle_expansion.specs.Kept.{kept_at}
+use Rattle.tangle_expansion.specs.Expanded.{Expanded, symbols_of, used_names}
+use Rattle.tangle_expansion.specs.Kept.{kept_at, PutsKept}
 use Rattle.tangle_expansion.specs.Limits.{levels, heaviest, flat_of, IsExpandableNode}
 use Rattle.tangle_bodies.specs.Shapes.{Shapes}
 use Rattle.tangle_expansion.specs.declared.kept.Kept.{Kept}
@@ -11,16 +12,28 @@ use Rattle.tangle_graph.specs.Stores.{StoreRead, IsStoreOf, IsNodeIn, is_expanda
 use Rattle.tangle_graph.specs.Stores.{title_in_store}
 use Rattle.tangle_graph.specs.Affected.{EditedShapes}
 
--- the kept expansion of the node is its right one
+-- the expansion of the node is its right one: it gives the symbols of the node
+abbrev pub IsRight : Shapes → StoreRead → Node → Expanded → Type 0
+IsRight shapes store node e = symbols_of (used_names shapes) (title_in_store store node) e
+    ≡ flat_of shapes (title_in_store store node)
+
+-- the right expansion of the node is kept
 abbrev pub IsKeptRight : Shapes → StoreRead → Kept → Node → Type 0
 IsKeptRight shapes store kept node =
-    kept_at kept node ≡ Some (flat_of shapes (title_in_store store node))
+    (e : Expanded) × (kept_at kept node ≡ Some e) × IsRight shapes store node e
 
--- for each expandable node the right expansion is kept, and for other nodes none
-pub record KeepsJust (shapes : Shapes) (store : StoreRead) (kept : Kept) : Type 0 where
-  pub expandable : (node : Node)
-      → is_expandable_at store node ≡ true → IsKeptRight shapes store kept node
-  pub others : (node : Node) → is_expandable_at store node ≡ false → kept_at kept node ≡ None
+-- the node gets its right expansion, and the others keep theirs
+abbrev pub PutsRight : Shapes → StoreRead → Kept → Kept → Node → Type 0
+PutsRight shapes store old new node =
+    (e : Expanded) × PutsKept old new node e × IsRight shapes store node e
+
+-- the right expansion of the node is kept if the node is expandable, and else none
+pub record IsKept (shapes : Shapes) (store : StoreRead) (kept : Kept) (node : Node) : Type 0 where
+  pub expandable : is_expandable_at store node ≡ true → IsKeptRight shapes store kept node
+  pub other : is_expandable_at store node ≡ false → kept_at kept node ≡ None
+
+abbrev pub KeepsJust : Shapes → StoreRead → Kept → Type 0
+KeepsJust shapes store kept = (node : Node) → IsKept shapes store kept node
 
 -- the stores before and after an edit are those of the old and the new shapes, and the old
 -- expansions are kept

@@ -1,6 +1,4 @@
-pub mod Nodes
 pub mod Grouping
-pub mod Bodies
 pub mod Measures
 pub mod PlainForms
 pub mod Outputs

@@ -6,7 +6,7 @@ use Rattle.tangle_bodies.specs.Nodes.{title_at}
 use Rattle.tangle_bodies.specs.Shapes.{Shapes, Title, Named}
 pub use Rattle.tangle_bodies.specs.Flat.{greatest_by}
 use Rattle.tangle_expansion.specs.Limits.{weight_of, depth_of}
-use Rattle.tangle_graph.specs.Nodes.{IsNodeOf}
+use Rattle.tangle_bodies.specs.Nodes.{IsNodeOf}
 use Rattle.tangle_graph.specs.Outputs.{is_expandable}
 use Rattle.tangle_graph.specs.declared.measures.Measure.{Measure}
 

@@ -2,7 +2,7 @@
 use Rattle.std.specs.Prelude.{map}
 use Rattle.tangle_bodies.specs.NodeBodies.{body_uses}
 use Rattle.tangle_bodies.specs.Shapes.{Shapes}
-use Rattle.tangle_graph.specs.Bodies.{node_bodies}
+use Rattle.tangle_bodies.specs.NodeBodies.{node_bodies}
 use Rattle.tangle_graph.specs.Ordering.{IsOrderIn}
 use Rattle.tangle_graph.specs.NameGraphs.{IsNameGraphOf}
 use Rattle.tangle_graph.specs.Stores.{StoreRead, IsStoreOf}
@@ -18,7 +18,7 @@ store_read s = record {
   acyclic = s.name_graph.value.order.acyclic.items;
   measures = s.measures.items;
   outputs = s.outputs.items;
-  bodies = node_bodies s.bodies.items;
+  bodies = node_bodies s.bodies.value.items;
 }
 
 -- The store is that of some shapes. The graph of names is that of the uses of the bodies, and its
@@ -26,5 +26,6 @@ store_read s = record {
 pub record StoreInvariant (s : Inside) : Type 0 where
   pub shapes : Shapes
   pub store : IsStoreOf shapes (store_read s)
-  pub name_graph : IsNameGraphOf (map body_uses (node_bodies s.bodies.items)) s.name_graph.value
+  pub name_graph : IsNameGraphOf (map body_uses (node_bodies s.bodies.value.items))
+      s.name_graph.value
   pub order : IsOrderIn (store_read s) s.name_graph.value.order.nodes.items

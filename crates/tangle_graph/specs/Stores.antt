@@ -2,12 +2,12 @@
 -- depth, and whether it contains itself or reaches a name that does.
 use Rattle.std.specs.Prelude.{◌≡◌, ◌≢◌, ◌<◌, ◌↔◌, ◌+◌, ℕ, Bool, true, false}
 use Rattle.std.specs.Prelude.{nat_lt, nat_le, if◌then◌else◌}
-use Rattle.std.specs.Prelude.{slice_get, slice_index_or, List, [], length, map}
+use Rattle.std.specs.Prelude.{slice_get, slice_index_or, List, [], length}
 use Rattle.std.specs.Prelude.{AllPairs, Contains, Option}
 use Rattle.tangle_bodies.specs.Shapes.{Title, Named, Shape, Shapes, Uses}
-use Rattle.tangle_bodies.specs.Flat.{Symbol}
-use Rattle.tangle_expansion.specs.Kept.{used_symbols}
-use Rattle.tangle_bodies.specs.Meaning.{body_flat}
+use Rattle.std.specs.Option.{option_map}
+use Rattle.tangle_expansion.specs.Expanded.{Expanded, expanded, symbols_if_any, used_names}
+use Rattle.tangle_expansion.specs.Kept.{kept_at, kept_for}
 use Rattle.tangle_bodies.specs.NodeBodies.{body_uses}
 use Rattle.tangle_expansion.specs.Limits.{flat_of}
 use Rattle.tangle_expansion.specs.Outputs.{OutputRead}
@@ -17,9 +17,9 @@ use Rattle.digraph.specs.Graph.{Graph, row_at}
 use Rattle.digraph.specs.Nodes.{Node}
 use Rattle.digraph.specs.Reach.{ContainsItself}
 use Rattle.tangle_bodies.specs.Nodes.{title_at}
-use Rattle.tangle_graph.specs.Bodies.{AreBodiesOf}
+use Rattle.tangle_bodies.specs.NodeBodies.{AreBodiesOf}
 use Rattle.tangle_graph.specs.Measures.{AreMeasures, measure_at}
-use Rattle.tangle_graph.specs.Nodes.{IsNodeOf}
+use Rattle.tangle_bodies.specs.Nodes.{IsNodeOf}
 use Rattle.tangle_graph.specs.declared.measures.Measure.{Measure}
 use Rattle.std.specs.Prelude.{not}
 use Rattle.std.specs.Prelude.{suc}
@@ -73,10 +73,10 @@ module _ (store : StoreRead) where
   abbrev pub body_at : Node → Option NodeBody
   body_at node = slice_get store.bodies node
 
-  -- the symbols of the node's body, where the names with these numbers have these ones
-  abbrev pub symbols_at : (ℕ → List Symbol) → Node → List Symbol
-  symbols_at symbols node =
-      row_at (map (λ body. body_flat body (map symbols (body_uses body))) store.bodies) node
+  -- the expansion of the node's body, with what is kept for the names that it uses
+  abbrev pub expanded_at : Kept → Node → Option Expanded
+  expanded_at kept node =
+      option_map (λ body. expanded body.items.value (kept_for kept (body_uses body))) (body_at node)
 
   abbrev pub title_in_store : Node → Title
   title_in_store node = title_at store.names node
@@ -95,12 +95,13 @@ pub record UsesNumber (shapes : Shapes) (store : StoreRead) (node : Node) (id : 
   pub inside : id < length store.names
   pub uses : Uses shapes (title_in_store store node) (title_in_store store (suc id))
 
--- for each name that the node uses, the symbols that are kept are the name's own; a name without a
--- piece has none
+-- for each name that the node uses, what is kept gives the name's symbols; a name without a piece
+-- has none
 abbrev pub KeepsUsed : Shapes → StoreRead → Kept → Node → Type 0
 KeepsUsed shapes store kept node =
     (id : ℕ) → UsesNumber shapes store node id
-    → used_symbols kept id ≡ flat_of shapes (Named (slice_index_or store.names id []))
+    → symbols_if_any (used_names shapes) (Named (slice_index_or store.names id []))
+    (kept_at kept (suc id)) ≡ flat_of shapes (Named (slice_index_or store.names id []))
 
 -- The store is that of the shapes: what it records of each node holds for the node's title. For a
 -- node that it does not have it gives what holds for a node without a piece.

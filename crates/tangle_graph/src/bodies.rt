@@ -2,20 +2,20 @@
 ghost use Rattle.std.specs.Prelude.{◌≡◌, ◌≢◌, ◌<◌, [], IfOk, length, All, IfSome};
 ghost use Rattle.std.specs.Prelude.{true, MatchOption, None};
 ghost use Rattle.digraph.specs.Nodes.{Node};
-ghost use Rattle.tangle_bodies.specs.Meaning.{title_of};
-ghost use Rattle.tangle_bodies.specs.NodeBodies.{HoldsShape, body_items, body_title, body_uses};
+ghost use Rattle.tangle_bodies.specs.NodeBodies.{HoldsShape, body_items, body_uses};
+ghost use Rattle.tangle_bodies.specs.NodeBodies.{items_read};
 ghost use Rattle.tangle_bodies.specs.Nodes.{title_at};
 ghost use Rattle.tangle_bodies.specs.Shapes.{Shapes};
 ghost use Rattle.tangle_bodies.specs.WebShapes.{shapes};
-ghost use Rattle.tangle_graph.specs.Bodies.{AreBodiesOf, IsBodyOf, node_bodies};
-ghost use Rattle.tangle_graph.specs.Nodes.{IsNodeOf};
+ghost use Rattle.tangle_bodies.specs.NodeBodies.{AreBodiesOf, IsBodyOf, node_bodies};
+ghost use Rattle.tangle_bodies.specs.Nodes.{IsNodeOf};
 ghost use Rattle.tangle_graph.specs.NewBodies.{AreNewBodies, IsGrouped, IsNewBody};
 ghost use Rattle.tangle_graph.specs.Stores.{IsStoreOf};
 
 use crate::nodes::node_before;
 use crate::store::Store;
 use digraph::{Node, Rows};
-use std::alloc::{AllocError, Global};
+use std::alloc::Global;
 use std::rc::Rc;
 use tangle_bodies::{BodyBuilder, NodeBody};
 use tangle_lines::NoMemory;
@@ -67,8 +67,6 @@ fn body_before<'s>(
     requires node { IsNodeOf names.now node }
     ensures same_names { IfSome result
         (λ before. before.same_names ≡ true → before.names.now ≡ names.now) }
-    ensures title { IfSome result
-        (λ before. body_title before.body.now.value ≡ title_at names.now node) }
     ensures uses { IfSome result
         (λ before. All (λ id. id < length before.names.now) (body_uses before.body.now.value)) }
     ensures shape { IfSome old.entry (λ store. (shapes : Shapes) → IsStoreOf shapes store.now
@@ -92,33 +90,32 @@ struct BodyAfter {
     has_new_shape: bool,
 }
 
-/// The name of the node; `None` for the program.
-fn name_of_node(alloc: Global, table: &NameTable, node: Node) -> Result<Option<Vec<u8>>, AllocError>
-    ensures { IfOk result (λ name. title_of name ≡ title_at table.now.names node) }
+/// A body with the items that were made.
+fn new_body(alloc: Global, builder: &BodyBuilder) -> Result<Rc<NodeBody>, NoMemory>
+    ensures { IfOk result (λ body. body_items body.value ≡ builder.now) }
 {
-    match node.name_number() {
-        Some(id) if id < table.count() => Ok(Some(Vec::from_slice(alloc, table.text(id))?)),
-        Some(_) => Ok(Some(Vec::new(alloc))),
-        None => Ok(None),
-    }
+    Ok(Rc::new(alloc, builder.body(alloc)?)?)
 }
 
-/// A body with the items that were made, under the node's name.
-fn new_body(
+/// A body with the items of this one and the uses that were made: this one, if it has these uses.
+fn kept_body(
     alloc: Global,
     builder: &BodyBuilder,
-    table: &NameTable,
-    node: Node,
+    body: &Rc<NodeBody>,
+    has_same_uses: bool,
 ) -> Result<Rc<NodeBody>, NoMemory>
-    ensures title { IfOk result
-        (λ body. body_title body.value ≡ title_at table.now.names node) }
-    ensures items { IfOk result (λ body. body_items body.value ≡ builder.now) }
+    requires { has_same_uses ≡ true → builder.now.uses ≡ body_uses body.now.value }
+    ensures { IfOk result (λ kept. body_items kept.value
+        ≡ items_read body.now.value.items.value builder.now.uses) }
 {
-    let name = name_of_node(alloc, table, node)?;
-    Ok(Rc::new(alloc, builder.body(alloc, name)?)?)
+    if has_same_uses {
+        return Ok(body.clone()?);
+    }
+    let stored: &NodeBody = body;
+    Ok(Rc::new(alloc, builder.body_of(alloc, stored.items.clone()?)?)?)
 }
 
-/// The body of the node: the old one, if its items are those of the node's pieces, else a new one.
+/// The body of the node. It shares the old body's items if these are those of the node's pieces.
 fn body_after(
     alloc: Global,
     builder: &mut BodyBuilder,
@@ -147,22 +144,21 @@ fn body_after(
     let row = pieces.row(node.number());
     builder.make(web, table, row)?;
     let Some(before) = body_before(old, names, same_names, node) else {
-        let body = new_body(alloc, builder, table, node)?;
+        let body = new_body(alloc, builder)?;
         let has_new_shape = !row.is_empty();
         return Ok(BodyAfter {
             body,
             has_new_shape,
         });
     };
-    let has_new_shape = !builder.has_shape_of(names, before.body, before.names, before.same_names);
-    if !has_new_shape && builder.has_uses_of(before.body) {
-        let body = before.body.clone()?;
-        return Ok(BodyAfter {
-            body,
-            has_new_shape,
-        });
-    }
-    let body = new_body(alloc, builder, table, node)?;
+    let has_same_uses = builder.has_uses_of(before.body);
+    let same_uses = before.same_names && has_same_uses;
+    let has_new_shape = !builder.has_shape_of(names, before.body, before.names, same_uses);
+    let body = if has_new_shape {
+        new_body(alloc, builder)?
+    } else {
+        kept_body(alloc, builder, before.body, has_same_uses)?
+    };
     Ok(BodyAfter {
         body,
         has_new_shape,

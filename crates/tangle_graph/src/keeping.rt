@@ -1,14 +1,12 @@
 //! Keeps the expansions of a web: all are made, or after an edit those of the affected nodes, and
 //! the others are shared.
 ghost use Rattle.std.specs.Prelude.{◌≡◌, ◌++◌, ◌∷◌, [], true, IfOk, OnOk};
-ghost use Rattle.tangle_expansion.specs.Kept.{PutsKept};
-ghost use Rattle.tangle_expansion.specs.Limits.{flat_of};
 ghost use Rattle.tangle_bodies.specs.Shapes.{Shapes};
 ghost use Rattle.tangle_graph.specs.Stores.{AreNewShapes, IsNodeIn, IsStoreOf, KeepsUsed};
-ghost use Rattle.tangle_graph.specs.Stores.{is_expandable_at, title_in_store};
+ghost use Rattle.tangle_graph.specs.Stores.{is_expandable_at};
 ghost use Rattle.tangle_graph.specs.Affected.{EditedShapes, ListsAffectedAfter};
-ghost use Rattle.tangle_graph.specs.Keeping.{IsEditOf, IsUnaffected, KeepsJust};
-ghost use Rattle.tangle_graph.specs.Keeping.{ListsExpandableAfter};
+ghost use Rattle.tangle_graph.specs.Keeping.{IsEditOf, IsRight, IsUnaffected, KeepsJust};
+ghost use Rattle.tangle_graph.specs.Keeping.{ListsExpandableAfter, PutsRight};
 
 use crate::edits::reaching_new_shapes;
 use crate::flags::is_flagged;
@@ -78,15 +76,14 @@ pub fn expand_again(
     Ok(kept)
 }
 
-/// Shares the old expansion of the node, which is found by its name.
-#[tactic(auto, using(tangle_expansion::proofs::Unaffected::stays))]
+/// Shares the old expansion of the node: that of the old node with the same title.
 fn share_old(old: &Store, old_kept: &Kept, new: &Store, node: Node) -> Result<Expansion, NoMemory>
     requires node { IsNodeIn new.now node }
     requires edit { (shapes : EditedShapes) × IsEditOf old.now new.now old_kept.now shapes
         × IsUnaffected new.now shapes node }
     ensures { (shapes : EditedShapes) → IsEditOf old.now new.now old_kept.now shapes
         → IsUnaffected new.now shapes node
-        → IfOk result (λ e. e ≡ flat_of shapes.new (title_in_store new.now node)) }
+        → IfOk result (IsRight shapes.new new.now node) }
 {
     let before = node_before(old.names(), new.names(), node).unwrap();
     old_kept.get(before).unwrap().share()
@@ -103,8 +100,7 @@ fn expand_next(
     requires { is_expandable_at store.now node ≡ true }
     ensures kept { (shapes : Shapes) → IsStoreOf shapes store.now
         → KeepsUsed shapes store.now kept.old node
-        → OnOk result (PutsKept kept.old kept.new node
-        (flat_of shapes (title_in_store store.now node))) }
+        → OnOk result (PutsRight shapes store.now kept.old kept.new node) }
     ensures listed { OnOk result (work.new ≡ work.old ++ node ∷ []) }
 {
     let expansion = store.expand(alloc, node, kept, work)?;

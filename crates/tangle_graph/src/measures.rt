@@ -6,7 +6,7 @@ ghost use Rattle.digraph.specs.Order.{IsOrder};
 ghost use Rattle.tangle_bodies.specs.NodeBodies.{HoldsShape, body_uses};
 ghost use Rattle.tangle_bodies.specs.Shapes.{Shapes, Title};
 ghost use Rattle.tangle_expansion.specs.Limits.{weight_cap, levels, heaviest};
-ghost use Rattle.tangle_graph.specs.Bodies.{AreBodiesOf, node_bodies};
+ghost use Rattle.tangle_bodies.specs.NodeBodies.{AreBodiesOf, node_bodies};
 ghost use Rattle.tangle_graph.specs.Measures.{AreMeasures, AreUsesMeasured, greatest_by};
 ghost use Rattle.tangle_graph.specs.Measures.{measure_at, measure_of};
 ghost use Rattle.tangle_graph.specs.NameGraphs.{AreUsesOf};

@@ -5,7 +5,7 @@ ghost use Rattle.std.specs.List.Sorted.{IsStrictlyIncreasing};
 ghost use Rattle.digraph.specs.Graph.{InRange};
 ghost use Rattle.tangle_bodies.specs.NodeBodies.{body_uses};
 ghost use Rattle.tangle_graph.specs.NameGraphs.{AreUsesOf, IsNameGraphOf};
-ghost use Rattle.tangle_graph.specs.Bodies.{node_bodies};
+ghost use Rattle.tangle_bodies.specs.NodeBodies.{node_bodies};
 
 use digraph::{Node, Ordered, Rows, once_each, order, self_containing, users};
 use std::alloc::{AllocError, Global};

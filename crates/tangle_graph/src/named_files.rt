@@ -7,9 +7,7 @@ ghost use Rattle.tangle_graph.specs.Outputs.{is_file};
 ghost use Rattle.tangle_graph.specs.PlainForms.{plain_form};
 
 use crate::measures::{Measure, measure_of_name};
-use crate::nodes::entry;
 use crate::plain_forms::plain_form;
-use digraph::Node;
 use indexmap::IndexSet;
 use std::alloc::Global;
 use tangle_lines::NoMemory;
@@ -84,18 +82,25 @@ impl NamedFiles {
         Ok(NamedFiles { flags })
     }
 
+    /// The two flags of the name with this number.
+    fn flags_at(&self, id: usize) -> (bool, bool)
+        ensures { result ≡ flags_at self.now id }
+    {
+        self.flags.get(id).copied().unwrap_or((false, false))
+    }
+
     /// Whether the name with this number is that of the main file.
     pub(crate) fn is_main_file(&self, id: usize) -> bool
         ensures { result ≡ (flags_at self.now id).0 }
     {
-        entry(&self.flags, Node::new(id), (false, false)).0
+        self.flags_at(id).0
     }
 
     /// Whether the name with this number is that of an earlier file.
     pub(crate) fn is_earlier_file(&self, id: usize) -> bool
         ensures { result ≡ (flags_at self.now id).1 }
     {
-        entry(&self.flags, Node::new(id), (false, false)).1
+        self.flags_at(id).1
     }
 
     /// Whether the name with this number is that of the main file or of an earlier file.

@@ -2,7 +2,7 @@
 ghost use Rattle.std.specs.Prelude.{◌≡◌, ◌≢◌, None, IfSome, slice_index_or};
 ghost use Rattle.digraph.specs.Nodes.{Node};
 ghost use Rattle.tangle_bodies.specs.Nodes.{title_at};
-ghost use Rattle.tangle_graph.specs.Nodes.{IsNodeOf};
+ghost use Rattle.tangle_bodies.specs.Nodes.{IsNodeOf};
 
 use digraph::Node;
 use tangle_names::Names;

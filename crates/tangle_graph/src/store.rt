@@ -1,18 +1,18 @@
 //! The store of a web's graph of names.
 ghost use Rattle.std.specs.Prelude.{◌≡◌, ◌++◌, ◌∷◌, [], IfOk, OnOk, OnErr, suc};
-ghost use Rattle.std.specs.Prelude.{All, true, ◌<◌, ◌+◌, length, map, IfSome, Some};
+ghost use Rattle.std.specs.Prelude.{All, true, ◌<◌, length, map, IfSome, Some};
 ghost use Rattle.tangle_names.specs.NameTable.{table_of};
-ghost use Rattle.tangle_expansion.specs.Kept.{used_symbols};
-ghost use Rattle.tangle_expansion.specs.Limits.{flat_of};
-ghost use Rattle.tangle_bodies.specs.NodeBodies.{body_title, body_uses};
+ghost use Rattle.tangle_bodies.specs.NodeBodies.{body_uses, node_bodies};
+ghost use Rattle.tangle_bodies.specs.Nodes.{IsGroupedBy};
 ghost use Rattle.tangle_bodies.specs.Shapes.{Shapes};
 ghost use Rattle.tangle_bodies.specs.WebShapes.{shapes};
-ghost use Rattle.tangle_graph.specs.Bodies.{node_bodies};
+ghost use Rattle.tangle_expansion.specs.Numbers.{numbers_of};
 ghost use Rattle.tangle_graph.specs.Faults.{graph_faults};
 ghost use Rattle.tangle_graph.specs.NameGraphs.{IsNameGraphOf};
 ghost use Rattle.tangle_graph.specs.Ordering.{IsOrderIn};
 ghost use Rattle.tangle_graph.specs.Stores.{AreNewShapes, IsNodeIn, IsStoreOf, KeepsUsed};
-ghost use Rattle.tangle_graph.specs.Stores.{body_at, reaches_cycle_at, symbols_at, title_in_store};
+ghost use Rattle.tangle_graph.specs.Keeping.{IsRight};
+ghost use Rattle.tangle_graph.specs.Stores.{body_at, expanded_at, reaches_cycle_at};
 ghost use Rattle.tangle_graph.specs.Stores.{contains_itself_at, is_expandable_at};
 ghost use Rattle.tangle_graph.specs.Stores.{weight_at, depth_at, uses_at, users_at, has_piece_at};
 ghost use Rattle.tangle_graph.specs.WebStores.{IsStoreOfWeb};
@@ -30,8 +30,8 @@ use std::alloc::Global;
 use std::marker::Model;
 use std::rc::Rc;
 use tangle_bodies::NodeBody;
-use tangle_expansion::{Expansion, Kept, Output, Work, expand};
-use tangle_lines::{Fault, NoMemory};
+use tangle_expansion::{Expansion, Kept, Numbers, Output, Work, expand};
+use tangle_lines::{Fault, MarkMode, NoMemory};
 use tangle_names::{Counted, NameTable, Names};
 use tangle_scan::Web;
 
@@ -46,7 +46,7 @@ pub struct Store {
     pieces: Rc<Rows<usize>>,
     measures: Vec<Measure>,
     outputs: Vec<Output>,
-    bodies: Vec<Rc<NodeBody>>,
+    bodies: Rc<Vec<Rc<NodeBody>>>,
 }
 
 impl Model for Store {
@@ -107,6 +107,7 @@ impl Store {
         let shared: &NameGraph = &name_graph;
         // Measures are made anew, in one short pass.
         let measures = measures_of_nodes(alloc, &shared.uses, &shared.order.nodes, &bodies)?;
+        let bodies = Rc::new(alloc, bodies)?;
         let outputs = outputs(alloc, web, table, out, &measures)?;
         let store = Store {
             name_graph,
@@ -122,10 +123,25 @@ impl Store {
     pub(crate) fn body(&self, node: Node) -> &Rc<NodeBody>
         requires { IsNodeIn self.now node }
         ensures body { body_at self.now node ≡ Some result.now.value }
-        ensures title { body_title result.now.value ≡ title_in_store self.now node }
         ensures uses { All (λ id. id < length self.now.names) (body_uses result.now.value) }
     {
-        &self.bodies[node.number()]
+        let bodies: &Vec<Rc<NodeBody>> = &self.bodies;
+        &bodies[node.number()]
+    }
+
+    /// What the outputs of the store's web need besides the items in its expansions. Line marks are
+    /// written as `marks` says.
+    ///
+    /// # Errors
+    ///
+    /// `NoMemory` where an allocation failed.
+    pub fn numbers(&self, alloc: Global, web: &Web, marks: MarkMode) -> Result<Numbers, NoMemory>
+        requires store { IsStoreOf (shapes web.now (table_of web.now)) self.now }
+        requires names { self.now.names ≡ (table_of web.now).names }
+        requires pieces { IsGroupedBy web.now (table_of web.now) self.now.pieces }
+        ensures { IfOk result (λ numbers. numbers ≡ numbers_of web.now (table_of web.now) marks) }
+    {
+        Numbers::build(alloc, web, self.names(), &self.pieces, &self.bodies, marks)
     }
 
     /// The full names of the web, by number.
@@ -133,13 +149,6 @@ impl Store {
         ensures { result.now ≡ self.now.names }
     {
         &self.name_graph.names
-    }
-
-    /// For each node a row with the numbers of its pieces.
-    pub fn pieces(&self) -> &Rc<Rows<usize>>
-        ensures { result.now.value ≡ self.now.pieces }
-    {
-        &self.pieces
     }
 
     /// Whether the node has a piece.
@@ -253,8 +262,8 @@ impl Store {
         self.name_graph.order.nodes.as_slice()
     }
 
-    /// Expands a node: the expansion has the node's own symbols, with the kept expansion of each
-    /// used name, if there is one, after a space. The node is added to the end of the work's list.
+    /// Expands a node: the expansion has the items of the node's body, with the kept expansion of
+    /// each used name, if there is one. The node is added to the end of the work's list.
     ///
     /// # Errors
     ///
@@ -267,15 +276,15 @@ impl Store {
         work: &mut Work,
     ) -> Result<Expansion, NoMemory>
         requires expandable { is_expandable_at self.now node ≡ true }
-        ensures symbols { IfOk result
-            (λ e. e ≡ symbols_at self.now (used_symbols kept.now) node) }
+        ensures expanded { IfOk result (λ e. expanded_at self.now kept.now node ≡ Some e) }
         ensures right { (shapes : Shapes) → IsStoreOf shapes self.now
             → KeepsUsed shapes self.now kept.now node
-            → IfOk result (λ e. e ≡ flat_of shapes (title_in_store self.now node)) }
+            → IfOk result (IsRight shapes self.now node) }
         ensures listed { OnOk result (work.new ≡ work.old ++ node ∷ []) }
         ensures err { OnErr result (work.new ≡ work.old) }
     {
-        expand(alloc, node, &self.bodies[node.number()], kept, work)
+        let bodies: &Vec<Rc<NodeBody>> = &self.bodies;
+        expand(alloc, node, &bodies[node.number()], kept, work)
     }
 }
 

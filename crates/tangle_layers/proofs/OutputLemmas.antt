@@ -1,5 +1,7 @@
 -- The output files of a web are ready to be written where what its nodes expand to is kept.
-use Rattle.std.proofs.Common.{◌≤◌, ℕ, List, length, sym, subst}
+use Rattle.std.proofs.Common.{◌≡◌, ◌∙◌, ◌≤◌, ℕ, List, length, sym, subst}
+use Rattle.tangle_expansion.specs.Expanded.{used_names}
+use Rattle.tangle_expansion.specs.Numbers.{NumbersRead, names_used}
 use Rattle.std.specs.Prelude.{Contains, All}
 use Rattle.std.proofs.lemmas.List.Elements.{All-contains_itself, All-weaker}
 use Rattle.tangle_scan.specs.Web.{WebRead}
@@ -22,8 +24,10 @@ module _ (web : WebRead) (table : TableRead) (out : List ℕ)
   fits output c = subst (λ names. IsFit (shapes web table) names output) (sym is.names)
       (outputs_fit web table resolves out output (subst (λ os. Contains os output) is.outputs c))
 
-  pub outputs_ready : All (λ output. IsReady output kept) store.outputs
-  outputs_ready =
-      All-weaker (Contains store.outputs) (λ output. IsReady output kept)
-      (λ output c. ready (shapes web table) store kept is.store keeps output (fits output c) law) store.outputs
+  pub outputs_ready : (numbers : NumbersRead) → names_used numbers ≡ used_names (shapes web table)
+      → numbers.names ≡ table.names → All (IsReady numbers kept) store.outputs
+  outputs_ready numbers uses_are names_are =
+      All-weaker (Contains store.outputs) (IsReady numbers kept)
+      (λ output c. ready (shapes web table) store kept numbers is.store keeps uses_are (names_are ∙ sym is.names)
+      output (fits output c) law) store.outputs
       (All-contains_itself store.outputs)

@@ -44,7 +44,7 @@ fn list_store<S: Sink>(
         b"graph",
         &store.faults(alloc, web, table, roles.out())?,
     );
-    let numbers = Numbers::build(alloc, web, store.names(), store.pieces(), roles.marks())?;
+    let numbers = store.numbers(alloc, web, roles.marks())?;
     let mut work = Work::new(alloc);
     let kept = expand_all(alloc, &store, &mut work)?;
     out.begin(b"expanded");

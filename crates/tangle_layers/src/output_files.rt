@@ -10,7 +10,7 @@ use tangle_lines::{Discarding, Sink, WriteFault};
 
 // The number of bytes that writing the file returns.
 fn written_size(output: &Output, kept: &Kept, numbers: &Numbers) -> u128
-    requires { IsReady output.now kept.now }
+    requires { IsReady numbers.now kept.now output.now }
 {
     match write_file(output, kept, numbers, &mut Discarding) {
         Ok(size) | Err(WriteFault(size)) => size,
@@ -24,7 +24,7 @@ fn list_output<S: Sink>(
     kept: &Kept,
     numbers: &Numbers,
 )
-    requires { IsReady output.now kept.now }
+    requires { IsReady numbers.now kept.now output.now }
 {
     out.begin(b"output");
     out.number(number);
@@ -49,7 +49,7 @@ pub fn list_outputs<S: Sink>(
     kept: &Kept,
     numbers: &Numbers,
 )
-    requires { All (λ output. IsReady output kept.now) outputs.now }
+    requires { All (IsReady numbers.now kept.now) outputs.now }
 {
     for (number, output) in outputs.iter().enumerate() {
         list_output(out, number, output, kept, numbers);

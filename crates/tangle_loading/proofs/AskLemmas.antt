@@ -147,10 +147,7 @@ module _ (contents : Contents) where
     there_more needed none asked files name so fresh next e other any =
         elim (or_cases (list_any (bytes_eq other) asked) (list_any (bytes_eq other) (name ∷ []))
         (sym (list_any-append (bytes_eq other) asked (name ∷ [])) ∙ any)) [
-          | inl old ↦ elim (so files refl other old) [
-            | inl h ↦ inl (grows_there files next other (grows_by needed files next name (contents name) e) h)
-            | inr h ↦ inr h
-          ]
+          | inl old ↦ search (rules, so files refl other old, grows_there, grows_by)
           | inr is ↦ search (rules, bytes_eq-Decides, there)
         ]
 

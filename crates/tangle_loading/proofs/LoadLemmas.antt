@@ -1,4 +1,5 @@
 -- Loading round by round, and how it ends.
+use Rattle.std.proofs.Common.{rules}
 use Rattle.std.proofs.Common.{◌≡◌, ◌∙◌, ◌⊎◌, inl, inr, ℕ, ◌≤◌, Bool, true, false, List, [], ◌∷◌, None, Some}
 use Rattle.std.proofs.Common.{Ok, Err, ap, subst, sym, refl, length, append-nil}
 use Rattle.tangle_files.specs.declared.refusal.Refusal.TheVariants.{BadName}
@@ -11,7 +12,6 @@ use Rattle.tangle_loading.specs.Loading.{missing_of, named_in, rounds_after, so_
 use Rattle.tangle_loading.specs.Loading.LoadEnd.{NoMemory, Refused}
 use Rattle.std.specs.List.{AllByRecursion}
 use Rattle.tangle_loading.specs.Endings.{LoadGives, Stands, StandsOrEnds, Step, WholeLoading}
-use Rattle.tangle_loading.specs.Endings.{after_asking}
 use Rattle.tangle_loading.specs.Endings.EndsEarly.{IsItsEnd, IsShort}
 use Rattle.tangle_loading.proofs.AskLemmas.{IsAsked, all_extend, asked_stay, become_asked}
 use Rattle.tangle_loading.proofs.RoundLemmas.{first_fits, leads_on, round, rounds_stay}
@@ -37,7 +37,7 @@ module _ (roles : RolesRead) (start : FolderRead) where
       → Stands whole true (roles.web ∷ named_in roles.change) start (so_far [] (Ok []))
   first_stands named = record {
     known = λ contents. contents;
-    knows = record { folder = refl; are_its = λ contents has. has; others = λ name fresh contents. refl };
+    knows = search rules;
     leads = λ contents. ap (λ bad. load_unless contents bad roles) named;
   }
 
@@ -67,8 +67,7 @@ module _ (roles : RolesRead) (start : FolderRead) where
     by_some at step =
         let of : WholeLoading = record whole {
           rounds = 0;
-          final = λ contents. ask_all contents
-              needed load names;
+          final = λ contents. ask_all contents needed load names;
         } in
         let s = stepped {of = of} (record { known = at.known; knows = at.knows; leads = λ contents. refl }) step in
         (s.known no_files, s.leads no_files)
@@ -89,9 +88,7 @@ module _ (roles : RolesRead) (start : FolderRead) where
     step_grows =
         let made = by_some so.at step in
         let more = all_extend made.0 false (missing_of files roles) (so_far asked (Ok files)) in
-        let before = more.files table (ap (λ l. l.loaded) made.1) in
-        let same : before.0 ≡ files = cc in
-        subst (λ t. Grows t table) same before.2
+        search (rules, more.files table (ap (λ l. l.loaded) made.1))
 
     pub rounds_next : InRounds new end table
     rounds_next = record { has_roles = grows_fits files table roles step_grows so.has_roles; at = next_stands so.at step }
@@ -111,11 +108,7 @@ module _ (roles : RolesRead) (start : FolderRead) where
         let some = some_contents start.files in
         let contents = s.known some.0 in
         let all : load_of contents roles ≡ load = s.leads some.0 ∙ rounds_stay _ roles most_files load (last contents) in
-        record {
-          contents = contents;
-          are_its = s.knows.are_its some.0 some.1;
-          gives = (ap (λ l. l.loaded) all, s.knows.folder ∙ ap (λ l. after_asking start l.asked) (sym all));
-        }
+        record { contents = contents; are_its = s.knows.are_its some.0 some.1; gives = search rules }
 
   -- the folder was not used
   pub unused : (ending : LoadEnd)
@@ -125,10 +118,5 @@ module _ (roles : RolesRead) (start : FolderRead) where
       let is = some_contents start.files in record {
         contents = is.0;
         are_its = is.1;
-        gives = elim why [
-          | inl bad ↦ (let load = ap (λ o. load_unless is.0 o roles) bad.1 in
-              IsItsEnd (ap (λ l. l.loaded) load ∙ sym bad.2)
-              (ap (λ l. after_asking start l.asked) (sym load)))
-          | inr none ↦ IsShort [] (load_of is.0 roles).asked refl refl (cc)
-        ];
+        gives = elim why [ inl bad ↦ search (rules, IsItsEnd) | inr none ↦ IsShort [] _ refl refl (cc) ];
       }

@@ -74,14 +74,8 @@ module _ (files : FileTable) (no_missing : IncludesNoMissing files) where
   changes_fine file phase n [] h none = search rules
   changes_fine file phase n (line ∷ lines) h none =
       let next = next_misses_none file phase n line (line_kind_of line) in
-      search (
-        rules,
-        fine_before,
-        or_parts,
-        next,
-        changes_fine file
-            (next_phase file phase n line (line_kind_of line)).0 (n + 1) lines,
-      )
+      let later = changes_fine file (next_phase file phase n line (line_kind_of line)).0 (n + 1) lines in
+      search (rules, fine_before, or_parts, next, later)
 
   change_lines_miss_alike : (file depth : ℕ) (ls : List (ℕ × List ℕ))
       → list_any misses_waiting (change_lines file depth ls) ≡ list_any (λ (l : ℕ × List ℕ). misses_file files l.1) ls
@@ -121,12 +115,8 @@ module _ (files : FileTable) (no_missing : IncludesNoMissing files) where
     step_is_clean (w ∷ ws) [] t changes none =
         grind (arith, nat_tests, plain_is_clean w ws [] t (included_name w.bytes))
     step_is_clean (w ∷ ws) (c ∷ cs) t changes none =
-        grind (
-          arith,
-          nat_tests,
-          plain_is_clean w ws (c ∷ cs) t (included_name w.bytes),
-          change_is_clean c w ws cs t,
-        )
+        let plain = plain_is_clean w ws (c ∷ cs) t (included_name w.bytes) in
+        grind (arith, nat_tests, plain, change_is_clean c w ws cs t)
 
     after_misses_none : (f : State → Reads) (step : ReadingStep) → StepIsClean step
         → ((s : State) → IsClean s → missed_in (f s).faults ≡ []) → missed_in (after files file step f).faults ≡ []

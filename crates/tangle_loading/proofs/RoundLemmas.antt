@@ -62,7 +62,7 @@ module _ (contents : Contents) (roles : RolesRead) where
       elim (cases_lt (length before.0) (length files)) [
         | inl longer ↦ inr (files, e, omega (arith, ap length same))
         | inr none ↦ inl (round_stays load before.0 before.1
-            (e ∙ ap Ok (same_table before.0 files before.2 none)))
+            (e ∙ ap Ok (same_table _ files before.2 none)))
       ]
 
   rounds_grow : (n : ℕ) (load : Load) → IsLastOrGrown 0 load → IsLastOrGrown n (rounds n load)
@@ -74,8 +74,7 @@ module _ (contents : Contents) (roles : RolesRead) where
   -- after the first round the table has the web and the change file
   first_there : (files : FileTable) → (first_round contents roles).loaded ≡ Ok files
       → (name : List ℕ) → IsAsked (first_round contents roles).asked name → has_file files name ≡ true
-  first_there files e name asked =
-      search (rules, all_keep, there_more)
+  first_there files e name asked = search (rules, all_keep, there_more)
 
   pub first_fits : (files : FileTable) → (first_round contents roles).loaded ≡ Ok files → fits files roles ≡ true
   first_fits files e =

@@ -2,7 +2,7 @@
 use Rattle.std.proofs.Common.{rules}
 use Rattle.std.proofs.Common.{◌≡◌, ◌∙◌, inl, inr, ℕ, ◌<◌, suc, Bool, false, cond, List, [], ◌∷◌}
 use Rattle.std.proofs.Common.{◌++◌}
-use Rattle.std.proofs.Common.{Option, Some, None, Ok, Err, ap, subst, sym, refl, length, append_assoc, append-nil, arith}
+use Rattle.std.proofs.Common.{Option, Some, None, Ok, Err, ap, sym, refl, length, append_assoc, append-nil, arith}
 use Rattle.std.proofs.Common.{replicate}
 use Rattle.std.specs.Prelude.{IfSome, IsSomeAnd}
 use Rattle.std.specs.Str.{bytes_eq}
@@ -41,8 +41,7 @@ after_both start xs ys = ap (λ a. record start { asked = a }) (sym (fold-append
 -- loading that ended early did so whatever it would have asked for later
 pub later : (a b : Load) (old new : FolderRead) (ending : LoadEnd)
     → Extends a b → EndsEarly a old new ending → EndsEarly b old new ending
-later a b old new ending x (IsItsEnd e is) =
-    subst (λ l. EndsEarly l old new ending) (sym (x.ended ending e)) (IsItsEnd e is)
+later a b old new ending x (IsItsEnd e is) = rw (x.ended ending e) (IsItsEnd e is)
 later a b old new ending x (HasFailed front rest name split is which) =
     HasFailed front (rest ++ x.more) name (search (rules, append_assoc, x.asked)) is which
 later a b old new ending x (IsShort front rest split is e) =
@@ -73,9 +72,7 @@ step_same {needed = needed} {name = name} {asked = asked} {files = files} is = r
   to = λ whole later at. record {
     known = at.known;
     knows = at.knows;
-    leads = λ contents. at.leads contents
-        ∙ ap (λ l. rounds_after (at.known contents) whole.roles whole.rounds (ask_all (at.known contents) needed l later))
-        (ask_same (at.known contents) needed asked (Ok files) name is);
+    leads = λ c. search (rules, at.leads c, ask_same (at.known c) needed asked (Ok files) name is);
   };
 }
 
@@ -130,7 +127,7 @@ module _ (needed : Bool) (name : List ℕ) (old : FolderRead) (asked : List (Lis
     knows = record {
       folder = ap (λ f. after_asking f (name ∷ [])) at.knows.folder ∙ after_both whole.start asked (name ∷ []);
       are_its = λ c has. at.knows.are_its (with_answer name answer c) (its_answer whole.start.files name answer c
-          (subst (λ f. IfSome f.files (λ all. file_bytes all name ≡ answer)) at.knows.folder says) has);
+          (rw at.knows.folder at says) has);
       others = search (rules, or_parts, list_any-append, at.knows.others);
     };
     leads = λ c.

@@ -42,8 +42,7 @@ module _ (os : List OccurrenceRead) where
   table-bare = search (rules, names-bare, resolved-bare, first-bare, first_file-bare)
 
 bare-alike : (old new : List OccurrenceRead) → AreWrittenAlike old new → map bare old ≡ map bare new
-bare-alike old new alike =
-    sym (map-map plain written_form old) ∙ (ap (map plain) alike ∙ map-map plain written_form new)
+bare-alike old new alike = cc (map-map plain written_form old, map-map plain written_form new, alike)
 
 pub table_alike : (old new : List OccurrenceRead) → AreWrittenAlike old new → table_over old ≡ table_over new
 table_alike old new alike = sym (table-bare old) ∙ (ap table_over (bare-alike old new alike) ∙ table-bare new)
@@ -51,6 +50,8 @@ table_alike old new alike = sym (table-bare old) ∙ (ap table_over (bare-alike 
 pub alike_at : (old new : List OccurrenceRead) (i : ℕ) (o n : OccurrenceRead)
     → AreWrittenAlike old new → i < length old → i < length new → o ≡ get_or old i o → n ≡ get_or new i n
     → written_form o ≡ written_form n
-alike_at old new i o n alike h g at by =
-    ap written_form at
-    ∙ (sym (get_or-map written_form old i o (written_form o) h) ∙ (search (rules, get_or-map)))
+alike_at old new i o n alike h g at by = cc (
+  get_or-map written_form old i o (written_form o) h,
+  get_or-map written_form new i n (written_form o) g,
+  alike,
+)

@@ -1,16 +1,14 @@
 -- The names that begin another one.
 use Rattle.std.proofs.lemmas.Bool.Decides.{nat_tests}
-use Rattle.std.proofs.Common.{◌≡◌, ◌<◌, ◌+◌, ◌∙◌, ◌&&◌, ◌||◌, ℕ, Bool, true, false, List, [], ◌∷◌}
-use Rattle.std.proofs.Common.{Contains, arith, get_or, length, map, refl, sym, take, ap, inl, inr}
+use Rattle.std.proofs.Common.{◌≡◌, ◌<◌, ◌+◌, ◌&&◌, ◌||◌, ℕ, Bool, true, false, List, [], ◌∷◌}
+use Rattle.std.proofs.Common.{Contains, arith, get_or, length, map, refl, take, ap}
 use Rattle.std.specs.Prelude.{slice_set}
 use Rattle.std.specs.List.{AllByRecursion, IsDistinct, list_any, position_or_len}
 use Rattle.std.specs.Str.{bytes_eq}
 use Rattle.std.specs.Ordering.{is_lt, nat_cmp}
 use Rattle.std.specs.Cmp.Lexicographic.{slice_cmp}
-use Rattle.std.proofs.lemmas.Bool.{cases_Bool}
 use Rattle.std.proofs.lemmas.List.Folds.{list_any_more}
-use Rattle.std.proofs.Math.Bool.{or-false}
-use Rattle.std.proofs.Common.{rules, if◌then◌else◌}
+use Rattle.std.proofs.Common.{if◌then◌else◌}
 use Rattle.std.proofs.lemmas.Slice.Eq.{bytes_eq-Decides}
 use Rattle.std.proofs.lemmas.Map.Keys.{IsDistinct-head, IsDistinct-tail, Less-from_sorted}
 use Rattle.std.proofs.lemmas.List.Elements.{Contains-get_or}
@@ -27,10 +25,10 @@ begins_among names texts name = list_any (λ t. begins_another names t && bytes_
 -- all texts
 pub all-among : (names texts : List NameText) (name : NameText) → Contains texts name
     → begins_among names texts name ≡ begins_another names name
-all-among names texts name c = elim (cases_Bool (begins_another names name)) [
-  | inl a ↦ list_any-some _ texts name c (grind (arith, nat_tests, bytes_eq-Decides name name)) ∙ sym a
-  | inr a ↦ list_any-none _ texts (λ t d. grind (arith, nat_tests, bytes_eq-Decides t name)) ∙ sym a
-]
+all-among names texts name c =
+    let some = list_any-some (λ t. begins_another names t && bytes_eq t name) texts name c in
+    let none = list_any-none (λ t. begins_another names t && bytes_eq t name) texts in
+    grind (arith, nat_tests, some, none, bytes_eq-Decides)
 
 -- the flag of the name with this text is set
 
@@ -63,11 +61,9 @@ pub more-among : (names texts : List NameText) (k : ℕ) (t : NameText) (begins 
     → flags ≡ map (begins_among names (take k texts)) names
     → (if begins then slice_set flags (position_or_len (bytes_eq t) names) true else flags)
     ≡ map (begins_among names (take (k + 1) texts)) names
-more-among names texts k t true flags d inside at is before =
-    let more = among-next names texts k t inside at in
-    rw before (flagged (begins_among names (take k texts)) t names d ∙ search (rules, more, is))
-more-among names texts k t false flags d inside at is before =
-    let more = among-next names texts k t inside at in search (rules, more, is, or-false, before)
+more-among names texts k t begins flags d inside at is before =
+    let more = among-next names texts k t inside at in (
+    let set = flagged (begins_among names (take k texts)) t names d in grind (arith, nat_tests, set, more))
 
 -- In the order of bytes, a name begins another one exactly where it begins the next one.
 pub next-begins : (names texts : List NameText) (i : ℕ)

@@ -49,5 +49,4 @@ out_of_map f (x ∷ xs) y c = grind (arith, nat_tests, out_of_map f xs y, there 
 pub map_same : {X Y : Type 0} (f g : X → Y) (xs : List X)
     → ((x : X) → Contains xs x → f x ≡ g x) → map f xs ≡ map g xs
 map_same f g [] same = refl
-map_same f g (x ∷ xs) same =
-    λ i. same x (here x xs) i ∷ map_same f g xs (λ y c. same y (there x xs y c)) i
+map_same f g (x ∷ xs) same = search (rules, map_same f g xs, here, there)

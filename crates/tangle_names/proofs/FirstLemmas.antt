@@ -1,13 +1,11 @@
 -- The first occurrences of names.
 use Rattle.std.proofs.Common.{rules}
 use Rattle.std.proofs.lemmas.Bool.Decides.{nat_tests}
-use Rattle.std.proofs.Common.{◌≡◌, ◌<◌, ◌∙◌, inl, inr, ℕ, Bool, true, false, ◌&&◌}
-use Rattle.std.proofs.Common.{List, [], length, get_or, ap, sym, subst, arith, Option, Some, None, position}
-use Rattle.std.specs.Prelude.{slice_get, nat_lt, IsSome, find}
+use Rattle.std.proofs.Common.{◌≡◌, ◌<◌, ◌∙◌, ℕ, Bool, ◌&&◌}
+use Rattle.std.proofs.Common.{List, [], length, get_or, sym, arith, Option, Some, position}
+use Rattle.std.specs.Prelude.{slice_get, IsSome, find}
 use Rattle.std.specs.List.{position_or_len}
 use Rattle.std.specs.Bool.{Decides}
-use borrow.Author.Tests.{ltb-true}
-use Rattle.std.proofs.lemmas.Bool.{cond_both}
 use Rattle.std.proofs.lemmas.Option.{slice_get_cases, slice_get_within, get_or_from_slice_get}
 use Rattle.std.proofs.lemmas.List.Elements.{Contains-get_or}
 use Rattle.std.proofs.lemmas.List.Folds.{find_at}
@@ -30,27 +28,18 @@ module _ (q : OccurrenceRead → Bool) (P : OccurrenceRead → Type 0) (os : Lis
   first_at : (o : OccurrenceRead) → slice_get os (position_or_len q os) ≡ Some o → IsFirst P os (position_or_len q os)
   first_at o found =
       let n = position_or_len q os in
-      let is : q o ≡ true = ap q (sym (get_or_from_slice_get os n o o found))
-      ∙ passes_at_first q os o (slice_get_within os n o found) in
+      let passes = passes_at_first q os o (slice_get_within os n o found) in
       record {
         occurrence = o;
         at = found;
-        holds = (decides o).0 is;
-        no_earlier = λ k other less read is.
-            let fails : q other ≡ false = ap q (sym (get_or_from_slice_get os k other other read))
-            ∙ fails_before_first q os k other less in
-            grind (arith, nat_tests, decides other);
+        holds = (decides o).0 (grind (arith, nat_tests, passes, get_or_from_slice_get os n o o found));
+        no_earlier = λ k other less read is. (let at = get_or_from_slice_get os k other other read in
+            grind (arith, nat_tests, decides other, at, fails_before_first q os k other less));
       }
 
   first_or_none : IsFirstIfAny P os (position q os)
   first_or_none =
-      let n = position_or_len q os in
-      cond_both (nat_lt n (length os)) (Some n) None (IsFirstIfAny P os)
-      (λ is. elim (slice_get_cases os n).1 [
-        | inl found ↦ first_at found.0 found.2
-        | inr past ↦ absurd (omega (arith, ltb-true n (length os) is))
-      ])
-      (λ is o c holds. grind (arith, nat_tests, decides o, none_passes q os o))
+      grind (arith, nat_tests, slice_get_cases os (position_or_len q os), first_at, none_passes q os)
 
 -- an occurrence resolves to a name if it means the name
 numbered : (id : ℕ) (r : Resolved) → Decides (is_number id r) (r ≡ Name id)
@@ -58,9 +47,8 @@ numbered id r = grind (arith, nat_tests)
 
 resolves : (os : List OccurrenceRead) (id : ℕ) (o : OccurrenceRead) → id < length (names_in_order os)
     → Decides (resolves_to os (get_or (names_in_order os) id []) o) (resolve os o ≡ Name id)
-resolves os id o h = subst (λ b. Decides b (resolve os o ≡ Name id))
-    (is_number-means (names_in_order os) (meaning (full_names os) o) id (distinct_names os) h)
-    (numbered id (resolve os o))
+resolves os id o h = rw (← is_number-means (names_in_order os) (meaning (full_names os) o) id
+    (distinct_names os) h) (numbered id (resolve os o))
 
 pub some_of : {X : Type 0} (o : Option X) → IsSome o → (x : X) × (o ≡ Some x)
 some_of o h = search rules

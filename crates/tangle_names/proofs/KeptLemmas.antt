@@ -1,4 +1,6 @@
 -- The numbers that a resolution has beside the names, and the faults that are found from them.
+use Rattle.std.proofs.Common.{arith}
+use Rattle.std.proofs.lemmas.Bool.Decides.{nat_tests}
 use Rattle.std.proofs.Common.{rules}
 use Rattle.std.proofs.Common.{◌≡◌, ◌<◌, ◌+◌, ◌∙◌, ℕ, Bool, cond, List, [], ◌++◌}
 use Rattle.std.proofs.Common.{length, map, flat_map, take, get_or, ap}
@@ -21,7 +23,7 @@ use Rattle.tangle_names.specs.Sorted.{SameTexts}
 use Rattle.tangle_names.proofs.LawLemmas.{same}
 use Rattle.tangle_names.proofs.MeaningLemmas.{begins-several, itself}
 use Rattle.std.proofs.lemmas.List.Elements.{Contains-get_or}
-use Rattle.std.proofs.Common.{Contains, sym}
+use Rattle.std.proofs.Common.{Contains}
 
 pub names_same : (os : List OccurrenceRead) (texts : List NameText) → SameTexts (full_names os) texts
     → SameTexts (names_in_order os) texts
@@ -33,10 +35,9 @@ names_same os texts same_texts = record {
 -- a name begins another full name if it begins another of the names
 begins_same : (os : List OccurrenceRead) (name : NameText) → Contains (names_in_order os) name
     → begins_another (full_names os) name ≡ begins_another (names_in_order os) name
-begins_same os name c =
-    let full = itself (full_names os) in
-    begins-several (full_names os) (full_names os) name full ((same os name).0 c)
-    ∙ sym (begins-several (names_in_order os) (full_names os) name (names_same os (full_names os) full) c)
+begins_same os name c = (let full = itself (full_names os) in (
+    let kept = begins-several (names_in_order os) (full_names os) name (names_same os (full_names os) full) c in
+    grind (arith, nat_tests, begins-several (full_names os) (full_names os) name full, (same os name).0 c, kept)))
 
 warning-is : (web : WebRead) (name : NameText)
     → warning web (first_number web.occurrences name) name

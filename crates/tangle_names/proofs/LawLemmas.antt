@@ -2,14 +2,13 @@
 use Rattle.std.proofs.Common.{rules}
 use Rattle.std.proofs.lemmas.Bool.Decides.{nat_tests}
 use Rattle.std.proofs.Common.{◌≡◌, ◌∙◌, Bool, true, false, cond, not, List, [], ◌∷◌, filter}
-use Rattle.std.proofs.Common.{refl, ap, sym, subst, arith, Contains, find}
+use Rattle.std.proofs.Common.{refl, ap, sym, arith, Contains, find}
 use Rattle.std.specs.List.{IsDistinct, list_any, position_or_len}
 use Rattle.std.specs.Prelude.{IsSome}
 use Rattle.std.specs.Str.{bytes_eq}
 use Rattle.std.proofs.lemmas.Cmp.{nat_list_eq_equiv}
 use Rattle.std.proofs.lemmas.List.Sums.{passes_at_first}
 use Rattle.std.proofs.lemmas.Map.Views.{list_any-from_Contains}
-use Rattle.std.proofs.lemmas.Bool.{not-true}
 use Rattle.tangle_lexer.specs.Occurrences.{OccurrenceRead}
 use Rattle.tangle_names.specs.Names.{NameText, Meaning, One, full_names, meaning, means}
 use Rattle.tangle_names.specs.Names.{only_with, prefix}
@@ -40,11 +39,10 @@ pub same : (os : List OccurrenceRead) (t : NameText)
 same os t = (
   names_are_full os t,
   λ c.
-      let found =
-      out_of_map (λ (o : OccurrenceRead). o.text) (filter (λ (o : OccurrenceRead). not o.is_abbreviation) os) t c in
+      let found = out_of_map (λ (o : OccurrenceRead). o.text) (filter (λ (o : OccurrenceRead). not
+      o.is_abbreviation) os) t c in
       let member = out_of_filter (λ (o : OccurrenceRead). not o.is_abbreviation) os found.0 found.1 in
-      contains-any t (names_in_order os)
-      (among os found.0 t member.0 (means_itself (full_names os) found.0 (not-true _ member.1) ∙ ap One found.2)),
+      contains-any t (names_in_order os) (among os found.0 t member.0 (grind (arith, nat_tests))),
 )
 
 -- the number of a name
@@ -55,10 +53,7 @@ number-at t ts h =
 
 pub full_law : (os : List OccurrenceRead) (o : OccurrenceRead)
     → Contains os o → o.is_abbreviation ≡ false → ResolvesFull (names_in_order os) o.text (resolve os o)
-full_law os o c is =
-    let itself = means_itself (full_names os) o is in
-    subst (λ m. ResolvesFull (names_in_order os) o.text (resolved_meaning (names_in_order os) m))
-    (sym itself) (number-at o.text (names_in_order os) (among os o o.text c itself))
+full_law os o c is = search (rules, means_itself, number-at, among)
 
 prefix_law-by : (os : List OccurrenceRead) (p : NameText) (m : Meaning)
     → Fits (Begins (full_names os) p) m
@@ -70,10 +65,8 @@ prefix_law-by os p m f named = f
 pub prefix_law : (os : List OccurrenceRead) (o : OccurrenceRead) → Contains os o → o.is_abbreviation ≡ true
     → ResolvesPrefix (names_in_order os) (full_names os) (prefix o.text) (resolve os o)
 prefix_law os o c is =
-    let means = ap (λ b. cond b (only_with (full_names os) (prefix o.text)) (One o.text)) is in
-    prefix_law-by os (prefix o.text) (meaning (full_names os) o)
-    (rw means (only_with-fits (full_names os) (full_names os) (prefix o.text) (itself (full_names os))))
-    (λ t e. among os o t c e)
+    prefix_law-by os (prefix o.text) (meaning (full_names os) o) (search (rules, only_with-fits, itself))
+    (search (rules, among))
 
 -- an occurrence resolves to each name
 found_first : (q : OccurrenceRead → Bool) (os : List OccurrenceRead) → list_any q os ≡ true → IsSome (find q os)

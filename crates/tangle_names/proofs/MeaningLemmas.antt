@@ -1,6 +1,6 @@
 -- Whether a list has no text, one or several, and whether an item of it passes a test.
 use Rattle.std.proofs.lemmas.Bool.Decides.{nat_tests}
-use Rattle.std.proofs.Common.{◌≡◌, ◌≢◌, ◌∙◌, ◌&&◌, not, Bool, true, false, filter, List, [], ◌∷◌, refl, ap, sym}
+use Rattle.std.proofs.Common.{◌≡◌, ◌∙◌, ◌&&◌, not, Bool, true, false, filter, List, [], ◌∷◌, refl, ap, sym}
 use Rattle.std.proofs.Common.{Contains, map, ◌||◌, arith, get_or, length, ◌<◌, ◌≤◌}
 use Rattle.std.specs.List.{list_all, list_any, position_or_len}
 use Rattle.std.proofs.lemmas.List.Elements.{All-contains, Contains-get_or}
@@ -28,8 +28,7 @@ Fits P Several = HasSeveral P
 as_first : (x : NameText) (xs : List NameText)
     → list_all (bytes_eq x) xs ≡ true → (v : NameText) → Contains (x ∷ xs) v → v ≡ x
 as_first x xs h v e =
-    let one = list_all-at (bytes_eq x) xs v h in
-    grind (arith, nat_tests, cons_cases x xs v e, bytes_eq-Decides x v, one)
+    grind (arith, nat_tests, list_all-at (bytes_eq x) xs v h, cons_cases x xs v e, bytes_eq-Decides x v)
 
 fails : (q : NameText → Bool) (xs : List NameText)
     → list_all q xs ≡ false → (v : NameText) × Contains xs v × (q v ≡ false)
@@ -42,8 +41,7 @@ pub only_with-fits : (full texts : List NameText) (p : NameText) → SameTexts f
 only_with-fits full texts p same =
     by (filter (begins_with p) texts)
     (λ t b. into_filter (begins_with p) texts t (same.over t b.is_full) b.begins)
-    (λ t c. let out = out_of_filter (begins_with p) texts t c in
-    record { is_full = same.back t out.0; begins = out.1 })
+    (λ t c. grind (arith, nat_tests, out_of_filter (begins_with p) texts t c, same.back t))
   where
     by : (xs : List NameText) → ((t : NameText) → Begins full p t → Contains xs t)
         → ((t : NameText) → Contains xs t → Begins full p t) → Fits (Begins full p) (only xs)
@@ -51,10 +49,13 @@ only_with-fits full texts p same =
     by (x ∷ xs) into out =
         cond_both (list_all (bytes_eq x) xs) (One x) Several (Fits (Begins full p))
         (λ all. (out x (here x xs), λ other b. as_first x xs all other (into other b)))
-        (λ some.
-        let other = fails (bytes_eq x) xs some in
-        let differ : x ≢ other.0 = grind (arith, nat_tests, bytes_eq-Decides x other.0) in
-        (x, other.0, out x (here x xs), out other.0 (there x xs other.0 other.1), differ))
+        (λ some. (let other = fails (bytes_eq x) xs some in (
+          x,
+          other.0,
+          out x (here x xs),
+          out other.0 (there x xs other.0 other.1),
+          grind (arith, nat_tests, bytes_eq-Decides x other.0),
+        )))
 
 fits-once : (P : NameText → Type 0) (m n : Meaning) → Fits P m → Fits P n → m ≡ n
 fits-once P m n f g = grind (arith, nat_tests)
@@ -93,9 +94,8 @@ begins-several full texts name same c = by (only_with texts name) (only_with-fit
 
     by : (m : Meaning) → Fits (Begins full name) m → begins_another full name ≡ is_several m
     by Nothing f = absurd (f name own)
-    by (One t) f = list_any-none _ full (λ u d.
-        let only = λ (b : begins_with name u ≡ true). f.1 u (record { is_full = d; begins = b }) in
-        let same = f.1 name own in grind (arith, nat_tests, bytes_eq-Decides name u))
+    by (One t) f = list_any-none _ full (λ u d. (
+        let is = bytes_eq-Decides name u in grind (arith, nat_tests, is, f.1 u, f.1 name own)))
     by Several f =
         let some = list_any-some (λ u. begins_with name u && not (bytes_eq name u)) full in
         let is = bytes_eq-Decides name in

@@ -43,8 +43,4 @@ number-kept t (m ∷ ms) ts h =
 
 pub resolved-first : (ms : List Meaning) (ts : List NameText) (m : Meaning)
     → resolved_meaning (fold with_name ts (m ∷ ms)) m ≡ resolved_meaning ts m
-resolved-first ms ts (One t) =
-    let own = number-with t ts (One t) in
-    let named = named-with t ts (One t) in
-    grind (arith, nat_tests, number-kept t ms (with_name ts (One t)), own, nat_list_eq_equiv.refl t)
-resolved-first ms ts m = refl
+resolved-first ms ts m = grind (arith, nat_tests, number-kept, number-with, named-with, nat_list_eq_equiv)

@@ -19,8 +19,6 @@ use Rattle.tangle_names.specs.Sorted.{SameTexts}
 use Rattle.std.proofs.lemmas.Cmp.{nat_list_cmp_total}
 use Rattle.std.proofs.lemmas.List.{get_or-map, length-map}
 use Rattle.std.proofs.lemmas.Map.Keys.{Less-from_sorted, sorted_head, sorted_tail}
-use Rattle.std.proofs.lemmas.Bool.{cases_lt}
-use Rattle.std.proofs.Common.{inl, inr}
 use Rattle.std.proofs.lemmas.Slice.Eq.{bytes_eq-Decides}
 use Rattle.tangle_names.specs.Names.{NameText, Meaning, Nothing, One, Several, begins_with, only_with}
 use Rattle.tangle_names.specs.Sorted.{IsInOrder, begins_at, borrowed_names}
@@ -74,15 +72,10 @@ meant_at (t ∷ u ∷ us) p zero up below above =
 -- the first position of a name that isn't below a prefix
 pub is_parted : (sorted : List (Bor NameText)) (p : NameText) → IsInOrder (borrowed_names sorted)
     → IsPartitionedBy (λ (b : Bor NameText). is_lt (slice_cmp nat_cmp b.now p)) sorted
-is_parted sorted p up i j d low high is = elim (cases_lt i j) [
-  | inl less ↦
-      let within : j < length (borrowed_names sorted) = omega (arith, size sorted) in
-      let below = Less-from_sorted (slice_cmp nat_cmp) (borrowed_names sorted) i j [] up less within in
-      let first = at_text sorted i d (omega arith) in
-      let second = at_text sorted j d high in
-      grind (arith, nat_tests, nat_list_cmp_total.trans (get_or sorted i d).now)
-  | inr more ↦ (let same : i ≡ j = omega arith in rw same is)
-]
+is_parted sorted p up i j d low high is =
+    let below = Less-from_sorted (slice_cmp nat_cmp) (borrowed_names sorted) i j [] up in
+    let order = nat_list_cmp_total.trans (get_or sorted i d).now in
+    grind (arith, nat_tests, size sorted, at_text sorted i d, at_text sorted j d, below, order)
 
 -- the texts after a sort and a `dedup`
 sorted_texts : (sorted : List (Bor NameText)) → IsSorted (λ (x y : Bor NameText). slice_cmp nat_cmp x.now y.now) sorted

@@ -1,7 +1,7 @@
 -- The names in order, their properties by number, and the table that is made from both.
 use Rattle.std.proofs.Common.{rules}
-use Rattle.std.proofs.Common.{◌≡◌, ◌<◌, ◌∙◌, ℕ, zero, suc, true, cond, not, ◌&&◌, List}
-use Rattle.std.proofs.Common.{[], ◌∷◌, length, map, filter, fold, get_or, ap, sym, subst, arith, inl, inr}
+use Rattle.std.proofs.Common.{◌≡◌, ◌<◌, ◌∙◌, ℕ, zero, suc, true, not, ◌&&◌, List}
+use Rattle.std.proofs.Common.{[], ◌∷◌, length, map, filter, fold, get_or, sym, arith}
 use Rattle.std.proofs.Common.{Contains}
 use Rattle.std.specs.List.{position_or_len}
 use Rattle.std.specs.Str.{bytes_eq}
@@ -13,20 +13,18 @@ use Rattle.std.proofs.lemmas.Slice.Eq.{bytes_eq-Decides}
 use Rattle.std.proofs.lemmas.Simd.{map-map}
 use Rattle.tangle_names.specs.declared.first_numbers.Counted.{Counted}
 use Rattle.tangle_lexer.specs.Occurrences.{OccurrenceRead}
-use Rattle.tangle_names.specs.Names.{NameText, Meaning, One, full_names, meaning, means, only_with}
+use Rattle.tangle_names.specs.Names.{NameText, Meaning, One, full_names, meaning, means}
 use Rattle.tangle_names.specs.Names.{prefix}
 use Rattle.tangle_names.specs.Resolving.{meanings, names_in_order, resolve, resolved_meaning, resolves_to}
 use Rattle.tangle_names.specs.Resolving.{names_of, with_name}
 use Rattle.tangle_names.specs.Numbers.{first_by_number, is_counted, is_number}
 use Rattle.tangle_names.specs.Sorted.{SameTexts}
 use Rattle.tangle_names.proofs.ContainsLemmas.{into_filter, into_map}
-use Rattle.tangle_names.proofs.MeaningLemmas.{Fits, itself, only_with-fits, only_with-same}
-use Rattle.tangle_names.specs.Laws.{Begins}
+use Rattle.tangle_names.proofs.MeaningLemmas.{itself, only_with-fits, only_with-same}
 use Rattle.tangle_names.proofs.ResolvingLemmas.{named_if_resolved}
 use Rattle.std.specs.List.{IsDistinct}
 use Rattle.std.proofs.lemmas.Map.Keys.{IsDistinct-push, IsDistinct-tail, apart_from_distinct}
 use Rattle.std.proofs.lemmas.Map.Views.{list_any-from_Contains}
-use Rattle.std.proofs.lemmas.Bool.{cases_Bool}
 
 -- no name is twice among the names
 distinct-fold : (ms : List Meaning) (ts : List NameText)
@@ -54,30 +52,20 @@ is_number-means names m id d h = search (rules, is_number-resolved_meaning)
 
 -- each of the names in order is a full name
 means-one : (t : NameText) (m : Meaning) → means t m ≡ true → m ≡ One t
-means-one t (One u) h = ap One (sym ((bytes_eq-Decides t u).0 h))
-means-one t m h = absurd (cc)
+means-one t m h = grind (arith, nat_tests, bytes_eq-Decides)
 
 meant_name : (os : List OccurrenceRead) (o : OccurrenceRead) (t : NameText)
     → Contains os o → meaning (full_names os) o ≡ One t → Contains (full_names os) t
-meant_name os o t c is = elim (cases_Bool o.is_abbreviation) [
-  | inl a ↦
-      let found = sym (ap (λ b. cond b (only_with (full_names os) (prefix o.text)) (One o.text)) a) ∙ is in
-      (subst (Fits (Begins (full_names os) (prefix o.text))) found
-      (only_with-fits (full_names os) (full_names os) (prefix o.text) (itself (full_names os)))).0.is_full
-  | inr a ↦
-      let found = sym (ap (λ b. cond b (only_with (full_names os) (prefix o.text)) (One o.text)) a) ∙ is in
-      let same : o.text ≡ t = cc in
-      subst (Contains (full_names os)) same
-      (into_map (λ (o : OccurrenceRead). o.text) (filter (λ o. not o.is_abbreviation) os)
-      o (into_filter (λ o. not o.is_abbreviation) os o c (ap not a)))
-]
+meant_name os o t c is = (let fits = only_with-fits (full_names os) (full_names os) (prefix o.text)
+    (itself (full_names os)) in
+    let listed = into_map (λ (o : OccurrenceRead). o.text) (filter (λ o. not o.is_abbreviation) os) o in
+    grind (arith, nat_tests, listed, into_filter (λ o. not o.is_abbreviation) os o c))
 
 pub names_are_full : (os : List OccurrenceRead) (t : NameText)
     → Contains (names_in_order os) t → Contains (full_names os) t
-names_are_full os t c =
-    let o = Any-from_list_any (resolves_to os t) os
-    (sym (named_if_resolved os t) ∙ list_any-from_Contains nat_list_eq_equiv t (names_in_order os) c) in
-    meant_name os o.1 t (o.0, o.2, o.3) (means-one t (meaning (full_names os) o.1) o.4)
+names_are_full os t c = (let any = list_any-from_Contains nat_list_eq_equiv t (names_in_order os) c in
+    let o = Any-from_list_any (resolves_to os t) os (cc (named_if_resolved os t)) in meant_name os o.1 t
+    (o.0, o.2, o.3) (means-one t (meaning (full_names os) o.1) o.4))
 
 pub firsts_are : (os : List OccurrenceRead) (counted : Counted) (numbers : List ℕ)
     → length numbers ≡ length (names_in_order os)

@@ -6,7 +6,6 @@ pub mod LineTruthLemmas
 pub mod MacroEnds
 pub mod PieceBytes
 pub mod SpanOrder
-pub mod TokenSpans
 pub mod WebLaws
 pub mod WebsAsMeant
 pub mod WellFormedWebs

@@ -1,55 +1,33 @@
 -- The web and the change file are there after an edit that is not refused.
 use Rattle.std.proofs.Common.{rules}
-use Rattle.std.proofs.lemmas.Bool.Decides.{nat_tests}
-use Rattle.std.proofs.Common.{◌+◌, ◌≡◌, ◌∙◌, ℕ, true, false, List, [], ◌∷◌, Option}
+use Rattle.std.proofs.Common.{◌+◌, ◌≡◌, ℕ, true, false, List, [], ◌∷◌, Option}
 use Rattle.std.proofs.Common.{None}
-use Rattle.std.proofs.Common.{Some, refl, ap, arith}
+use Rattle.std.proofs.Common.{Some, refl}
 use Rattle.std.specs.Map.{remove_entry}
 use Rattle.std.specs.Option.{option_map}
 use Rattle.std.specs.Str.{bytes_eq}
 use Rattle.std.proofs.lemmas.Map.{keys-set_value}
 use Rattle.std.proofs.lemmas.Map.Made.{is_some-lookup}
-use Rattle.tangle_files.specs.Edited.{edited, with_lines_edited}
+use Rattle.tangle_files.specs.Edited.{edited}
 use Rattle.tangle_files.specs.Lines.{FileTable}
 use Rattle.tangle_files.specs.Adding.{has_file}
 use Rattle.tangle_files.specs.Roles.{RolesRead, fits}
 use Rattle.tangle_files.specs.declared.edits.Edit.{Edit}
-use Rattle.tangle_files.specs.declared.edits.Edit.TheVariants.{Discard}
 use Rattle.tangle_files.proofs.TableLemmas.{has_file-append}
 use Rattle.tangle_files.specs.declared.refusal.Refusal.{Refusal}
-use Rattle.tangle_session.specs.Edits.{first_refused, list_refusal}
+use Rattle.tangle_session.specs.Edits.{list_refusal}
 use Rattle.tangle_session.specs.Edits.{session_refusal}
 use Rattle.tangle_session.specs.declared.refusing.ListRefusal.{ListRefusal}
-
--- no file is removed where lines change
-stays_edited : (files : FileTable) (name other : List ℕ) (change : List (List ℕ) → List (List ℕ))
-    → has_file (with_lines_edited files name change) other ≡ has_file files other
-stays_edited files name other change = search (rules, is_some-lookup, keys-set_value)
-
--- a name that is one name is not another
-other_name : (name other x : List ℕ) → bytes_eq name other ≡ false → bytes_eq name x ≡ true
-    → bytes_eq other x ≡ false
-other_name name other x apart e = search rules
 
 -- a file other than the discarded one stays
 kept_apart : (files : FileTable) (name other : List ℕ) → bytes_eq name other ≡ false
     → has_file (remove_entry (bytes_eq name) files) other ≡ has_file files other
 kept_apart [] name other apart = refl
-kept_apart (f ∷ files) name other apart =
-    grind (arith, nat_tests, other_name name other f.0 apart, kept_apart files name other apart)
-
--- the edit doesn't discard the file of this name
-abbrev Spares : Edit → List ℕ → Type 0
-Spares (Discard file) other = bytes_eq file.items other ≡ false
-Spares edit other = Unit {0}
-
-stays_there : (files : FileTable) (edit : Edit) (other : List ℕ)
-    → has_file files other ≡ true → Spares edit other → has_file (edited files edit) other ≡ true
-stays_there files edit other h s = search (rules, stays_edited, has_file-append, kept_apart)
+kept_apart (f ∷ files) name other apart = search (rules, kept_apart files name other apart)
 
 pub fits_edited : (files : FileTable) (roles : RolesRead) (edit : Edit)
     → fits files roles ≡ true → None ≡ session_refusal files roles edit → fits (edited files edit) roles ≡ true
-fits_edited files roles edit h none = search (rules, stays_there)
+fits_edited files roles edit h none = search (rules, is_some-lookup, keys-set_value, has_file-append, kept_apart)
 
 -- The first refusal of the remaining edits, the first of which has this number.
 abbrev pub refused_at : ℕ → Option Refusal → Option ListRefusal → Option ListRefusal
@@ -64,21 +42,13 @@ refused_from at files roles (edit ∷ edits) =
 abbrev later_by : ℕ → ListRefusal → ListRefusal
 later_by at refused = record { at = refused.at + at; refusal = refused.refusal }
 
-one_more : (at : ℕ) (first : Option Refusal) (after : Option ListRefusal)
-    → refused_at at first (option_map (later_by (at + 1)) after) ≡ option_map (later_by at) (first_refused first after)
-one_more at first after = search rules
-
 from_later : (at : ℕ) (files : FileTable) (roles : RolesRead) (edits : List Edit)
     → refused_from at files roles edits ≡ option_map (later_by at) (list_refusal files roles edits)
 from_later at files roles [] = refl
 from_later at files roles (edit ∷ edits) =
-    ap (refused_at at (session_refusal files roles edit)) (from_later (at + 1) (edited files edit) roles edits)
-    ∙ one_more at (session_refusal files roles edit) (list_refusal (edited files edit) roles edits)
-
-later_by_none : (refused : Option ListRefusal) → option_map (later_by 0) refused ≡ refused
-later_by_none refused = search rules
+    search (rules, from_later (at + 1) (edited files edit) roles edits)
 
 -- numbered from 0, it is the refusal of the list
 pub from_none : (files : FileTable) (roles : RolesRead) (edits : List Edit)
     → refused_from 0 files roles edits ≡ list_refusal files roles edits
-from_none files roles edits = from_later 0 files roles edits ∙ later_by_none (list_refusal files roles edits)
+from_none files roles edits = search (rules, from_later)

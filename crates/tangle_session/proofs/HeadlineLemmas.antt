@@ -3,7 +3,7 @@ use Rattle.std.proofs.Common.{arith}
 use Rattle.std.proofs.Common.{rules}
 use Rattle.std.proofs.lemmas.Bool.Decides.{nat_tests}
 use Rattle.std.proofs.Common.{◌≡◌, List, [], ◌∷◌, ◌++◌, refl, ap, sym, subst, append_assoc, append-nil}
-use Rattle.std.specs.Prelude.{Ok, Err, Result, length}
+use Rattle.std.specs.Prelude.{Ok, Result, length}
 use Rattle.tangle_files.specs.Edited.{edited, edited_all, edited_roles, joined, roles_after}
 use Rattle.tangle_files.specs.Lines.{FileTable}
 use Rattle.tangle_files.specs.Roles.{RolesRead}
@@ -17,10 +17,7 @@ use Rattle.tangle_session.specs.declared.refusing.ListRefusal.{ListRefusal}
 accepted-append : (calls more : List Call)
     → accepted (calls ++ more) ≡ accepted calls ++ accepted more
 accepted-append [] more = refl
-accepted-append (Apply e (Ok d) ∷ calls) more = ap (λ l. (e ∷ []) ∷ l) (accepted-append calls more)
-accepted-append (ApplyAll es (Ok d) ∷ calls) more = ap (λ l. es ∷ l) (accepted-append calls more)
-accepted-append (Apply e (Err r) ∷ calls) more = accepted-append calls more
-accepted-append (ApplyAll es (Err r) ∷ calls) more = accepted-append calls more
+accepted-append (c ∷ calls) more = grind (arith, nat_tests, accepted-append calls more)
 
 files_then : (files : FileTable) (first then : List Edit)
     → edited_all files (first ++ then) ≡ edited_all (edited_all files first) then
@@ -34,23 +31,21 @@ roles_then roles (edit ∷ first) then = roles_then (edited_roles roles edit) fi
 
 joined_one : (lists : List (List Edit)) (edits : List Edit) → joined (lists ++ edits ∷ []) ≡ joined lists ++ edits
 joined_one [] edits = append-nil edits
-joined_one (first ∷ lists) edits =
-    grind (arith, nat_tests, joined_one lists edits, append_assoc first)
+joined_one (first ∷ lists) edits = grind (arith, nat_tests, joined_one lists edits, append_assoc first)
 
 module _ (files : FileTable) (roles : RolesRead) (lists : List (List Edit)) (before after : SessionRead)
     (so_far : HasMade files roles lists before) where
   made : (edits : List Edit) → AreMade before edits after → HasMade files roles (lists ++ edits ∷ []) after
-  made edits are =
-      let files_now : after.files ≡ files_after files (lists ++ edits ∷ []) =
-      search (rules, joined_one, files_then) in
+  made edits are = (let files_now : after.files ≡ files_after files (lists ++ edits ∷ []) = search
+      (rules, joined_one, files_then) in
       let roles_now : after.roles ≡ roles_with roles (lists ++ edits ∷ []) =
       search (rules, joined_one, roles_then) in
       record {
         files_are = files_now;
         roles_are = roles_now;
-        work = ByLast lists edits (rw (so_far.files_are, so_far.roles_are, files_now, roles_now) at
-            are.work);
-      }
+        work = ByLast lists edits (rw
+            (so_far.files_are, so_far.roles_are, files_now, roles_now) at are.work);
+      })
 
   unmade : after ≡ before → HasMade files roles (lists ++ []) after
   unmade same = search rules
@@ -58,8 +53,7 @@ module _ (files : FileTable) (roles : RolesRead) (lists : List (List Edit)) (bef
   answered : (call : Call) → IsAnswered before call after → HasMade files roles (lists ++ accepted (call ∷ [])) after
   answered (Apply edit (Ok done)) is = made (edit ∷ []) is.1
   answered (ApplyAll edits (Ok done)) is = made edits is.1
-  answered (Apply edit (Err refusal)) is = unmade is.1
-  answered (ApplyAll edits (Err refused)) is = unmade is.1
+  answered c is = search (rules, unmade)
 
 pub ends : (files : FileTable) (roles : RolesRead) (calls : List Call) (session : SessionRead)
     → History files roles calls session → HasMade files roles (accepted calls) session
@@ -74,7 +68,6 @@ pub calls-more : (lists : List (List Edit)) (answers : List (Result (Unit {0}) L
     (answer : Result (Unit {0}) ListRefusal) → length lists ≡ length answers
     → list_calls (lists ++ edits ∷ []) (answers ++ answer ∷ []) ≡ list_calls lists answers ++ ApplyAll edits answer ∷ []
 calls-more [] [] edits answer same = refl
-calls-more [] (a ∷ answers) edits answer same = absurd (omega arith)
-calls-more (l ∷ lists) [] edits answer same = absurd (omega arith)
-calls-more (l ∷ lists) (a ∷ answers) edits answer same =
-    ap (λ calls. ApplyAll l a ∷ calls) (calls-more lists answers edits answer (omega arith))
+calls-more (l ∷ lists) (a ∷ answers) edits answer same = ap (λ calls. ApplyAll l a ∷ calls) (calls-more
+    lists answers edits answer (omega arith))
+calls-more lists answers edits answer same = absurd (omega arith)

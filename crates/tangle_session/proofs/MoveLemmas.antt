@@ -13,7 +13,7 @@ use Rattle.tangle_scan.specs.declared.items.Item.{Item}
 use Rattle.tangle_names.specs.declared.Resolved.{Resolved}
 use Rattle.tangle_names.specs.Names.{NameText, Meaning, One, full_names, meaning, only_with, prefix}
 use Rattle.tangle_names.specs.NameTable.{TableRead}
-use Rattle.tangle_names.specs.Resolving.{names_in_order, names_of, resolve, resolved_meaning}
+use Rattle.tangle_names.specs.Resolving.{names_of, resolve, resolved_meaning}
 use Rattle.tangle_bodies.specs.WebShapes.{is_node, is_piece_of, node_of_occurrence, resolved_at, shape_item, use_of}
 use Rattle.tangle_bodies.specs.Shapes.{Shape, ShapeItem, Title}
 use Rattle.digraph.specs.Nodes.{Node}
@@ -47,14 +47,9 @@ names_said ss = names_of (map (meaning_said (full_said ss)) ss)
 abbrev resolved_said : List SaidOccurrence → List Resolved
 resolved_said ss = map (λ s. resolved_meaning (names_said ss) (meaning_said (full_said ss) s)) ss
 
-names_same : (os : List OccurrenceRead) → names_in_order os ≡ names_said (map occurrence_form os)
-names_same os = search (rules, full_same, map-map)
-
 resolved_same : (os : List OccurrenceRead) → map (resolve os) os ≡ resolved_said (map occurrence_form os)
-resolved_same os =
-    ap (λ names. map (λ o. resolved_meaning names (meaning (full_names os) o)) os) (names_same os)
-    ∙ ap (λ full. map (λ o. resolved_meaning (names_said (map occurrence_form os)) (meaning full o)) os) (full_same os)
-    ∙ sym (search (rules, map-map))
+resolved_same os = ap (λ full. map (λ o. resolved_meaning (names_of (map (meaning full) os)) (meaning full o)) os)
+    (full_same os) ∙ sym (search (rules, map-map))
 
 -- the shapes depend only on how the pieces are written
 
@@ -72,14 +67,9 @@ module _ (table : TableRead) where
   abbrev item_said : SaidItem → ShapeItem
   item_said s = elim s.1 [ None ↦ s.0 | Some occurrence ↦ use_of table (resolved_at table occurrence) ]
 
-  item_same : (texts : List (List ℕ)) (i : Item) → shape_item texts table i ≡ item_said (item_form texts i)
-  item_same texts i = search rules
-
   items_same : (texts : List (List ℕ)) (items : List Item)
       → map (shape_item texts table) items ≡ map item_said (map (item_form texts) items)
-  items_same texts [] = refl
-  items_same texts (i ∷ items) =
-      cc (item_same texts i, items_same texts items)
+  items_same texts items = search (rules, map-map)
 
   abbrev shapes_said : List SaidPiece → Title → Shape
   shapes_said pieces node =
@@ -98,8 +88,7 @@ shapes_same : (web : WebRead) (node : Title)
     ≡ shapes_said
     (table_with (names_said (map occurrence_form web.occurrences))
     (resolved_said (map occurrence_form web.occurrences))) (map (piece_form web.texts) web.pieces) node
-shapes_same web node = search (rules, shape_same, names_same, resolved_same)
+shapes_same web node = search (rules, shape_same, full_same, resolved_same, map-map)
 
 pub moved_same : (old new : WebRead) → IsMoved old new → HaveSameShapes old new
-moved_same old new moved node = shapes_same new node ∙ (λ i. shapes_said (table_with (names_said (moved.occurrences i))
-    (resolved_said (moved.occurrences i))) (moved.pieces i) node) ∙ sym (shapes_same old node)
+moved_same old new moved node = simp (shapes_same, moved.occurrences, moved.pieces)

@@ -1,14 +1,12 @@
 -- No two outputs of a web have names of the same plain form.
 use Rattle.std.proofs.Common.{rules}
 use Rattle.std.proofs.lemmas.Bool.Decides.{nat_tests}
-use Rattle.std.proofs.Common.{◌≡◌, ◌≢◌, ◌∙◌, ◌<◌, ◌≤◌, ◌+◌, ◌++◌, ℕ, zero, suc, true}
-use Rattle.std.proofs.Common.{map, filter, flat_map, get_or, ap, sym, subst, arith, length, ◌∷◌, [], List}
-use Rattle.std.proofs.Common.{Bool, false, not, ◌&&◌, ◌||◌, true≢false}
-use Rattle.std.specs.Prelude.{Some, All, AllPairs, Contains, is_some, nat_le, nat_lt}
-use Rattle.std.specs.List.{IsDistinct, list_any, range_with_len}
+use Rattle.std.proofs.Common.{◌≡◌, ◌≢◌, ◌<◌, ◌≤◌, ◌+◌, ◌++◌, ℕ, zero, suc, true}
+use Rattle.std.proofs.Common.{map, filter, flat_map, get_or, sym, subst, arith, length, ◌∷◌, [], List}
+use Rattle.std.proofs.Common.{false, ◌&&◌}
+use Rattle.std.specs.Prelude.{Some, All, AllPairs, Contains}
+use Rattle.std.specs.List.{IsDistinct, range_with_len}
 use Rattle.std.specs.Str.{bytes_eq}
-use Rattle.std.proofs.Math.Decide.{dec_lt}
-use Rattle.std.proofs.lemmas.Bool.{and_from, and_parts}
 use Rattle.std.proofs.lemmas.Cmp.{nat_list_eq_equiv}
 use Rattle.std.proofs.lemmas.List.{get_or-map, length-map}
 use Rattle.std.proofs.lemmas.Simd.{map-map}
@@ -22,18 +20,14 @@ use Rattle.tangle_files.specs.Lines.{FileTable}
 use Rattle.tangle_files.specs.Roles.{RolesRead}
 use Rattle.tangle_scan.specs.Web.{WebRead}
 use Rattle.tangle_names.specs.declared.Resolved.{Resolved}
-use Rattle.tangle_names.specs.declared.Resolved.TheVariants as resolved
 use Rattle.tangle_names.specs.NameTable.{TableRead, table_of}
 use Rattle.tangle_expansion.specs.Outputs.{OutputRead}
 use Rattle.tangle_bodies.specs.ItemTags.{uses_resolved}
-use Rattle.tangle_bodies.specs.Flat.{depth, weight}
-use Rattle.tangle_bodies.specs.Shapes.{Named}
-use Rattle.tangle_bodies.specs.WebShapes.{name_at, resolved_at, shapes}
-use Rattle.tangle_expansion.specs.Limits.{heaviest, levels}
+use Rattle.tangle_bodies.specs.WebShapes.{resolved_at, shapes}
 use Rattle.tangle_graph.specs.Grouping.{has_number_in}
 use Rattle.tangle_graph.specs.Outputs.{file_names, first_file_name, first_file_occurrence}
-use Rattle.tangle_graph.specs.Outputs.{form_at, is_earlier_file, is_file, is_named_file}
-use Rattle.tangle_graph.specs.Outputs.{is_written, named_file, outputs, shape_has_piece}
+use Rattle.tangle_graph.specs.Outputs.{form_at, is_earlier_file, is_named_file}
+use Rattle.tangle_graph.specs.Outputs.{is_written, named_file, outputs}
 use Rattle.tangle_graph.specs.PlainForms.{plain_form}
 use Rattle.tangle_session.specs.Headline.{output_at, output_bytes, output_files, table_at, web_at}
 use Rattle.digraph.proofs.UserLemmas.{in_range}
@@ -50,9 +44,8 @@ module _ (table : TableRead) where
   later : (a n : ℕ) → All (IsFrom a) (flat_map (first_file_name table) (range_with_len a n))
   later a zero = All-nil (IsFrom a)
   later a (suc n) = All-append (IsFrom a) (first_file_name table a)
-      (flat_map (first_file_name table) (range_with_len (a + 1) n))
-      (λ i d h. (a, here a i d h, omega arith))
-      (λ i d h. (let next = later (a + 1) n i d h in (next.0, next.1, omega arith)))
+      (flat_map (first_file_name table) (range_with_len (a + 1) n)) (λ i d h. (a, here a i d h, omega arith))
+      (λ i d h. grind (arith, later (a + 1) n i d h))
 
   apart : (a n : ℕ) → AllPairs (λ x y. x ≢ y) (flat_map (first_file_name table) (range_with_len a n))
   apart a zero = λ i j d less h. absurd (omega arith)
@@ -60,29 +53,15 @@ module _ (table : TableRead) where
     where
       one : (r : Resolved)
           → length (filter (λ id. has_number_in a (first_file_occurrence table id)) (uses_resolved r)) ≤ 1
-      one (resolved.Name id) = search rules
-      one _ = search rules
+      one r = search rules
 
       by : (ids : List ℕ) → All (λ id. first_file_occurrence table id ≡ Some a) ids → length ids ≤ 1
           → AllPairs (λ x y. x ≢ y) (flat_map (first_file_name table) (range_with_len (a + 1) n))
           → AllPairs (λ x y. x ≢ y) (ids ++ flat_map (first_file_name table) (range_with_len (a + 1) n))
-      by [] are few rest = search rules
       by (x ∷ []) are few rest =
-          AllPairs-cons (λ x y. x ≢ y) x (flat_map (first_file_name table) (range_with_len (a + 1) n)) (λ i d h same. (
+          AllPairs-cons (λ x y. x ≢ y) x (flat_map (first_file_name table) (range_with_len (a + 1) n)) (λ i d h. (
           grind (arith, nat_tests, are 0 x (omega arith), later (a + 1) n i d h))) rest
-      by (x ∷ y ∷ ids) are few rest = search rules
-
-of_not : (b : Bool) → not b ≡ true → b ≡ false
-of_not b h = search rules
-
--- a file that is written, by the tests that say so
-owned : (has within marked same earlier : Bool) → marked ≡ true
-    → ((has && within) && not (((marked && has) && same) || earlier)) ≡ true
-    → (((marked && has) && not same) ≡ true) × (earlier ≡ false)
-owned has within marked same earlier m is = grind (arith, nat_tests)
-
-abbrev name_of : OutputRead → List ℕ
-name_of o = o.name
+      by ids are few rest = search rules
 
 module _ (web : WebRead) (out : List ℕ) where
   abbrev table : TableRead
@@ -95,77 +74,55 @@ module _ (web : WebRead) (out : List ℕ) where
   ids_once = AllPairs-filter (λ a b. a ≢ b) (is_written web table out) (file_names web table)
       (apart table 0 (length web.occurrences))
 
-  ids_written : All (λ id. is_written web table out id ≡ true) ids
-  ids_written = filter_passes (is_written web table out) (file_names web table)
-
-  -- each has an occurrence with `@(`
-  ids_marked : All (λ id. is_some (first_file_occurrence table id) ≡ true) ids
-  ids_marked = All-filter (is_written web table out) (λ id. is_some (first_file_occurrence table id) ≡ true)
-      (file_names web table)
-      (λ i d h. (let from = later table 0 (length web.occurrences) i d h in ap is_some from.1))
-
   -- the name is that of a file, which is neither the main file nor that of an earlier name
   record IsOwn (id : ℕ) : Type 0 where
     named : is_named_file (shapes web table) table out id ≡ true
     first : is_earlier_file (shapes web table) table out id ≡ false
 
-  own : (id : ℕ) → is_some (first_file_occurrence table id) ≡ true → is_written web table out id ≡ true → IsOwn id
-  own id marked is = (let tests = owned _ _ _ _ _ marked is in record
-      { named = tests.0; first = tests.1 })
-
   ids_own : All IsOwn ids
-  ids_own i d h = own (get_or ids i d) (ids_marked i d h) (ids_written i d h)
+  ids_own i d h = (let marked = All-filter (is_written web table out) (IsFrom table 0) (file_names web table)
+      (later table 0 (length web.occurrences)) i d h in
+      let is = filter_passes (is_written web table out) (file_names web table) i d h in grind (arith, nat_tests))
 
   -- of two names of one file the later one has no file of its own
   only_first : (a b : ℕ) → a < b → IsOwn a → IsOwn b → form_at table b ≡ form_at table a → ⊥
-  only_first a b less x y same =
-      let test = λ (e : ℕ). is_named_file (shapes web table) table out e
-      && bytes_eq (form_at table b) (form_at table e) in
-      let found = in_range b a less in
-      let passes : test a ≡ true = and_from _ _ x.named ((bytes_eq-Decides _ _).1 same) in
-      true≢false (sym (and_from _ _ y.named (list_any-from_Any test (range_with_len 0 b)
-      (found.0, a, found.1, found.2, passes))) ∙ y.first)
+  only_first a b less x y same = grind (
+    arith,
+    nat_tests,
+    in_range b a less,
+    (bytes_eq-Decides (form_at table b) (form_at table a)).1 same,
+    list_any-from_Any (λ e. is_named_file (shapes web table) table out e
+        && bytes_eq (form_at table b) (form_at table e)) (range_with_len 0 b),
+  )
 
-  forms_apart : (a b : ℕ) → a ≢ b → IsOwn a → IsOwn b → form_at table a ≢ form_at table b
-  forms_apart a b other x y same = elim (dec_lt a b) [
-    | yes low ↦ only_first a b low x y (sym same)
-    | no high ↦ only_first b a (omega arith) y x same
-  ]
+  named_forms : map plain_form (map (λ (o : OutputRead). o.name) (map (named_file table) ids)) ≡ map (form_at table) ids
+  named_forms = search (rules, map-map)
 
-  named_forms : map plain_form (map name_of (map (named_file table) ids)) ≡ map (form_at table) ids
-  named_forms = map-map plain_form name_of (map (named_file table) ids)
-      ∙ map-map (λ o. plain_form (name_of o)) (named_file table) ids
-
-  named_once : AllPairs (λ a b. a ≢ b) (map plain_form (map name_of (map (named_file table) ids)))
-  named_once = subst (AllPairs (λ a b. a ≢ b)) (sym named_forms) (λ i j d less h same. (
-      let high : j < length ids = omega (arith, length-map ids (form_at table)) in
-      let low : i < length ids = omega arith in
-      forms_apart (get_or ids i 0) (get_or ids j 0) (ids_once i j 0 less high) (ids_own i 0 low) (ids_own j 0 high)
-      (sym (get_or-map (form_at table) ids i 0 d low) ∙ same ∙ get_or-map (form_at table) ids j 0 d high)))
+  named_once : AllPairs (λ a b. a ≢ b) (map plain_form (map (λ (o : OutputRead). o.name) (map (named_file table) ids)))
+  named_once = rw named_forms (λ i j d less h same. (
+      let form = get_or-map (form_at table) ids in let size = length-map ids (form_at table) in
+      grind (arith, nat_tests, form, size, only_first, ids_once i j 0 less, ids_own i 0, ids_own j 0)))
 
   not_main : (id : ℕ) → IsOwn id → plain_form out ≢ form_at table id
-  not_main id is same = true≢false (sym ((bytes_eq-Decides (form_at table id) (plain_form out)).1
-      (sym same))
-      ∙ of_not _ (and_parts _ _ is.named).1)
+  not_main id is same =
+      grind (arith, nat_tests, bytes_eq-Decides (form_at table id) (plain_form out), is.named, same)
 
-  main_apart : All (λ x. plain_form out ≢ x) (map plain_form (map name_of (map (named_file table) ids)))
+  main_apart : All (λ x. plain_form out ≢ x) (map plain_form (map (λ (o : OutputRead). o.name) (map (named_file table) ids)))
   main_apart = subst (All (λ x. plain_form out ≢ x)) (sym named_forms) (All-map (λ x. plain_form out ≢ x) (form_at table)
       ids (λ i d h. not_main (get_or ids i d) (ids_own i d h)))
 
-  pub forms_once : AllPairs (λ a b. a ≢ b) (map plain_form (map name_of (outputs web table out)))
+  pub forms_once : AllPairs (λ a b. a ≢ b) (map plain_form (map (λ (o : OutputRead). o.name) (outputs web table out)))
   forms_once = search (rules, main_apart, named_once)
 
 -- where no two of the values that a function gives are equal, no two of its arguments are
 apart_from : {X Y : Type 0} (f : X → Y) (xs : List X) → AllPairs (λ a b. a ≢ b) (map f xs) → AllPairs (λ a b. a ≢ b) xs
-apart_from f xs once i j d less h same =
-    once i j (f d) less (omega (arith, length-map xs f))
-    (get_or-map f xs i d (f d) (omega arith) ∙ ap f same ∙ sym (get_or-map f xs j d (f d) h))
+apart_from f xs once i j d less h same = once i j (f d) less (omega (arith, length-map xs f))
+    (grind (arith, get_or-map f xs i d (f d), get_or-map f xs j d (f d)))
 
 pub forms_distinct : (files : FileTable) (roles : RolesRead)
     → IsDistinct bytes_eq (map plain_form (map (λ f. f.0) (output_files files roles)))
-forms_distinct files roles =
-    subst (λ names. IsDistinct bytes_eq (map plain_form names))
-    (names_written (output_bytes files roles) (outputs (web_at files roles) (table_at files roles) roles.out))
+forms_distinct files roles = rw (← names_written (output_bytes files roles) (outputs (web_at files
+    roles) (table_at files roles) roles.out))
     (IsDistinct-from_AllPairs bytes_eq-Decides _ (forms_once (web_at files roles) roles.out))
 
 pub names_distinct : (files : FileTable) (roles : RolesRead)

@@ -24,7 +24,12 @@ use Rattle.tangle_expansion.specs.Numbers.{numbers_of}
 use Rattle.tangle_expansion.specs.Outputs.{OutputRead, kept_output_bytes}
 use Rattle.tangle_expansion.specs.declared.kept.Kept.{Kept}
 use Rattle.tangle_graph.specs.Stores.{StoreRead, IsStoreOf}
-use Rattle.tangle_graph.proofs.OutputLemmas.{IsFit}
+use Rattle.std.proofs.Common.{inl, inr}
+use Rattle.std.proofs.lemmas.Bool.{cases_Bool}
+use Rattle.tangle_bodies.proofs.InsideLemmas.{table_inside}
+use Rattle.tangle_expansion.proofs.NumberLemmas.{names_used_of}
+use Rattle.tangle_graph.proofs.ExpandLemmas.{expandable_at}
+use Rattle.tangle_graph.proofs.OutputLemmas.{IsFit, kept_symbols}
 use Rattle.tangle_graph.specs.Keeping.{KeepsJust}
 use Rattle.tangle_session.specs.Headline.{output_bytes, table_at, web_at}
 use Rattle.tangle_session.specs.Sessions.{shapes_of}
@@ -39,7 +44,13 @@ module _ (files : FileTable) (roles : RolesRead) (store : StoreRead) (kept : Kep
 
   pub same_bytes : kept_output_bytes (numbers_of web (table_of web) roles.marks) kept output
       ≡ output_bytes files roles output
-  same_bytes = search rules
+  same_bytes = elim (cases_Bool output.has_piece) [
+    | inl has ↦ (let on = (expandable_at (shapes_of web) store is output.node fit.inside).1 (fit.there has) in
+        let given = kept_symbols (shapes_of web) store kept (numbers_of web (table_of web) roles.marks) is keeps
+        (names_used_of web (table_of web) roles.marks (table_inside web)) (sym names_are) output.node on in
+        rw (given, names_are) refl)
+    | inr none ↦ rw none refl
+  ]
 
 -- looking up a name among the output files gives the bytes of the output with that name
 pub look_up : {Y : Type 0} (bytes_of : OutputRead → Y) (name : List ℕ) (os : List OutputRead)

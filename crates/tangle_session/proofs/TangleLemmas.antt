@@ -24,13 +24,14 @@ use Rattle.tangle_expansion.specs.Outputs.{OutputRead, IsReady, kept_output_byte
 use Rattle.digraph.specs.Nodes.{Node}
 use Rattle.tangle_bodies.specs.Nodes.{title_at}
 use Rattle.tangle_graph.specs.Keeping as keeping
-use Rattle.tangle_graph.specs.Nodes.{IsNodeOf}
+use Rattle.tangle_bodies.specs.Nodes.{IsNodeOf}
 use Rattle.tangle_graph.specs.Outputs.{outputs}
 use Rattle.tangle_graph.specs.Stores.{StoreRead, IsStoreOf}
 use Rattle.tangle_scan.proofs.laws.WebLaws.{web-line-truth}
 use Rattle.tangle_expansion.specs.Location.{AreAtTheirOrigins, classes}
 use Rattle.tangle_bodies.specs.Shapes.{Title}
 use Rattle.tangle_expansion.proofs.LineTruth.{node_is_located}
+use Rattle.tangle_expansion.proofs.NumberLemmas.{names_used_of}
 use Rattle.tangle_bodies.proofs.InsideLemmas.{table_inside}
 use Rattle.tangle_graph.proofs.ExpandLemmas.{expandable_at}
 use Rattle.tangle_graph.proofs.OutputLemmas.{IsFit, outputs_fit, ready}
@@ -141,9 +142,11 @@ module _ {state : SessionState} {roles : RolesRead} {session : SessionRead} (vie
           roles.out output.now
           (found_in named (outputs web (table_of web) roles.out) output.now found_there))
 
-      pub is_ready : IsReady output.now state.kept
-      is_ready = ready (shapes_of web) state.analysis.store
-          state.kept hold.analysis.store.store hold.kept output.now fit (λ shapes node e. e.light)
+      pub is_ready : IsReady state.analysis.numbers state.kept output.now
+      is_ready = rw hold.analysis.numbers (ready (shapes_of web) state.analysis.store state.kept
+          (numbers_of web (table_of web) roles.marks) hold.analysis.store.store hold.kept
+          (names_used_of web (table_of web) roles.marks (table_inside web)) (sym hold.analysis.store.names)
+          output.now fit (λ shapes node e. e.light))
 
       abbrev bytes : List ℕ
       bytes = kept_output_bytes state.analysis.numbers state.kept output.now

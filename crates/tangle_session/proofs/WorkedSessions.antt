@@ -30,17 +30,22 @@ files = (codes "a.w", codes "x" ∷ []) ∷ (codes "a.ch", []) ∷ (codes "b.w",
 abbrev refused : ℕ → Refusal → Option ListRefusal
 refused at refusal = Some (record { at = at; refusal = refusal })
 
-record Starts : Type 0 where
-  pub no_web : start_refusal [] roles ≡ Some NoWeb
-  pub no_change_file : start_refusal ((codes "a.w", []) ∷ []) roles ≡ Some NoChange
-
-starts : Starts
-starts = search rules
-
 -- vectors with these bytes
 module _ (a h b c text : Vec ℕ Global) (are_a : a.items ≡ codes "a.w") (are_h : h.items ≡ codes "a.ch")
     (are_b : b.items ≡ codes "b.w") (are_c : c.items ≡ codes "c.w") (are_text : text.items ≡ codes "t ") where
-  record Refusals : Type 0 where
+  abbrev state : SessionRead
+  state = record { files = files; roles = roles; work = [] }
+
+  -- an edit and a list that are accepted, and others that are refused
+  abbrev calls : List Call
+  calls =
+      Apply (Insert b 1 text) (Ok tt) ∷ Apply (Discard a) (Err RoleFile)
+      ∷ ApplyAll (Marks Bare ∷ Remove a 1 ∷ []) (Ok tt)
+      ∷ ApplyAll (Remove b 1 ∷ Remove b 1 ∷ []) (Err (record { at = 1; refusal = NoSuchLine })) ∷ []
+
+  record Answers : Type 0 where
+    pub no_web : start_refusal [] roles ≡ Some NoWeb
+    pub no_change_file : start_refusal ((codes "a.w", []) ∷ []) roles ≡ Some NoChange
     pub web : session_refusal files roles (Discard a) ≡ Some RoleFile
     pub change_file : session_refusal files roles (Discard h) ≡ Some RoleFile
     pub other_file : session_refusal files roles (Discard b) ≡ None
@@ -50,38 +55,18 @@ module _ (a h b c text : Vec ℕ Global) (are_a : a.items ≡ codes "a.w") (are_
     -- each edit is looked at in the files that the earlier ones left
     pub made : list_refusal files roles (Create c ∷ Insert c 1 text ∷ Remove c 1 ∷ Discard c ∷ []) ≡ None
     pub gone : list_refusal files roles (Create c ∷ Discard c ∷ Remove c 1 ∷ []) ≡ refused 2 UnknownFile
-
-  refusals : Refusals
-  refusals = search (rules, are_a, are_h, are_b, are_c, are_text)
-
-  abbrev state : SessionRead
-  state = record { files = files; roles = roles; work = [] }
-
-  record Answers : Type 0 where
     pub refused_edit : IsAnswered state (Apply (Discard a) (Err RoleFile)) state
     pub another_reason : IsAnswered state (Apply (Discard a) (Err NoMemory)) state → ⊥
     pub no_memory_for_an_edit : IsAnswered state (Apply (Discard b) (Err NoMemory)) state
     pub no_memory_for_a_list :
         IsAnswered state (ApplyAll (Discard a ∷ []) (Err (record { at = 0; refusal = NoMemory }))) state
     pub something_changed : IsAnswered state (Apply (Discard a) (Err RoleFile)) (record state { work = 0 ∷ [] }) → ⊥
-
-  answers : Answers
-  answers = search (rules, are_a, are_b)
-
-  -- an edit and a list that are accepted, and others that are refused
-  abbrev calls : List Call
-  calls =
-      Apply (Insert b 1 text) (Ok tt) ∷ Apply (Discard a) (Err RoleFile)
-      ∷ ApplyAll (Marks Bare ∷ Remove a 1 ∷ []) (Ok tt)
-      ∷ ApplyAll (Remove b 1 ∷ Remove b 1 ∷ []) (Err (record { at = 1; refusal = NoSuchLine })) ∷ []
-
-  record History : Type 0 where
     pub files_are : files_after files (accepted calls)
         ≡ (codes "a.w", []) ∷ (codes "a.ch", []) ∷ (codes "b.w", codes "t" ∷ []) ∷ []
     pub roles_are : roles_with roles (accepted calls) ≡ record roles { marks = Bare }
 
-  history : History
-  history = search (rules, are_a, are_b, are_text)
+  answers : Answers
+  answers = search (rules, are_a, are_h, are_b, are_c, are_text)
 
 abbrev web : List ℕ → WebRead
 web bytes = web_at ((codes "a.w", cut bytes) ∷ []) (roles_of (codes "a.w") None (codes "a.c"))

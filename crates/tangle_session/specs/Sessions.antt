@@ -11,7 +11,7 @@ use Rattle.tangle_names.specs.NameTable.{table_of}
 use Rattle.tangle_expansion.specs.Affected.{IsAffected}
 use Rattle.tangle_expansion.specs.Limits.{levels, heaviest, IsExpandableNode}
 use Rattle.digraph.specs.Nodes.{Node}
-use Rattle.tangle_graph.specs.Nodes.{IsNodeOf}
+use Rattle.tangle_bodies.specs.Nodes.{IsNodeOf}
 use Rattle.tangle_bodies.specs.WebShapes.{shapes}
 use Rattle.tangle_bodies.specs.Shapes.{Shapes}
 use Rattle.tangle_bodies.specs.Nodes.{title_at}

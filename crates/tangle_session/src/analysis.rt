@@ -82,7 +82,7 @@ impl Analysis {
         let made = store(alloc, &web, &table, roles.out(), old)?;
         let new_shapes = made.new_shapes;
         let store = made.store;
-        let numbers = Numbers::build(alloc, &web, store.names(), store.pieces(), marks)?;
+        let numbers = store.numbers(alloc, &web, marks)?;
         let mut of_names = table.faults(alloc, &web)?;
         let mut of_graph = store.faults(alloc, &web, &table, roles.out())?;
         let (occurrences, mut of_web) = web.into_occurrences_and_faults();

@@ -1,4 +1,7 @@
 //! Nodes that a store does not have, and expansions that are written on their own.
+ghost use Rattle.std.specs.Prelude.{◌≡◌, IfOk, IfSome};
+ghost use Rattle.tangle_graph.specs.Stores.{IsNodeIn};
+
 use crate::support::files_with;
 use std::alloc::{AllocError, Global};
 use std::test::Fail;
@@ -17,18 +20,22 @@ fn read<'a>(alloc: Global, files: &'a Files) -> Result<Source<'a>, Refusal> {
     Ok(read_source(alloc, files, &roles)?)
 }
 
-fn tangle_source(alloc: Global, source: &Source) -> Result<(Store, Kept, Numbers), NoMemory> {
+fn tangle_source(alloc: Global, source: &Source) -> Result<(Store, Kept, Numbers), NoMemory>
+    ensures { IfOk result (λ made. made.2.names ≡ made.0.names) }
+{
     let web = scan(alloc, source)?;
     let table = NameTable::build(alloc, &web)?;
     let store = Store::build(alloc, &web, &table, b"a.c", None)?.store;
-    let numbers = Numbers::build(alloc, &web, store.names(), store.pieces(), MarkMode::Full)?;
+    let numbers = store.numbers(alloc, &web, MarkMode::Full)?;
     let mut work = Work::new(alloc);
     let kept = expand_all(alloc, &store, &mut work)?;
     Ok((store, kept, numbers))
 }
 
 // The graph of the web with this text, the expansions of its nodes, and the numbers in their texts.
-fn tangle(alloc: Global, web: &[u8]) -> Result<(Store, Kept, Numbers), Fail> {
+fn tangle(alloc: Global, web: &[u8]) -> Result<(Store, Kept, Numbers), Fail>
+    ensures { IfOk result (λ made. made.2.names ≡ made.0.names) }
+{
     let files = files_with(alloc, &[(b"a.w", web)])?;
     let source = read(alloc, &files)?;
     Ok(tangle_source(alloc, &source)?)
@@ -72,29 +79,32 @@ fn expansion_of(alloc: Global, web: &[u8], node: Node) -> Result<Expansion, Fail
     Ok(kept.get(node).ok_or("the expansion")?.share()?)
 }
 
-// The program and names of the chain, by their numbers, each with the number of uses in its text.
-// The first is as deep as an expanded node can be.
-const DEEP: [(Option<usize>, usize); 3] = [(None, 999), (Some(0), 998), (Some(998), 0)];
+// Nodes of the chain by their numbers, each with the number of bytes in its text. The first is the
+// program, which is as deep as an expanded node can be; the last is the name without a use. Node
+// `n` is section `n + 1`, its head ends on line `2n + 2`, and its use is on the line after it. So
+// its own text has 45 bytes, or 30 without a use, and one more for each further digit of a number:
+// two of the section, and one of each line.
+const DEEP: [(usize, usize); 3] = [(0, 53_664), (1, 53_619), (999, 39)];
 
-fn node_of(name: Option<usize>) -> Node {
-    match name {
-        Some(id) => Node::name(id),
-        None => Node::program(),
+fn node_at(store: &Store, number: usize) -> Option<Node>
+    ensures { IfSome result (IsNodeIn store.now) }
+{
+    if number > store.names().count() {
+        return None;
     }
+    Some(Node::new(number))
 }
 
-// The numbers are those of a web without pieces: each section has the number 0, and each mark is at
-// line 0 of `a.w`.
 #[test]
 fn texts_of_a_long_chain(rt: HostRuntime) -> Result<(), Fail> {
     let web = chain(rt.alloc())?;
-    let (_, _, numbers) = tangle(rt.alloc(), b"")?;
-    for (name, uses) in DEEP {
-        let expansion = expansion_of(rt.alloc(), &web, node_of(name))?;
-        let size = uses * 45 + 30;
+    let (store, _, numbers) = tangle(rt.alloc(), &web)?;
+    for (number, size) in DEEP {
+        let node = node_at(&store, number).ok_or("the node")?;
+        let expansion = expansion_of(rt.alloc(), &web, node)?;
         for capacity in [size, size - 1, size / 2, 0] {
             let mut sink = MemorySink::new(rt.alloc(), capacity);
-            let written = expansion.write_text_after(&numbers, &mut sink, Ok(0));
+            let written = expansion.write_text_after(node, &numbers, &mut sink, Ok(0));
             let expected = if capacity == size {
                 Ok(size as u128)
             } else {

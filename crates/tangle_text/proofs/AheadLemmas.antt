@@ -1,6 +1,6 @@
 -- The text ahead at a position of a line.
 use Rattle.std.proofs.lemmas.Bool.Decides.{nat_tests}
-use Rattle.std.proofs.Common.{◌≡◌, ℕ, ◌+◌, ◌<◌, ◌≤◌, ◌^◌, ◌*◌, suc, Bool, List, [], ◌∷◌, None, zero}
+use Rattle.std.proofs.Common.{◌≡◌, ℕ, ◌+◌, ◌<◌, ◌≤◌, ◌^◌, ◌*◌, suc, Bool, List, [], ◌∷◌, zero}
 use Rattle.std.proofs.Common.{false, IsSome, length, get_or, slice_get, drop, refl, arith, drop-cons}
 use Rattle.std.specs.List.{All}
 use Rattle.std.proofs.Math.ListN.{drop_of_length-le}
@@ -38,20 +38,13 @@ module _ (lines : List SourceLine) (bytes : List ℕ) (line column : ℕ) where
   pub rest_of-byte : column < length bytes → rest_of lines bytes line column false
       ≡ record { line = line; column = column; byte = slice_get bytes column }
       ∷ rest_of lines bytes line (column + 1) false
-  rest_of-byte h =
-      let next : column + 1 ≡ suc column = omega arith in
-      rw (drop-cons bytes column 0 h, slice_get-get_or bytes column 0 h, next) refl
-
-  -- at a line end
-  rest_of-line_end : length bytes ≤ column → rest_of lines bytes line column false
-      ≡ record { line = line; column = column; byte = None } ∷ text_from (line + 1) (drop (line + 1) lines)
-  rest_of-line_end h = rw (drop_of_length-le bytes h) refl
+  rest_of-byte h = grind (arith, nat_tests, drop-cons bytes column 0 h, slice_get-get_or bytes column 0 h)
 
   -- the first cell at a position of a line
   pub rest_of-cell : rest_of lines bytes line column false
       ≡ record { line = line; column = column; byte = slice_get bytes column }
       ∷ drop 1 (rest_of lines bytes line column false)
-  rest_of-cell = grind (arith, nat_tests, slice_get_cases, rest_of-byte, rest_of-line_end)
+  rest_of-cell = grind (arith, nat_tests, slice_get_cases, rest_of-byte, drop_of_length-le bytes)
 
   -- advancing over a byte
   pub advance-byte : (done : Bool) → column < length bytes
@@ -62,7 +55,7 @@ module _ (lines : List SourceLine) (bytes : List ℕ) (line column : ℕ) where
   pub front-line_end : (done : Bool) → done ≡ false → length bytes ≤ column
       → IsFront (rest_of lines bytes line column done)
       (record { byte = slice_get bytes column; next = byte_at 0 (text_from (line + 1) (drop (line + 1) lines)) })
-  front-line_end done is h = grind (arith, nat_tests, rest_of-line_end, slice_get_past)
+  front-line_end done is h = grind (arith, nat_tests, drop_of_length-le bytes, slice_get_past)
 
 -- the front at a byte
 pub front-byte : (lines : List SourceLine) (bytes : List ℕ) (line column : ℕ) (done : Bool)
@@ -85,7 +78,7 @@ pub record IsAtByte (r : Inside) (text : List Cell) : Type 0 where
 pub at-byte : (r : Inside) (text : List Cell)
     → rest_of r.source.now.lines r.bytes.now r.line r.column r.is_done ≡ text → IsSome (byte_at 0 text)
     → IsAtByte r text
-at-byte r text is some = grind (arith, nat_tests, rest_of-byte, rest_of-line_end)
+at-byte r text is some = grind (arith, nat_tests, rest_of-byte, drop_of_length-le r.bytes.now)
 
 -- the byte at a distance is the first one after that many cells
 pub byte_at-drop : (n : ℕ) (text : List Cell) → byte_at n text ≡ byte_at 0 (drop n text)

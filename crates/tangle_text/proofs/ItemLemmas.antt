@@ -10,8 +10,8 @@ use Rattle.std.proofs.lemmas.Bool.{cases_Bool}
 use Rattle.std.specs.List.{prefix_len}
 use Rattle.tangle_files.specs.Bytes.{space}
 use Rattle.tangle_text.specs.Bytes.{is_word_byte}
-use Rattle.tangle_text.specs.Runs.{is_plain, is_single, begins_single, is_run_byte, passing, is_quote, is_before_quote}
-use Rattle.tangle_text.specs.Runs.{part_more, is_run_item, begins_item, goes_over, run_size}
+use Rattle.tangle_text.specs.Runs.{is_single, begins_single, is_run_byte, passing, is_quote, is_before_quote}
+use Rattle.tangle_text.specs.Runs.{part_more, begins_item, goes_over, run_size}
 use Rattle.tangle_text.proofs.PartLemmas.{part-fits}
 
 -- the run after a part that was begun
@@ -22,18 +22,6 @@ run-after (suc k) (b ∷ bs) h = omega (arith, run-after k bs (omega arith))
 
 -- bytes
 
-word-byte : (b : ℕ) → is_word_byte b ≡ true → (is_plain b ≡ true) × ((b == space) ≡ false)
-word-byte b h = grind (arith, nat_tests)
-
-quote-byte : (b : ℕ) → is_quote b ≡ true → (is_word_byte b ≡ false) × ((b == space) ≡ false)
-quote-byte b h = grind (arith, nat_tests)
-
-single-byte : (b : ℕ) (bs : List ℕ) → is_single b bs ≡ true → (is_quote b ≡ false) × ((b == space) ≡ false)
-single-byte b bs h = grind (arith, nat_tests)
-
-run-no_quote : (b : ℕ) (bs : List ℕ) → is_run_byte b bs ≡ true → is_quote b ≡ false
-run-no_quote b bs h = grind (arith, nat_tests)
-
 -- no word that a quoted text follows is at the front
 abbrev begins_free : List ℕ → Bool
 begins_free [] = true
@@ -43,32 +31,27 @@ begins_free (b ∷ bs) = not (is_word_byte b && is_before_quote bs)
 abbrev pub is_free : ℕ → List ℕ → Bool
 is_free b bs = if b == space then begins_free bs else not (is_word_byte b && is_before_quote bs)
 
-item-single : (b : ℕ) (bs : List ℕ) → is_single b bs ≡ true
-    → is_run_item b bs ≡ not (is_word_byte b && is_before_quote bs)
-item-single b bs h = grind (arith, single-byte b bs h)
-
-item-first : (bs : List ℕ) → begins_single bs ≡ true → begins_item bs ≡ begins_free bs
-item-first [] h = cc
-item-first (b ∷ bs) h = item-single b bs h
-
 -- the run goes over a byte that it may go over, if it is free to
 over-byte : (b : ℕ) (bs : List ℕ) → is_run_byte b bs ≡ true → goes_over b bs ≡ is_free b bs
-over-byte b bs h = grind (arith, nat_tests, single-byte b bs, item-single b bs, item-first bs)
+over-byte b bs h = grind (arith, nat_tests)
 
 free-word : (b : ℕ) (bs : List ℕ) → is_free b bs ≡ true → is_word_byte b ≡ true → is_before_quote bs ≡ false
-free-word b bs h word = grind (arith, word-byte b word)
+free-word b bs h word = grind arith
 
 size-byte : (b : ℕ) (bs : List ℕ) → is_run_byte b bs ≡ true → is_free b bs ≡ true
     → run_size 0 (b ∷ bs) ≡ suc (run_size 0 bs)
 size-byte b bs h free =
-    let over : goes_over b bs ≡ true = over-byte b bs h ∙ free in
-    grind (arith, nat_tests, over, one-add (run_size (part_more b bs) bs), word-on bs, free-word b bs free, run-no_quote b bs h)
+    let size = one-add (run_size (part_more b bs) bs) in
+    grind (arith, nat_tests, over-byte b bs h, size, word-on bs, free-word b bs free)
   where
     word-on : (cs : List ℕ) → is_before_quote cs ≡ false → run_size (prefix_len is_word_byte cs) cs ≡ run_size 0 cs
     word-on [] apart = refl
-    word-on (c ∷ cs) apart = grind (arith, nat_tests, word-byte c, one-add (prefix_len is_word_byte cs))
+    word-on (c ∷ cs) apart = grind (arith, nat_tests, one-add (prefix_len is_word_byte cs))
 
 -- `k` bytes that a run may go over, and it is free to go over the last of them
+
+run-no_quote : (b : ℕ) (bs : List ℕ) → is_run_byte b bs ≡ true → is_quote b ≡ false
+run-no_quote b bs h = grind (arith, nat_tests)
 
 run-byte : (b : ℕ) (bs : List ℕ) (k : ℕ) → suc k ≤ passing is_run_byte (b ∷ bs)
     → (is_run_byte b bs ≡ true) × (k ≤ passing is_run_byte bs)
@@ -77,12 +60,7 @@ run-byte b bs k h = grind (arith, nat_tests)
 -- it is free to go over a byte, if the byte after it is in no word before a quoted text
 free-before : (b c : ℕ) (cs : List ℕ) → (is_word_byte c ≡ true → is_before_quote cs ≡ false)
     → (is_word_byte c ≡ false → is_word_byte b ≡ true → is_quote c ≡ false) → is_free b (c ∷ cs) ≡ true
-free-before b c cs word other =
-    by (b == space) (is_word_byte b) (is_word_byte c) (is_before_quote cs) (is_quote c) word other
-  where
-    by : (s v w t q : Bool) → (w ≡ true → t ≡ false) → (w ≡ false → v ≡ true → q ≡ false)
-        → cond s (not (w && t)) (not (v && cond w t q)) ≡ true
-    by s v w t q word other = grind arith
+free-before b c cs word other = grind arith
 
 run-to : (b : ℕ) (bs : List ℕ) (k : ℕ) → k ≤ passing is_run_byte bs
     → is_free (get_or (b ∷ bs) k 0) (drop k bs) ≡ true
@@ -90,21 +68,19 @@ run-to : (b : ℕ) (bs : List ℕ) (k : ℕ) → k ≤ passing is_run_byte bs
 run-to b bs zero h free = (free, omega arith)
 run-to b [] (suc k) h free = absurd (omega arith)
 run-to b (c ∷ cs) (suc k) h free =
-    let byte = run-byte c cs k h in
-    let more = run-to c cs k byte.1 free in
-    let free = free-before b c cs (free-word c cs more.0) (λ x y. run-no_quote c cs byte.0) in
-    (free, omega (arith, size-byte c cs byte.0 more.0, more.1))
+    let byte = run-byte c cs k h in let before = free-before b c cs in
+    grind (arith, nat_tests, byte, run-to c cs k, before, free-word c cs, run-no_quote c cs, size-byte c cs)
 
 -- no run is at a word that a quoted text follows, nor at a space before it
 word-first : (b : ℕ) (bs : List ℕ) → is_word_byte b ≡ true → is_before_quote bs ≡ true
     → (run_size 0 (b ∷ bs) ≡ 0) × (run_size 0 (space ∷ b ∷ bs) ≡ 0)
-word-first b bs word before = grind (arith, nat_tests, word-byte b word)
+word-first b bs word before = grind (arith, nat_tests)
 
 -- a quoted text, and one after a space
 quote-first : (b m : ℕ) (bs : List ℕ) → is_quote b ≡ true → m ≡ part_more b bs
     → (run_size 0 (b ∷ bs) ≡ cond (m == 0) 0 (1 + m + run_size 0 (drop m bs)))
     × (run_size 0 (space ∷ b ∷ bs) ≡ cond (m == 0) 0 (2 + m + run_size 0 (drop m bs)))
-quote-first b m bs is size = grind (arith, nat_tests, quote-byte b is, run-after m bs, part-fits b bs)
+quote-first b m bs is size = grind (arith, nat_tests, run-after m bs, part-fits b bs)
 
 -- The same at columns of a line.
 
@@ -117,16 +93,13 @@ stop-byte : (b : ℕ) (bs : List ℕ) → passing is_run_byte (b ∷ bs) ≡ 0
 stop-byte b bs h = grind (arith, nat_tests)
 
 word-single : (b : ℕ) (bs : List ℕ) → is_word_byte b ≡ true → is_single b bs ≡ true
-word-single b bs word = rw (word-byte b word).0 refl
+word-single b bs word = grind (arith, nat_tests)
 
 end-free : (b : ℕ) (bs : List ℕ) → passing is_run_byte bs ≡ 0
     → (is_word_byte b ≡ true → is_quote (get_or bs 0 0) ≡ false) → is_free b bs ≡ true
 end-free b [] stops apart = grind arith
 end-free b (c ∷ cs) stops apart =
     free-before b c cs (λ word. cc (word-single c cs word, (stop-byte c cs stops).0)) (λ other. apart)
-
-space-free : (b : ℕ) (bs : List ℕ) → is_free b (space ∷ bs) ≡ true
-space-free b bs = grind arith
 
 passing-ends : (bs : List ℕ) → passing is_run_byte (drop (passing is_run_byte bs) bs) ≡ 0
 passing-ends [] = refl
@@ -156,8 +129,7 @@ module _ (bytes : List ℕ) (from end : ℕ) (single : end ≡ from + passing is
   pub column-plain : (from < end → is_word_byte (get_or bytes (end - 1) 0) ≡ true → is_quote (get_or bytes end 0) ≡ false)
       → end + run_size 0 (drop end bytes) ≡ from + run_size 0 (drop from bytes)
   column-plain apart =
-      column-to end (omega arith) (omega arith)
-      (search (rules, end-free, column-ends, get-front))
+      column-to end (omega arith) (omega arith) (search (rules, end-free, column-ends, get-front))
 
   -- a word at `start` that a quoted text follows, and the byte before it
   pub column-word : (start : ℕ) → from ≤ start → start < end → end ≤ length bytes
@@ -168,16 +140,10 @@ module _ (bytes : List ℕ) (from end : ℕ) (single : end ≡ from + passing is
       → start ≡ from + run_size 0 (drop from bytes))
   column-word start low high inside word before =
       let none = word-first (get_or bytes start 0) (drop (start + 1) bytes) word before in
-      let at : drop start bytes ≡ get_or bytes start 0 ∷ drop (start + 1) bytes = drop_more bytes start 0 (omega arith) in (
-        λ some is.
-            let blank : drop (start - 1) bytes ≡ space ∷ drop start bytes
-            = grind (arith, drop_more bytes (start - 1) 0 (omega arith)) in
-            grind (
-              arith,
-              none,
-              column-to (start - 1) (omega arith) (omega arith)
-                  (λ more. rw blank (space-free (get_or bytes (start - 1 - 1) 0) (drop start bytes))),
-            ),
+      let at = drop_more bytes start 0 (omega arith) in (
+        λ some is. (
+            let blank : drop (start - 1) bytes ≡ space ∷ drop start bytes = grind (arith, drop_more bytes (start - 1) 0) in
+            grind (arith, none, column-to (start - 1) (omega arith) (omega arith) (λ more. rw blank (grind arith)))),
         λ free. grind (arith, none, column-to start low (omega arith) (λ more. rw ((free more).1, (free more).0) refl)),
       )
 
@@ -191,15 +157,13 @@ no-run : (bs : List ℕ) → passing is_run_byte bs ≡ 0
     → is_quote (get_or bs (if get_or bs 0 0 == space then 1 else 0) 0) ≡ false
     → (run_size 0 bs ≡ 0) × (is_quote (get_or bs 0 0) ≡ false)
 no-run [] stops other = (refl, refl)
-no-run (b ∷ bs) stops other =
-    grind (arith, nat_tests, stop-byte b bs stops, no-item bs, no-item (b ∷ bs), quote-byte b)
+no-run (b ∷ bs) stops other = grind (arith, nat_tests, stop-byte b bs stops, no-item)
 
 -- there is none
 pub no-quote : (bytes : List ℕ) (from start : ℕ) → passing is_run_byte (drop from bytes) ≡ 0
     → start ≡ from + (if get_or bytes from 0 == space then 1 else 0) → is_quote (get_or bytes start 0) ≡ false
     → (run_size 0 (drop from bytes) ≡ 0) × (is_quote (get_or bytes from 0) ≡ false)
-no-quote bytes from start stops at other =
-    search (rules, get-front, no-run, nat_tests, get_or-drop)
+no-quote bytes from start stops at other = search (rules, no-run, nat_tests, get_or-drop)
 
 -- there is one, up to `end`
 pub quote-over : (bytes : List ℕ) (from start end : ℕ) → start ≡ from + (if get_or bytes from 0 == space then 1 else 0)

@@ -21,11 +21,9 @@ pub takes : (r : Inside) (text : List Cell) (n end : ℕ)
     → rest_of r.source.now.lines r.bytes.now r.line r.column r.is_done ≡ text → IsSome (byte_at 0 text)
     → end ≡ r.column + n → end ≤ length r.bytes.now → Takes r text n end
 takes r text n end is some ends fits =
-    let at = at-byte r text is some in
-    let inside : r.column + n ≤ length r.bytes.now = omega arith in
-    let ahead = rest_of-further r.source.now.lines r.bytes.now r.line r.column n r.is_done inside in
-    let bytes = run-bytes r.source.now.lines r.bytes.now r.line r.column n inside in
-    grind (arith, at, ahead, bytes)
+    let ahead = rest_of-further r.source.now.lines r.bytes.now r.line r.column n r.is_done (omega arith) in
+    let bytes = run-bytes r.source.now.lines r.bytes.now r.line r.column n (omega arith) in
+    grind (arith, at-byte r text is some, ahead, bytes)
 
 -- a reader goes over the run at its position
 

@@ -4,9 +4,8 @@ use Rattle.std.proofs.lemmas.Bool.Decides.{nat_tests}
 use Rattle.std.proofs.Common.{◌≡◌, ℕ, ◌+◌, ◌<◌, ◌≤◌, Bool, true, false, List, [], ◌∷◌, ◌++◌, ◌||◌, not}
 use Rattle.std.proofs.Common.{Some, IsSome, cond}
 use Rattle.std.specs.List.{prefix_len}
-use Rattle.std.proofs.lemmas.Bool.{and_parts}
 use Rattle.std.proofs.lemmas.List.{at_drop_more}
-use Rattle.std.proofs.Common.{length, drop, get_or, refl, ap, ◌∙◌, arith}
+use Rattle.std.proofs.Common.{length, drop, get_or, refl, ◌∙◌, arith}
 use Rattle.tangle_lines.specs.Reading.{SourceLine}
 use Rattle.tangle_text.specs.declared.regions.Region.TheVariants as region
 use Rattle.tangle_text.specs.declared.regions.Unit.{Unit as Unit-of}
@@ -36,9 +35,7 @@ counted-number line column (b ∷ c ∷ bs) rest =
     counted-by (is_word_byte b) (is_separator (Some b) (Some c))
     (λ k. counted region.Number k (line_text line (column + 1) (c ∷ bs) ++ rest)) _
     (counted-number line (column + 1) (c ∷ bs) rest)
-    (λ s.
-    let word : is_word_byte c ≡ true = (and_parts _ _ s).1 in
-    ap (λ n. 1 + n) (counted-number line (column + 1 + 1) bs rest) ∙ rw word refl)
+    (λ s. grind (arith, nat_tests, counted-number line (column + 1 + 1) bs rest))
 
 word_more-line : (line column b : ℕ) (bs : List ℕ) (rest : List Cell)
     → word_more (line_text line column (b ∷ bs) ++ rest) ≡ word_size b bs

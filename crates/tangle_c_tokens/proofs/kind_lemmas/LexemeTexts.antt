@@ -2,7 +2,7 @@
 use Rattle.std.proofs.Common.{rules}
 use Rattle.std.proofs.Common.{arith}
 use Rattle.std.proofs.Common.{◌≡◌, ℕ, zero, suc, ◌+◌, Bool, true, false, List, [], ◌∷◌, ◌++◌, Option, Some, None}
-use Rattle.std.proofs.Common.{refl, sym, subst, append-nil, map, flat_map}
+use Rattle.std.proofs.Common.{refl, append-nil, map, flat_map}
 use Rattle.std.proofs.lemmas.Bool.{cond_both}
 use Rattle.tangle_faults.specs.declared.faults.FaultKind.{FaultKind}
 use Rattle.tangle_faults.specs.declared.faults.FaultKind.TheVariants as fault
@@ -56,8 +56,7 @@ no-append : (xs ys : List Token) → HasNoSource xs → HasNoSource ys → HasNo
 no-append xs ys h k = seen (xs ++ ys) (none-append is_source xs ys h.none k.none)
 
 no-fault : (b : Bool) (kind : FaultKind) (line : ℕ) → HasNoSource (fault_if b kind line)
-no-fault true kind line = seen _ refl
-no-fault false kind line = seen _ refl
+no-fault b kind line = search rules
 
 no-line_ends : (r : Region) (text : List Cell) → HasNoSource (line_ends r text)
 no-line_ends r text = grind (arith, nat_tests, none-flat)
@@ -69,6 +68,8 @@ no-inner b (t ∷ ts) h = grind (arith, nat_tests, no-inner b ts)
 no-white : (b : Bool) (ends faults : List Token) → HasNoSource ends → HasNoSource faults
     → HasNoSource (token.White ∷ map (inner_end_in b) ends ++ faults)
 no-white b ends faults h k = grind (arith, nat_tests, none-append, no-inner)
+
+ruleset no_source = (seen, no-white, no-line_ends, no-fault)
 
 -- verbatim texts have no breaks
 
@@ -90,8 +91,7 @@ no-name : (s : LexerState) (text : List Cell) → HasNoSource (name_in_documenta
 no-name s text = by (definition_count text)
   where
     by : (count : Option ℕ) → HasNoSource (definition_or_mention count s text).tokens
-    by None = search (rules, no-append, no-fault)
-    by (Some count) = seen _ refl
+    by count = search (rules, no-append, no-fault, seen)
 
 -- what the first byte of a lexeme of this kind is
 abbrev Shows : LexemeKind → Option ℕ → Type 0
@@ -140,8 +140,7 @@ module _ (texts : List (List ℕ)) (clear : AreClear texts) where
   code-whole code.DoubleAt s at c cs is sign = grind (arith, nat_tests, sign-whole at c cs is c.byte)
   code-whole code.Verbatim s at c cs is sign = others-whole _ (search (rules, no-append, no-cut, seen))
   code-whole code.Name s at c cs is sign = others-whole _ (search (rules, no-append, no-fault))
-  code-whole code s at c cs is sign =
-      others-whole _ (search (rules, seen, no-white, no-line_ends, no-fault))
+  code-whole code s at c cs is sign = others-whole _ (search (rules, no_source))
 
   kind-whole : (kind : LexemeKind) (s : LexerState) (at : Point) (c : Cell) (cs : List Cell)
       → IsTextAt texts at (c ∷ cs)
@@ -153,18 +152,7 @@ module _ (texts : List (List ℕ)) (clear : AreClear texts) where
       let string = string-text texts clear s at c cs is in
       let character = character-text texts clear s at c cs is in
       let header = header-text texts clear s at c cs is in
-      search (
-        rules,
-        quoted-whole,
-        string,
-        character,
-        header,
-        others-whole,
-        seen,
-        no-white,
-        no-line_ends,
-        no-fault,
-      )
+      search (rules, no_source, quoted-whole, string, character, header, others-whole)
 
   documentation-whole : (kind : ControlCode) (s : LexerState) (text : List Cell)
       → AreWhole (documentation_code kind s text).tokens
@@ -186,16 +174,13 @@ module _ (texts : List (List ℕ)) (clear : AreClear texts) where
       shows : Shows (kind_at s.line.include (c ∷ cs)) c.byte
       shows = kind-shows s.line.include c.byte (byte_at 0 cs)
 
-      P : Lexeme → Type 0
-      P here = AreWhole here.tokens
-
       by : (m : Mode) → AreWhole (lexeme_in m s (c ∷ cs)).tokens
       by mode.Limbo =
-          cond_both (starts_section (c ∷ cs)) _ _ P (λ e. others-whole _ (seen _ refl))
-          (λ e. cond_both (holds at_sign c.byte) _ _ P (λ e. others-whole _ (no-fault _ fault.LimboCode c.line))
-          (λ e. others-whole _ (seen _ refl)))
+          cond_both (starts_section (c ∷ cs)) _ _ (λ (x : Lexeme). AreWhole x.tokens)
+          (λ e. others-whole _ (seen _ refl)) (λ e. cond_both (holds at_sign c.byte) _ _ (λ (x : Lexeme). AreWhole x.tokens)
+          (λ e. others-whole _ (no-fault _ fault.LimboCode c.line)) (λ e. others-whole _ (seen _ refl)))
       by mode.Documentation =
-          cond_both (holds at_sign c.byte) _ _ P
+          cond_both (holds at_sign c.byte) _ _ (λ (x : Lexeme). AreWhole x.tokens)
           (λ e. documentation-whole (code_at (byte_at 0 cs)) s (c ∷ cs)) (λ e. others-whole _ (seen _ refl))
       by mode.CPart = kind-whole (kind_at s.line.include (c ∷ cs)) s at c cs is shows
       by mode.Macro = macro-whole (kind_at s.line.include (c ∷ cs)) s at c cs is shows

@@ -81,13 +81,8 @@ module _ (P : ℕ → List ℕ → Type 0) where
   changes-have file phase n [] h all = search rules
   changes-have file phase n (l ∷ ls) h all =
       let next = phase-has file phase n l (line_kind_of l) h all.0 in
-      search (
-        rules,
-        all-append,
-        next,
-        changes-have file
-            (next_phase file phase n l (line_kind_of l)).0 (n + 1) ls,
-      )
+      let later = changes-have file (next_phase file phase n l (line_kind_of l)).0 (n + 1) ls in
+      search (rules, all-append, next, later)
 
   -- reading
 

@@ -1,7 +1,7 @@
 -- The bytes of spans are those of the cells of a text, of which none is a line feed.
 use Rattle.std.proofs.Common.{rules, ◌≡◌, ℕ, zero, suc, ◌+◌, ◌-◌, ◌<◌, ◌≤◌, true, false, List, []}
 use Rattle.std.proofs.Common.{◌∷◌, ◌++◌}
-use Rattle.std.proofs.Common.{Option, Some, None, get_or, take, drop, drop-cons, get_or-drop, take-suc, refl, ap, sym, ◌∙◌, arith}
+use Rattle.std.proofs.Common.{Option, Some, None, get_or, take, drop, drop-cons, get_or-drop, take-suc, refl, ap, sym, arith}
 use Rattle.std.proofs.Common.{subst}
 use Rattle.std.proofs.Common.{length, length-drop}
 use Rattle.std.proofs.lemmas.List.{length-take-le}
@@ -66,15 +66,8 @@ module _ (texts : List (List ℕ)) (clear : AreClear texts) where
       let bytes : drop c.column (get_or texts c.line [])
       ≡ b ∷ drop (c.column + 1) (get_or texts c.line []) =
       grind (arith, nat_tests, drop-cons (get_or texts c.line []) c.column 0) in
-      search (
-        rules,
-        next,
-        within,
-        bytes,
-        first,
-        clear c.line c.column,
-        no-feed (point_at c.line (c.column + 1)) cs next,
-      )
+      let no_feed = no-feed (point_at c.line (c.column + 1)) cs next in
+      search (rules, next, within, bytes, first, clear c.line c.column, no_feed)
 
   pub span-bytes : (n : ℕ) (at : Point) (text : List Cell) → IsTextAt texts at text → HoldsBytes n text
       → take n (drop at.column (get_or texts at.line [])) ≡ take n (line_bytes text)
@@ -100,10 +93,5 @@ module _ (texts : List (List ℕ)) (clear : AreClear texts) where
       let n = c.column - start in
       let size : c.column + 1 - start ≡ suc n = omega arith in
       let at : start + n ≡ c.column = omega arith in
-      grind (
-        arith,
-        length-drop start line,
-        take-suc (drop start line) n 0,
-        get_or-drop start line n 0,
-        is,
-      )
+      let more = take-suc (drop start line) n 0 in
+      grind (arith, length-drop start line, more, get_or-drop start line n 0, is)

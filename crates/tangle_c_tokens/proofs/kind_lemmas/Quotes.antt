@@ -18,7 +18,6 @@ use Rattle.tangle_lexer.proofs.laws.CutTexts.{double_quote-cut, apostrophe-cut}
 use Rattle.tangle_scan.specs.Rules.{without_faults}
 use Rattle.c_tokens.specs.Grammar.{ends_quoted}
 use Rattle.c_tokens.specs.Reading.{spliced}
-use Rattle.tangle_c_tokens.specs.Groups.{group_text}
 use Rattle.tangle_c_tokens.specs.Edges.{last_byte_passes}
 use Rattle.tangle_c_tokens.specs.Kinds.{ends_header_name, is_header_name, IsQuoted}
 use Rattle.tangle_c_tokens.specs.Kinds.{IsQuotedText}
@@ -62,13 +61,8 @@ module _ (texts : List (List ℕ)) (clear : AreClear texts) (s : LexerState) (at
       → bytes ≡ first_byte ∷ q → IsQuoted bytes) → c.byte ≡ Some first_byte → IsText r close
   text-of r close first_byte region Closes units feed back other quoted x =
       let whole = text-whole texts clear r close s.last_line region Closes units at c cs first_byte x is in
-      search (
-        rules,
-        whole,
-        quoted,
-        text-lines texts clear r close s.last_line region feed at c cs
-            first_byte x is,
-      )
+      let lines = text-lines texts clear r close s.last_line region feed at c cs first_byte x is in
+      search (rules, whole, quoted, lines)
 
   pub string-text : c.byte ≡ Some double_quote → IsText region.DoubleQuote double_quote
   string-text =

@@ -58,8 +58,7 @@ module _ (texts : List (List ℕ)) where
   -- the tokens before the next head
   pub body-texts : (ts : List Token) → AreTexts texts ts → AreTexts texts (body ts)
   body-texts = edited-texts body (texts-none texts) (search rules)
-      (λ t ts alone kind made. grind
-      (arith, nat_tests, texts-none texts, texts-alone texts t (body ts) alone kind made))
+      (λ t ts alone kind made. search (rules, texts-none, texts-alone texts t (body ts) alone kind made))
 
   inner-texts : (ts : List Token) → AreTexts texts ts → AreTexts texts (map white_inner_end ts)
   inner-texts = edited-texts (map white_inner_end) (texts-none texts) (search rules)
@@ -118,15 +117,14 @@ module _ (texts : List (List ℕ)) where
   front_gaps-texts : (ts : List Token) → AreTexts texts ts → AreTexts texts (without_front_gaps ts)
   front_gaps-texts =
       texts-by texts (λ ts. AreTexts texts (without_front_gaps ts)) (texts-none texts)
-      (λ t ts alone kind all made.
-      grind (arith, nat_tests, texts-alone texts t ts alone kind all))
+      (λ t ts alone kind all made. grind (arith, nat_tests, texts-alone texts t ts alone kind all))
       (λ t part ts quoted all made. grind (arith, nat_tests, texts-part texts (t ∷ part) ts quoted all))
 
   name_space-texts : (ts : List Token) → AreTexts texts ts → name_is_range ts ≡ false
       → AreTexts texts (with_name_space texts ts)
   name_space-texts =
       texts-by texts (λ ts. name_is_range ts ≡ false → AreTexts texts (with_name_space texts ts))
-      (λ h. texts-none texts) (λ t ts alone kind all made h. one t ts alone kind all made h)
+      (λ h. texts-none texts) one
       (λ t part ts quoted all made h. grind (arith, nat_tests))
     where
       name : (t : Token) (ts : List Token) → is_range t ≡ false → HasItsKind texts t → AreTexts texts ts
@@ -140,10 +138,8 @@ module _ (texts : List (List ℕ)) where
       one : (t : Token) (ts : List Token) → is_range t ≡ false → HasItsKind texts t → AreTexts texts ts
           → (name_is_range ts ≡ false → AreTexts texts (with_name_space texts ts)) → name_is_range (t ∷ ts) ≡ false
           → AreTexts texts (with_name_space texts (t ∷ ts))
-      one token.White ts alone kind all made h = texts-alone texts token.White _ alone kind (made h)
-      one (token.LineEnd line) ts alone kind all made h = texts-alone texts (token.LineEnd line) _ alone kind (made h)
-      one token.Join ts alone kind all made h = texts-alone texts token.Join _ alone kind (made h)
-      one t ts alone kind all made h = name t ts alone kind all
+      one token.White ts alone kind all made h = search (rules, texts-alone)
+      one t ts alone kind all made h = search (rules, texts-alone, name)
 
   -- the tokens of a macro before its name is looked for
   abbrev pub front_tokens : List Token → List Token

@@ -130,8 +130,8 @@ module _ (lines : List SourceLine) where
       (filter (is_piece_of table node) pieces)) none
       (λ b occurrence line pieces tokens are p.
       let row = node_row texts table node pieces tokens in
-      let own = more b occurrence line row (filter (is_piece_of table node) pieces) are p in grind
-      (arith, own, p))
+      let own = more b occurrence line row (filter (is_piece_of table node) pieces) are p in
+      grind (arith, own, p))
       (blocks 0 (all_tokens lines)) (blocks-have clear)
 
   pub pieces_texts : SourceLinesHaveNoLineFeed lines → AllByRecursion (AreTexts texts) (all_piece_tokens lines)

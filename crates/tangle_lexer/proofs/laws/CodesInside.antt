@@ -10,17 +10,12 @@ use Rattle.tangle_text.specs.declared.regions.Unit.TheVariants as unit
 use Rattle.tangle_text.specs.Bytes.{holds}
 use Rattle.tangle_text.specs.Text.{Cell, byte_at}
 use Rattle.tangle_text.specs.Regions.{unit_at, unit_of, count_before}
-use Rattle.tangle_lexer.specs.Comments.{has_end_code, ends_comment, two_if}
-use Rattle.tangle_lexer.specs.Segments.{control_codes, HasNoSection, IsEndCode}
+use Rattle.tangle_lexer.specs.Comments.{two_if}
+use Rattle.tangle_lexer.specs.Segments.{control_codes}
 use Rattle.tangle_lexer.proofs.laws.RegionUnits.{units-by}
 
 abbrev AllCodes : (List Cell → Type 0) → List Cell → Type 0
 AllCodes P cells = AllByRecursion P (control_codes cells)
-
--- a cell that is not @ begins no control code
-codes-pass : (P : List Cell → Type 0) (c : Cell) (cs : List Cell)
-    → holds at_sign c.byte ≡ false → AllCodes P cs → AllCodes P (c ∷ cs)
-codes-pass x c y plain rest = grind arith
 
 -- an @ begins a control code, with the cell after it
 code-passes : (P : List Cell → Type 0) (c d : Cell) (cs : List Cell)
@@ -51,17 +46,8 @@ codes-region r P ends one code stop text =
     rw (opened (count_before r (drop 2 text)) (two_if (ends (drop (count_before r (drop 2 text)) (drop 2 text)))) text)
     (units-by r (λ n text. AllCodes P (take n text ++ end (drop n text)))
     (λ text e. stop (ends text) text refl) (stop (ends []) [] refl)
-    (λ n c cs e rest. codes-pass P c (take n cs ++ end (drop n cs)) (one c.byte (byte_at 0 cs) e) rest)
+    (λ n c cs e rest. grind (arith, one c.byte (byte_at 0 cs) e))
     (λ n c d cs e rest.
     let others : List Cell = take n cs ++ end (drop n cs) in
     let h = code (c ∷ d ∷ others) e in code-passes P c d others h.0 h.1 rest)
     (λ c e. let h = code (c ∷ []) e in rw (take-nil (two_if (ends [])), h.0) (h.1, tt)) (drop 2 text))
-
--- @> at the end of a control text or a name
-pub end-shows : (P : List Cell → Type 0) → ((cells : List Cell) → IsEndCode cells → P cells)
-    → (b : Bool) (cells : List Cell) → has_end_code cells ≡ b → AllCodes P (take (two_if b) cells)
-end-shows P into x cells e = grind arith
-
--- */ at the end of a comment
-pub comment-end : (b : Bool) (cells : List Cell) → ends_comment cells ≡ b → HasNoSection (take (two_if b) cells)
-comment-end x cells e = grind arith

@@ -9,15 +9,15 @@ use Rattle.tangle_lines.specs.Bytes.{at_sign}
 use Rattle.tangle_text.specs.declared.regions.Region.TheVariants as region
 use Rattle.tangle_text.specs.Bytes.{backslash, apostrophe, holds, is_octal}
 use Rattle.tangle_text.specs.Text.{Cell, byte_at}
-use Rattle.tangle_text.specs.Regions.{count_before}
 use Rattle.tangle_text.proofs.AheadLemmas.{byte_at-drop}
 use Rattle.tangle_lexer.specs.declared.modes.LexerState.{LexerState}
 use Rattle.tangle_lexer.specs.declared.constants.AsciiConstant.{AsciiConstant}
 use Rattle.tangle_lexer.specs.Constants.{escape_value, escaped_constant, constant_by}
-use Rattle.tangle_lexer.specs.Constants.{constant_at, bad_constant, constant_lexeme, ascii_constant}
+use Rattle.tangle_lexer.specs.Constants.{constant_at, constant_lexeme, ascii_constant}
 use Rattle.tangle_lexer.specs.Quoted.{one_if}
 use Rattle.tangle_lexer.proofs.laws.Points.{Point, IsByte, HoldsBytes, IsTextAt}
 use Rattle.tangle_lexer.proofs.laws.RegionOrder.{more-bytes, lexeme-line}
+use Rattle.tangle_lexer.proofs.laws.TokenOrder.{text-later}
 use Rattle.tangle_lexer.proofs.laws.RegionUnits.{units-by}
 use Rattle.tangle_lexer.proofs.laws.WhiteOrder.{bad_constant-bytes, LexemeIsInOrder}
 
@@ -30,9 +30,6 @@ abbrev IsClosed : List Cell → Option AsciiConstant → Type 0
 IsClosed text None = Unit {0}
 IsClosed text (Some k) = HoldsBytes (k.count + 1) text × ((j : ℕ) → j < k.count → IsEscaped j text)
 
-next-byte : (n : ℕ) (text : List Cell) → HoldsBytes n text → IsByte (byte_at n text) → HoldsBytes (n + 1) text
-next-byte n text h byte = grind (arith, nat_tests, more-bytes, byte_at-drop)
-
 escaped-closed : (text : List Cell) → holds backslash (byte_at 0 text) ≡ true → IsClosed text (escaped_constant text)
 escaped-closed text h =
     cond_both (is_octal (byte_at 1 text)) _ _ (IsClosed text) (grind arith) (search rules)
@@ -43,16 +40,13 @@ escaped-closed text h =
 constant-closed : (b : Option ℕ) (text : List Cell) → byte_at 0 text ≡ b → IsClosed text (constant_by b text)
 constant-closed None text e = tt
 constant-closed (Some b) text e =
-    cond_both (b == at_sign) _ _ (IsClosed text) (λ i. (grind (arith, nat_tests, next-byte)))
+    cond_both (b == at_sign) _ _ (IsClosed text) (λ i. (grind (arith, nat_tests, more-bytes, byte_at-drop)))
     (λ i. cond_both (b == backslash) _ _ (IsClosed text) (λ j. escaped-closed text (ap (holds backslash) e ∙ j))
     (search rules))
 
 -- a bad constant has no apostrophe before its last byte
 abbrev HasNoQuote : ℕ → List Cell → Type 0
 HasNoQuote n text = (j : ℕ) → j < n → holds apostrophe (byte_at j text) ≡ true → ⊥
-
-bad-quotes : (text : List Cell) → HasNoQuote (count_before region.BadConstant text) text
-bad-quotes = grind (arith, nat_tests, units-by region.BadConstant HasNoQuote)
 
 one_if-few : (b : Bool) → one_if b ≤ 1
 one_if-few b = grind arith
@@ -67,7 +61,7 @@ ascii_constant-quotes s text k first last quote =
     by : (c : Option AsciiConstant) → IsClosed (drop 2 text) c → k + 1 < 1 + (constant_lexeme c s text).more
         → holds apostrophe (byte_at (k - 2) (drop 2 text)) ≡ true
         → (k ≡ 3) × (holds backslash (byte_at 2 text) ≡ true)
-    by None h last here = search (rules, one_if-few, bad-quotes)
+    by None h last here = search (rules, one_if-few, nat_tests, units-by region.BadConstant HasNoQuote)
     by (Some c) h last here = search rules
 
 pub ascii_constant-bytes : (s : LexerState) (text : List Cell)
@@ -82,10 +76,6 @@ ascii_constant-bytes s text h =
 module _ (texts : List (List ℕ)) where
   pub ascii_constant-in_order : (s : LexerState) (at : Point) (c : Cell) (cs : List Cell)
       → IsTextAt texts at (c ∷ cs) → HoldsBytes 2 (c ∷ cs)
-      → LexemeIsInOrder texts at.line cs (ascii_constant s (c ∷ cs))
-  ascii_constant-in_order s at c cs is h = by (constant_at (drop 1 cs)) (ascii_constant-bytes s (c ∷ cs) h)
-    where
-      by : (k : Option AsciiConstant) → HoldsBytes (1 + (constant_lexeme k s (c ∷ cs)).more) (c ∷ cs)
-          → LexemeIsInOrder texts at.line cs (constant_lexeme k s (c ∷ cs))
-      by None bytes = (tt, (tt, lexeme-line texts at (bad_constant s (c ∷ cs)).more c cs is bytes))
-      by (Some k) bytes = ((is.0.line, is.0.real), lexeme-line texts at (2 + k.count) c cs is bytes)
+      → LexemeIsInOrder texts at.line c cs (ascii_constant s (c ∷ cs))
+  ascii_constant-in_order s at c cs is h p reached =
+      grind (arith, ascii_constant-bytes s (c ∷ cs) h, lexeme-line texts, text-later texts)

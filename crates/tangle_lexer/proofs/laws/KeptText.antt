@@ -19,7 +19,7 @@ use Rattle.tangle_lexer.specs.Segments.{kept_points, byte_points, text_segments}
 use Rattle.tangle_lexer.proofs.laws.Points.{Point, point_at, IsByte, IsTextAt, text-next, text-column}
 use Rattle.tangle_lexer.proofs.laws.CutTexts.{IsCut, verbatim-cut, cut-by}
 use Rattle.tangle_lexer.proofs.laws.SegmentPoints.{columns_to, columns-next, columns-nothing, token_points}
-use Rattle.tangle_lexer.proofs.laws.SegmentPoints.{cut-points, points-append}
+use Rattle.tangle_lexer.proofs.laws.SegmentPoints.{points-append}
 
 -- the points of the bytes that are kept of such a text
 abbrev pub text_points : Bool → List Cell → List (ℕ × ℕ)
@@ -54,9 +54,9 @@ module _ (texts : List (List ℕ)) where
     cut-keeps =
         cut-by texts r cut ends Keeps stop
         (λ at start c cs ts n h is byte alone kept. grind (arith, nat_tests, after-range c.line start c.column (kept_of n cs)))
-        (λ at start c d cs ts n h is cell byte second sign same kept. grind (arith, nat_tests, cut-points, columns-nothing, after-range c.line start c.column (kept_of n cs)))
+        (λ at start c d cs ts n h is cell byte second sign same kept. grind (arith, nat_tests, columns-nothing, after-range c.line start c.column (kept_of n cs)))
         (λ at start c d cs ts n h is cell byte second other same kept. grind (arith, nat_tests, after-range))
-        (λ at start c d cs ts n h is cell byte none other kept. grind (arith, nat_tests, cut-points, after-range))
+        (λ at start c d cs ts n h is cell byte none other kept. grind (arith, nat_tests, after-range))
 
   -- quoted texts
 

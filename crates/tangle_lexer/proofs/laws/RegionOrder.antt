@@ -1,5 +1,4 @@
 -- Cells that are bytes, and the order of the line ends in a region. `texts` are the bytes of the source lines.
-use Rattle.std.proofs.Common.{rules}
 use Rattle.std.proofs.lemmas.Bool.Decides.{nat_tests}
 use Rattle.std.proofs.Common.{◌≡◌, ℕ, zero, suc, ◌+◌, Bool, true, false, List, [], ◌∷◌, drop, Option, None}
 use Rattle.std.proofs.Common.{◌++◌, arith, zero-add, ◌==◌}
@@ -18,7 +17,7 @@ use Rattle.tangle_lexer.specs.declared.tokens.Token.{Token}
 use Rattle.tangle_lexer.specs.Comments.{line_ends, two_if}
 use Rattle.tangle_lexer.proofs.laws.Points.{Point, IsByte, HoldsBytes, after_by, after-byte}
 use Rattle.tangle_lexer.proofs.laws.Points.{after_cell, IsTextAt, text-after}
-use Rattle.tangle_lexer.proofs.laws.TokenOrder.{IsAtLine, AreInOrder, AreBefore}
+use Rattle.tangle_lexer.proofs.laws.TokenOrder.{IsAtLine, AreInOrder}
 use Rattle.tangle_lexer.proofs.laws.RegionUnits.{units-by}
 
 -- cells that are bytes
@@ -74,20 +73,25 @@ module _ (texts : List (List ℕ)) where
   end-line x at text line is h here = grind arith
 
   -- a cell that is a line end leads to the next line
-  cell-in_order : (P : ℕ → Type 0) (at : Point) (c : Cell) (b : Option ℕ) (ts : List Token) → c.line ≡ at.line
-      → AreInOrder texts P (after_by b c).line ts → AreInOrder texts P at.line (line_end_by b c.line ++ ts)
-  cell-in_order P at c x ts line h = grind arith
+  cell-in_order : (P : ℕ → Point → Type 0) (at p : Point) (c : Cell) (b : Option ℕ) (ts : List Token)
+      → c.line ≡ at.line → AreInOrder texts P (after_by b c).line p ts
+      → AreInOrder texts P at.line p (line_end_by b c.line ++ ts)
+  cell-in_order P at p c x ts line h = grind arith
 
   -- The line ends of a region are in order, if none is the second cell of a unit.
   pub line_ends-in_order : (r : Region) → ((b n : Option ℕ) → unit_of r b n ≡ unit.Two → IsByte n)
-      → (text : List Cell) (at : Point) → IsTextAt texts at text
-      → AreBefore texts (drop (count_before r text) text) at.line (line_ends r text)
-  line_ends-in_order r stays =
-      units-by r Ordered (λ text e at is. rw (line_ends-stop r text e) (grind arith)) (λ at is. tt) (search rules)
-      (λ n c d cs e next at is. grind (arith, nat_tests, line_ends-go r 0 (c ∷ d ∷ cs) unit.Two, cell-in_order, after-byte d (stays c.byte d.byte e), next (after_cell d)))
+      → (p : Point) (R : Point → Type 0) → R p → (text : List Cell) (at : Point) → IsTextAt texts at text
+      → AreInOrder texts (λ l q. IsAtLine l (drop (count_before r text) text) × R q) at.line p (line_ends r text)
+  line_ends-in_order r stays p R reached =
+      units-by r Ordered (λ text e at is. rw (line_ends-stop r text e) (grind arith)) (λ at is. (tt, reached))
+      (λ n c cs e next at is. rw (line_ends-go r 0 (c ∷ cs) unit.One (omega arith) e (λ q. cc))
+      (cell-in_order _ at p c c.byte _ is.0.line (next (after_cell c) is.1)))
+      (λ n c d cs e next at is. rw (line_ends-go r 0 (c ∷ d ∷ cs) unit.Two (omega arith) e (λ q. cc))
+      (cell-in_order _ at p c c.byte _ is.0.line (rw (← is.1.0.line)
+      (rw (after-byte d (stays c.byte d.byte e)) at (next (after_cell d) is.1.1)))))
       (λ c e. absurd (stays c.byte None e))
     where
       Ordered : ℕ → List Cell → Type 0
       Ordered n text =
           (at : Point) → IsTextAt texts at text
-          → AreBefore texts (drop n text) at.line (line_ends r text)
+          → AreInOrder texts (λ l q. IsAtLine l (drop n text) × R q) at.line p (line_ends r text)

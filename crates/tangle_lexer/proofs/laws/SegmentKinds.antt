@@ -3,7 +3,7 @@ use Rattle.tangle_lexer.proofs.lemmas.OccurrencesCounted.{all-append}
 use Rattle.std.proofs.Common.{rules}
 use Rattle.std.proofs.lemmas.Bool.Decides.{nat_tests}
 use Rattle.std.proofs.Common.{◌≡◌, ◌<◌, ◌≤◌, ℕ, zero, suc, ◌+◌, Bool, true, false, not, ◌&&◌, List, [], ◌∷◌, ◌++◌}
-use Rattle.std.proofs.Common.{take, drop, flat_map, Option, None, inl, inr, refl, ap, sym, ◌∙◌, arith, append-nil}
+use Rattle.std.proofs.Common.{take, drop, flat_map, inl, inr, refl, ap, sym, ◌∙◌, arith, append-nil}
 use Rattle.std.proofs.Common.{if◌then◌else◌, subst}
 use Rattle.std.proofs.lemmas.Grind.{flat_map-append}
 use Rattle.std.proofs.lemmas.List.{drop-drop, length-take}
@@ -13,11 +13,10 @@ use Rattle.tangle_lexer.specs.declared.modes.LexerState.{LexerState}
 use Rattle.tangle_lexer.specs.declared.lexeme_kinds.ControlCode.{ControlCode}
 use Rattle.tangle_lexer.specs.declared.lexeme_kinds.ControlCode.TheVariants as code
 use Rattle.tangle_text.specs.declared.regions.Region.TheVariants as region
-use Rattle.tangle_text.specs.declared.regions.Unit.TheVariants as unit
 use Rattle.tangle_text.specs.Bytes.{asterisk, slash}
 use Rattle.tangle_text.specs.Bytes.{holds, are_bytes}
 use Rattle.tangle_text.specs.Text.{Cell, byte_at}
-use Rattle.tangle_text.specs.Regions.{count_before, unit_of}
+use Rattle.tangle_text.specs.Regions.{count_before}
 use Rattle.tangle_lexer.specs.Comments.{has_end_code, two_if, ends_comment, block_comment, line_comment, control_text}
 use Rattle.tangle_lexer.specs.Constants.{ascii_constant}
 use Rattle.tangle_lexer.specs.Names.{name_more}
@@ -31,7 +30,7 @@ use Rattle.tangle_lexer.proofs.laws.RegionOrder.{are_bytes-hold, more-bytes, reg
 use Rattle.tangle_lexer.proofs.laws.RegionUnits.{units-by}
 use Rattle.tangle_lexer.proofs.laws.KeptText.{text_points}
 use Rattle.tangle_lexer.specs.Segments.{SegmentKind, kept_points, points_by}
-use Rattle.tangle_lexer.proofs.laws.CodesInside.{taken, codes-region, end-shows, comment-end}
+use Rattle.tangle_lexer.proofs.laws.CodesInside.{taken, codes-region}
 use Rattle.tangle_lexer.specs.Comments.{starts_section}
 use Rattle.tangle_lexer.proofs.laws.ConstantCells.{ascii_constant-bytes, ascii_constant-quotes}
 
@@ -58,8 +57,7 @@ one-segment kind cells h = record { filled = append-nil cells; shown = (h, tt); 
 byte-take : (k n : ℕ) (text : List Cell) → k < n → byte_at k (take n text) ≡ byte_at k text
 byte-take k zero text h = absurd (omega arith)
 byte-take k (suc n) [] h = refl
-byte-take zero (suc n) (c ∷ cs) h = refl
-byte-take (suc k) (suc n) (c ∷ cs) h = byte-take k n cs (omega arith)
+byte-take k (suc n) (c ∷ cs) h = grind (arith, λ (j : ℕ). byte-take j n cs)
 
 opens-taken : (kind : ControlCode) (n : ℕ) (text : List Cell)
     → 1 < n → OpensWith kind text → OpensWith kind (take n text)
@@ -74,14 +72,6 @@ bytes-shows (suc n) (c ∷ cs) h = grind (arith, nat_tests, bytes-shows n cs h.1
 
 -- comments
 
-comment-goes : (b n : Option ℕ)
-    → (unit_of region.BlockComment b n ≡ unit.Stop → ⊥) → are_bytes asterisk slash b n ≡ false
-comment-goes b n go = grind arith
-
--- the second byte of a control code in a comment is not the * of the */ that ends the comment
-comment-second : (b n : Option ℕ) → unit_of region.BlockComment b n ≡ unit.Two → holds asterisk n ≡ false
-comment-second b n e = grind arith
-
 -- no */ begins at the first `n` cells
 abbrev IsOpen : ℕ → List Cell → Type 0
 IsOpen n text = (k : ℕ) → k < n → ends_comment (drop k text) ≡ false
@@ -94,10 +84,9 @@ cell-open n c cs here next x h = grind arith
 comment-open : (text : List Cell) → IsOpen (count_before region.BlockComment text) text
 comment-open =
     units-by region.BlockComment IsOpen (λ text e k h. absurd (omega arith)) (λ k h. absurd (omega arith))
-    (λ n c cs e. cell-open n c cs (comment-goes c.byte (byte_at 0 cs) (λ q. cc)))
-    (λ n c d cs e next. cell-open (suc n) c (d ∷ cs) (comment-goes c.byte d.byte (λ q. cc))
-    (cell-open n d cs (rw (comment-second c.byte d.byte e) refl) next))
-    (λ c e. cell-open 0 c [] (comment-goes c.byte None (λ q. cc)) (λ k h. absurd (omega arith)))
+    (λ n c cs e. cell-open n c cs (grind arith))
+    (λ n c d cs e next. cell-open (suc n) c (d ∷ cs) (grind arith) (cell-open n d cs (grind arith) next))
+    (λ c e. cell-open 0 c [] (grind arith) (λ k h. absurd (omega arith)))
 
 two_if-few : (b : Bool) → two_if b ≤ 2
 two_if-few b = grind arith
@@ -120,7 +109,7 @@ block_comment-shows s text o =
       rw (byte-take 0 n text (omega arith), byte-take 1 n text (omega arith)) o,
       search (rules, byte-take, cells-there, comment-open),
       codes-region region.BlockComment (λ cells. starts_section cells ≡ false) ends_comment (λ b next e. grind arith)
-          (λ cells e. (grind arith, grind arith)) comment-end text,
+          (λ cells e. (grind arith, grind arith)) (λ b cells e. grind arith) text,
     )
 
 pub line_comment-shows : (s : LexerState) (text : List Cell)
@@ -178,7 +167,7 @@ pub control_text-shows : (s : LexerState) (text : List Cell)
 control_text-shows s text o = (
   opens-taken code.ControlText _ text (omega arith) o,
   codes-region region.ControlText _ has_end_code (λ b next e. grind arith)
-      (λ cells e. (grind arith, inr (grind arith))) (end-shows _ (λ end h. inl h)) text,
+      (λ cells e. (grind arith, inr (grind arith))) (grind arith) text,
 )
 
 pub name-shows : (s : LexerState) (text : List Cell)
@@ -186,7 +175,7 @@ pub name-shows : (s : LexerState) (text : List Cell)
 name-shows s text o = (
   opens-taken code.Name _ text (omega arith) o,
   codes-region region.Name _ has_end_code (λ b next e. grind arith) (λ cells e. (grind arith, inr (grind arith)))
-      (end-shows _ (λ end h. inl h)) text,
+      (grind arith) text,
 )
 
 pub constant-shows : (s : LexerState) (c : Cell) (cs : List Cell)

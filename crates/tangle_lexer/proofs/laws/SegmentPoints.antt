@@ -4,11 +4,9 @@ use Rattle.std.proofs.Common.{◌≡◌, ℕ, zero, suc, ◌+◌, ◌-◌, ◌�
 use Rattle.std.proofs.Common.{refl, ap, arith, append_assoc}
 use Rattle.tangle_lexer.specs.declared.tokens.Token.{Token}
 use Rattle.tangle_lexer.specs.declared.tokens.Token.TheVariants as token
-use Rattle.tangle_text.specs.declared.regions.Region.{Region}
 use Rattle.tangle_text.specs.Text.{Cell}
 use Rattle.tangle_faults.specs.declared.faults.FaultKind.{FaultKind}
 use Rattle.tangle_lexer.specs.Lexemes.{fault_if}
-use Rattle.tangle_lexer.specs.Quoted.{cut_range}
 use Rattle.tangle_lexer.specs.Segments.{columns_from, span_points, byte_points}
 use Rattle.tangle_lexer.proofs.laws.Points.{Point, after_cell, HoldsBytes, IsTextAt}
 
@@ -43,11 +41,6 @@ points-append (_ ∷ ts) us = points-append ts us
 
 pub fault-points : (b : Bool) (kind : FaultKind) (line : ℕ) → token_points (fault_if b kind line) ≡ []
 fault-points b kind line = grind arith
-
--- the points of a range are its columns, also if the range is empty
-pub cut-points : (r : Region) (line start end : ℕ) (ts : List Token)
-    → token_points (cut_range r line start end ++ ts) ≡ columns_to line start end ++ token_points ts
-cut-points r line start end ts = grind (arith, nat_tests)
 
 module _ (texts : List (List ℕ)) where
   -- the points of bytes of one line are its columns from the first byte on

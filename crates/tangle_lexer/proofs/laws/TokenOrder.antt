@@ -1,32 +1,47 @@
 -- The tokens of a text follow one another by lines. `texts` are the bytes of the source lines.
 use Rattle.std.proofs.Common.{arith}
-use Rattle.std.proofs.Common.{◌≡◌, ℕ, ◌+◌, ◌<◌, Bool, true, false, List, [], ◌∷◌, ◌++◌, length, map}
+use Rattle.std.proofs.Common.{◌≡◌, ℕ, zero, suc, ◌+◌, ◌<◌, ◌≤◌, Bool, List, [], ◌∷◌, ◌++◌, length, map, drop}
 use Rattle.tangle_faults.specs.declared.faults.FaultKind.{FaultKind}
 use Rattle.tangle_text.specs.Text.{Cell, IsSpan}
 use Rattle.tangle_lexer.specs.declared.tokens.Token.{Token}
 use Rattle.tangle_lexer.specs.declared.tokens.Token.TheVariants as token
 use Rattle.tangle_lexer.specs.Lexemes.{fault_if}
 use Rattle.tangle_lexer.specs.LinesOfC.{inner_end_in}
+use Rattle.tangle_lexer.proofs.laws.Points.{Point, point_at, after_cell, IsTextAt}
 
--- the line to which a token on this line leads, if it is no head
-abbrev pub line_past : ℕ → Token → ℕ
-line_past line (token.UseOf at occurrence) = at
-line_past line (token.LineEnd at) = line + 1
-line_past line (token.InnerLineEnd at) = line + 1
-line_past line (token.QuoteBreak at) = line + 1
-line_past line _ = line
-
--- the same of any token: a head leads to its own line
+-- the line to which a token on this line leads
 abbrev pub line_after : ℕ → Token → ℕ
 line_after line (token.MacroStart at) = at
 line_after line (token.UnnamedPart at) = at
 line_after line (token.NamedPart at occurrence) = at
-line_after line t = line_past line t
+line_after line (token.UseOf at occurrence) = at
+line_after line (token.LineEnd at) = line + 1
+line_after line (token.InnerLineEnd at) = line + 1
+line_after line (token.QuoteBreak at) = line + 1
+line_after line _ = line
 
 -- the first cell of a text, if there is one, is on this line
 abbrev pub IsAtLine : ℕ → List Cell → Type 0
 IsAtLine line [] = Unit {0}
 IsAtLine line (c ∷ cs) = c.line ≡ line
+
+-- the first point is not after the second
+abbrev pub Precedes : Point → Point → Type 0
+Precedes p q = (p.line ≤ q.line) × (p.line ≡ q.line → p.column ≤ q.column)
+
+-- a point is not after the first cell of a text, if there is one
+abbrev pub Reaches : List Cell → Point → Type 0
+Reaches [] p = Unit {0}
+Reaches (c ∷ cs) p = Precedes p (point_at c.line c.column)
+
+-- a text is on this line, and not before this point
+abbrev pub IsBefore : List Cell → ℕ → Point → Type 0
+IsBefore text line p = IsAtLine line text × Reaches text p
+
+-- the end of the last span, with this token
+abbrev pub span_end : Point → Token → Point
+span_end p (token.Span kind s) = point_at s.line s.end
+span_end p _ = p
 
 module _ (texts : List (List ℕ)) where
   -- A token that has a line is on this line. The line of a source item is one of the source, and a span is a range of
@@ -41,52 +56,69 @@ module _ (texts : List (List ℕ)) where
   IsOnLine line (token.Run s) = ⊥
   IsOnLine line _ = Unit {0}
 
-  -- Each token is on the line to which the tokens before it lead from this line on, and `P` is true of the line after
-  -- all of them.
-  abbrev pub AreInOrder : (ℕ → Type 0) → ℕ → List Token → Type 0
-  AreInOrder P line [] = P line
-  AreInOrder P line (t ∷ ts) = IsOnLine line t × AreInOrder P (line_after line t) ts
+  -- and a span is not before this point
+  abbrev pub IsNext : ℕ → Point → Token → Type 0
+  IsNext line p (token.Span kind s) = IsOnLine line (token.Span kind s) × Precedes p (point_at s.line s.start)
+  IsNext line p t = IsOnLine line t
 
-  -- the tokens are in order from this line on
-  abbrev pub AreFromLine : ℕ → List Token → Type 0
-  AreFromLine = AreInOrder (λ l. Unit {0})
+  -- Each token is on the line to which the tokens before it lead from this line on, the spans follow one another from
+  -- this point on, and `P` is true of the line after all of them, and of the end of the last span.
+  abbrev pub AreInOrder : (ℕ → Point → Type 0) → ℕ → Point → List Token → Type 0
+  AreInOrder P line p [] = P line p
+  AreInOrder P line p (t ∷ ts) = IsNext line p t × AreInOrder P (line_after line t) (span_end p t) ts
 
-  -- such a token is no head
+  -- the tokens are in order from this line and this point on
+  abbrev pub AreFromLine : ℕ → Point → List Token → Type 0
+  AreFromLine = AreInOrder (λ l q. Unit {0})
+
+  -- such a token is neither a head nor a fault
   abbrev pub IsInPart : ℕ → Token → Type 0
   IsInPart line token.Section = ⊥
   IsInPart line (token.MacroStart at) = ⊥
   IsInPart line (token.UnnamedPart at) = ⊥
   IsInPart line (token.NamedPart at occurrence) = ⊥
+  IsInPart line (token.Fault kind at) = ⊥
   IsInPart line t = IsOnLine line t
 
-  -- tokens without heads are in order from this line on
+  -- tokens without heads and faults are on their lines from this line on
   abbrev pub AreByLine : ℕ → List Token → Type 0
   AreByLine line [] = Unit {0}
-  AreByLine line (t ∷ ts) = IsInPart line t × AreByLine (line_past line t) ts
+  AreByLine line (t ∷ ts) = IsInPart line t × AreByLine (line_after line t) ts
 
-  -- the tokens are in order, and the text after them is on the line to which they lead
-  abbrev pub AreBefore : List Cell → ℕ → List Token → Type 0
-  AreBefore rest = AreInOrder (λ l. IsAtLine l rest)
+  -- the tokens are in order, and the text after them is on the line to which they lead, and not before their spans
+  abbrev pub AreBefore : List Cell → ℕ → Point → List Token → Type 0
+  AreBefore rest = AreInOrder (IsBefore rest)
 
-  pub in_order-append : (P : ℕ → Type 0) (us : List Token) (line : ℕ) (ts : List Token)
-      → AreInOrder (λ l. AreInOrder P l us) line ts → AreInOrder P line (ts ++ us)
-  in_order-append P us line [] h = h
-  in_order-append P us line (t ∷ ts) h = (h.0, in_order-append P us (line_after line t) ts h.1)
+  pub in_order-append : (P : ℕ → Point → Type 0) (us : List Token) (line : ℕ) (p : Point) (ts : List Token)
+      → AreInOrder (λ l q. AreInOrder P l q us) line p ts → AreInOrder P line p (ts ++ us)
+  in_order-append P us line p [] h = h
+  in_order-append P us line p (t ∷ ts) h = (h.0, in_order-append P us (line_after line t) (span_end p t) ts h.1)
 
-  pub in_order-weaker : (P Q : ℕ → Type 0) → ((l : ℕ) → P l → Q l)
-      → (line : ℕ) (ts : List Token) → AreInOrder P line ts → AreInOrder Q line ts
-  in_order-weaker P Q weaker line [] h = weaker line h
-  in_order-weaker P Q weaker line (t ∷ ts) h = (h.0, in_order-weaker P Q weaker (line_after line t) ts h.1)
+  pub in_order-weaker : (P Q : ℕ → Point → Type 0) → ((l : ℕ) (q : Point) → P l q → Q l q)
+      → (line : ℕ) (p : Point) (ts : List Token) → AreInOrder P line p ts → AreInOrder Q line p ts
+  in_order-weaker P Q weaker line p [] h = weaker line p h
+  in_order-weaker P Q weaker line p (t ∷ ts) h =
+      (h.0, in_order-weaker P Q weaker (line_after line t) (span_end p t) ts h.1)
 
   -- a fault leads to the same line
-  pub faults-in_order : (P : ℕ → Type 0) (b : Bool) (kind : FaultKind) (at line : ℕ)
-      → P line → AreInOrder P line (fault_if b kind at)
-  faults-in_order x y kind at line h = grind arith
+  pub faults-in_order : (P : ℕ → Point → Type 0) (b : Bool) (kind : FaultKind) (at line : ℕ) (p : Point)
+      → P line p → AreInOrder P line p (fault_if b kind at)
+  faults-in_order x y kind at line p h = grind arith
 
   -- line ends of a directive are in order as white space too
-  pub inner-in_order : (P : ℕ → Type 0) (b : Bool) (line : ℕ) (ts : List Token)
-      → AreInOrder P line ts → AreInOrder P line (map (inner_end_in b) ts)
-  inner-in_order P b line [] h = h
-  inner-in_order P true line (token.LineEnd at ∷ ts) h = (h.0, inner-in_order P true (line + 1) ts h.1)
-  inner-in_order P true line (t ∷ ts) h = (h.0, inner-in_order P true (line_after line t) ts h.1)
-  inner-in_order P false line (t ∷ ts) h = (h.0, inner-in_order P false (line_after line t) ts h.1)
+  pub inner-in_order : (P : ℕ → Point → Type 0) (b : Bool) (line : ℕ) (p : Point) (ts : List Token)
+      → AreInOrder P line p ts → AreInOrder P line p (map (inner_end_in b) ts)
+  inner-in_order P b line p [] h = h
+  inner-in_order P b line p (t ∷ ts) h =
+      grind (arith, inner-in_order P b (line_after line t) (span_end p t) ts h.1)
+
+  -- a point that is not after a text is not after a later text
+
+  pub text-reaches : (at p : Point) (text : List Cell) → IsTextAt texts at text → Precedes p at → Reaches text p
+  text-reaches at p x is h = grind arith
+
+  pub text-later : (n : ℕ) (at p : Point) (c : Cell) (cs : List Cell)
+      → IsTextAt texts at (c ∷ cs) → Reaches (c ∷ cs) p → Reaches (drop n cs) p
+  text-later zero at p c cs is h = grind arith
+  text-later (suc n) at p c [] is h = tt
+  text-later (suc n) at p c (d ∷ cs) is h = text-later n (after_cell c) p d cs is.1 (grind arith)

@@ -18,7 +18,7 @@ use Rattle.tangle_lexer.specs.Heads.{is_head}
 use Rattle.tangle_lexer.specs.Reads.{IsRead, ReadsOn}
 use Rattle.tangle_lexer.specs.Runs.{is_run, has_item, first_is_alone, unfolded, unfolded_token, IsRunIn}
 use Rattle.tangle_lexer.specs.Steps.{lexeme, tokens_from, occurrences_from}
-use Rattle.tangle_lexer.proofs.lemmas.HeadLemmas.{is_special, mode_after, c_part-is, lexeme-alone}
+use Rattle.tangle_lexer.proofs.lemmas.HeadLemmas.{is_special, mode_after, lexeme-alone}
 use Rattle.tangle_lexer.proofs.lemmas.PlainTokens.{HasNone, none-append, none-by}
 use Rattle.tangle_lexer.proofs.lemmas.StepLemmas.{tokens_from-step}
 
@@ -30,27 +30,20 @@ no-head = none-by is_special is_head (λ t h. (or_parts (is_head t) (is_run t) h
 pub no-run : (ts : List Token) → HasNone is_special ts → HasNone is_run ts
 no-run = none-by is_special is_run (λ t h. (or_parts (is_head t) (is_run t) h).1)
 
-pub unfolded-plain : (texts : List (List ℕ)) (ts : List Token) → HasNone is_run ts → unfolded texts ts ≡ ts
-unfolded-plain texts [] h = refl
-unfolded-plain texts (t ∷ ts) h = grind (arith, nat_tests, unfolded-plain texts ts)
-
 pub unfolded-append : (texts : List (List ℕ)) (ts us : List Token)
     → unfolded texts (ts ++ us) ≡ unfolded texts ts ++ unfolded texts us
 unfolded-append texts ts us = flat_map-append (unfolded_token texts) ts us
 
-pub runs-plain : (texts : List (List ℕ)) (ts : List Token) → HasNone is_run ts → All (IsRunIn texts) ts
-runs-plain texts [] h = All-nil (IsRunIn texts)
-runs-plain texts (t ∷ ts) h = grind (arith, nat_tests, runs-plain texts ts)
+no-runs : (texts : List (List ℕ)) (ts : List Token) → HasNone is_run ts
+    → (unfolded texts ts ≡ ts) × All (IsRunIn texts) ts × (first_is_alone ts ≡ true)
+no-runs texts [] h = (refl, All-nil (IsRunIn texts), refl)
+no-runs texts (t ∷ ts) h = grind (arith, nat_tests, no-runs texts ts)
 
 -- Tokens are added, of which none is a run, or before which there is an item.
 
-none-alone : (ts : List Token) → HasNone is_run ts → first_is_alone ts ≡ true
-none-alone [] h = refl
-none-alone (t ∷ ts) h = grind (arith, nat_tests, none-alone ts)
-
 pub alone-append : (ts us : List Token) → HasNone is_run us ⊎ (has_item ts ≡ true) → first_is_alone ts ≡ true
     → first_is_alone (ts ++ us) ≡ true
-alone-append [] us (inl none) h = none-alone us none
+alone-append [] us (inl none) h = (no-runs [] us none).2
 alone-append [] us (inr some) h = cc
 alone-append (t ∷ ts) us added h = grind (arith, nat_tests, alone-append ts us)
 
@@ -78,13 +71,13 @@ module _ {old new : List Token} (s : LexerState) {after : LexerState} {text rest
   pub plain-tokens : (texts : List (List ℕ)) → 0 < length text → HasNone is_run (lexeme s text).tokens
       → unfolded texts new ++ tokens_from after rest ≡ unfolded texts old ++ tokens_from s text
   plain-tokens texts inside none =
-      grind (arith, unfolded-append texts old, unfolded-plain texts, append_assoc (unfolded texts old), tokens_from-step s text inside)
+      grind (arith, unfolded-append texts old, no-runs texts, append_assoc (unfolded texts old), tokens_from-step s text inside)
 
   pub plain-runs : (texts : List (List ℕ)) → HasNone is_run (lexeme s text).tokens
       → All (IsRunIn texts) old → All (IsRunIn texts) new
   plain-runs texts none runs =
       subst (All (IsRunIn texts)) (sym read.tokens)
-      (All-append (IsRunIn texts) old (lexeme s text).tokens runs (runs-plain texts (lexeme s text).tokens none))
+      (All-append (IsRunIn texts) old (lexeme s text).tokens runs (no-runs texts (lexeme s text).tokens none).1)
 
   pub plain-none : (test : Token → Bool) → HasNone test (lexeme s text).tokens → HasNone test old → HasNone test new
   plain-none test here before = grind (arith, nat_tests, none-append)
@@ -105,7 +98,7 @@ module _ {old new : List Token} (s : LexerState) {after : LexerState} {text rest
   -- no head was removed: the lexeme is none
   pub not-taken : ((ts : List Token) (head : Token) → new ≡ ts ++ head ∷ [] → is_head head ≡ false)
       → HasNone is_special (lexeme s text).tokens × (after.mode ≡ mode.CPart → s.mode ≡ mode.CPart)
-  not-taken none = grind (arith, nat_tests, lexeme-alone s text, c_part-is)
+  not-taken none = grind (arith, nat_tests, lexeme-alone s text)
 
   -- a head was removed
   pub taken : (kept : List Token) (head : Token) → HasNone is_head old

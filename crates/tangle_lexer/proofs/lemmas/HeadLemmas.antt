@@ -2,7 +2,7 @@
 use Rattle.std.proofs.lemmas.Bool.Decides.{nat_tests}
 use Rattle.std.proofs.Common.{arith}
 use Rattle.std.proofs.Common.{◌≡◌, ℕ, Bool, true, false, ◌||◌, List, [], ◌∷◌, Option, ◌⊎◌, inl, inr, refl}
-use Rattle.std.proofs.Common.{sym, ap, rules}
+use Rattle.std.proofs.Common.{sym, ap}
 use Rattle.tangle_lexer.specs.declared.modes.Mode.{Mode}
 use Rattle.tangle_lexer.specs.declared.modes.Mode.TheVariants as mode
 use Rattle.tangle_lexer.specs.declared.modes.LexerState.{LexerState}
@@ -40,9 +40,6 @@ abbrev pub IsHead : Lexeme → Type 0
 IsHead l =
     (head : Token) × (l.tokens ≡ head ∷ []) × (is_head head ≡ true)
     × (l.after.mode ≡ mode_after head) × (l.after.line ≡ front)
-
-pub c_part-is : (m : Mode) → is_c_part m ≡ true → m ≡ mode.CPart
-c_part-is m h = search rules
 
 -- the tokens of the lexeme have no head, or consist of one head, and none of them is a run
 abbrev pub IsHeadAlone : LexerState → Lexeme → Type 0

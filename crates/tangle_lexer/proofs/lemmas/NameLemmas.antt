@@ -12,7 +12,7 @@ use Rattle.tangle_text.specs.Text.{Cell, byte_at, front_line}
 use Rattle.tangle_lexer.specs.White.{is_white_alone, next_but_name, white_count, white_end}
 use Rattle.tangle_lexer.specs.Comments.{two_if, has_end_code}
 use Rattle.tangle_lexer.specs.Names.{name_end, is_ended, after_name, name_count, count_before_equals, equals_by}
-use Rattle.tangle_lexer.specs.Names.{equals_in, equals_last, count_to_last, count_through, definition_count, name_more}
+use Rattle.tangle_lexer.specs.Names.{equals_in, equals_last, count_through, definition_count, name_more}
 use Rattle.tangle_lexer.proofs.lemmas.RegionSteps.{after-two}
 use Rattle.tangle_text.proofs.AheadLemmas.{byte_at-drop}
 
@@ -27,9 +27,6 @@ pub equals-here : (text mid : List Cell) (e : Equals) → mid ≡ drop (count_be
     → e ≡ equals_by (byte_at 0 mid) (byte_at 1 mid) → equals_in text ≡ e
 equals-here text mid e is here =
     sym (equals-further text) ∙ (ap (λ t. equals_by (byte_at 0 t) (byte_at 1 t)) (sym is) ∙ sym here)
-
-pub not-double : (e : Equals) (n : ℕ) → (e ≡ equals.Double → ⊥) → count_to_last e n ≡ n
-not-double e n h = grind arith
 
 pub after-is : (text mid rest : List Cell)
     → mid ≡ name_end text → rest ≡ drop (two_if (has_end_code mid)) mid → rest ≡ after_name text

@@ -3,7 +3,7 @@ use Rattle.std.proofs.lemmas.Bool.{cases_Bool}
 use Rattle.std.proofs.lemmas.Bool.Decides.{nat_tests}
 use Rattle.std.proofs.Common.{◌≡◌, ℕ, List, [], ◌∷◌, ◌++◌, Bool, true, false, not, ◌==◌, ◌&&◌, ◌∙◌, nat_lt, inl, inr, append_assoc}
 use Rattle.std.proofs.Common.{append-nil, sym, arith, if◌then◌else◌, filter}
-use Rattle.std.specs.List.{slice_split, onto_first, join_with_byte}
+use Rattle.std.specs.List.{onto_first, join_with_byte}
 use Rattle.tangle_files.specs.Bytes.{space}
 use Rattle.tangle_lines.specs.Bytes.{is_white}
 use Rattle.tangle_lexer.specs.Names.{has_bytes, normal_form, onto_part, form_after}
@@ -12,12 +12,7 @@ use Rattle.tangle_lexer.specs.Names.{has_bytes, normal_form, onto_part, form_aft
 
 pub form-none : (white : Bool) (bytes : List ℕ) → form_after [] white bytes ≡ normal_form bytes
 unfolding form_after
-form-none white bytes = by white (slice_split is_white bytes)
-  where
-    by : (white : Bool) (parts : List (List ℕ))
-        → join_with_byte space (filter has_bytes (if white then [] ∷ parts else onto_part [] parts))
-        ≡ join_with_byte space (filter has_bytes parts)
-    by white parts = grind arith
+form-none white bytes = grind (arith, nat_tests)
 
 pub form-end : (name : List ℕ) (white : Bool) → form_after name white [] ≡ name
 unfolding form_after
@@ -51,9 +46,6 @@ is_single_spaced white [] = not white
 is_single_spaced white (b ∷ bs) =
     if nat_lt space b then is_single_spaced false bs else not white && b == space && is_single_spaced true bs
 
-past-space : (b : ℕ) → nat_lt space b ≡ true → is_white b ≡ false
-past-space b past = grind (arith, nat_tests)
-
 -- they are added as they are
 spaced-form : (name : List ℕ) (white : Bool) (bytes : List ℕ) → is_single_spaced white bytes ≡ true
     → (white ≡ false → has_bytes name ≡ true)
@@ -63,7 +55,7 @@ spaced-form name false [] h some = form-end name false ∙ sym (append-nil name)
 spaced-form name white (b ∷ bs) h some =
     elim (cases_Bool (nat_lt space b)) [
       | inl past ↦
-          grind (arith, append_assoc name, form-other name white b bs (past-space b past), spaced-form (name ++ (if white && has_bytes name then space ∷ b ∷ [] else b ∷ [])) false bs)
+          grind (arith, append_assoc name, form-other name white b bs (grind (arith, nat_tests)), spaced-form (name ++ (if white && has_bytes name then space ∷ b ∷ [] else b ∷ [])) false bs)
       | inr other ↦ grind (arith, nat_tests, form-white name white b bs, spaced-form name true bs)
     ]
 

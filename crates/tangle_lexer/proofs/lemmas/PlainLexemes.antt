@@ -2,17 +2,15 @@
 use Rattle.std.proofs.Common.{rules}
 use Rattle.std.proofs.lemmas.Bool.Decides.{nat_tests}
 use Rattle.std.proofs.Common.{arith}
-use Rattle.std.proofs.Common.{◌≡◌, ℕ, List, ◌++◌, Option, None}
+use Rattle.std.proofs.Common.{◌≡◌, ℕ, List, ◌++◌, None}
 use Rattle.tangle_faults.specs.declared.faults.FaultKind.{FaultKind}
 use Rattle.tangle_faults.specs.declared.faults.FaultKind.TheVariants as fault
 use Rattle.tangle_text.specs.declared.regions.Region.{Region}
 use Rattle.tangle_text.specs.Text.{Cell, front_line}
-use Rattle.tangle_lexer.specs.declared.constants.AsciiConstant.{AsciiConstant}
 use Rattle.tangle_lexer.specs.declared.lexeme_kinds.ControlCode.TheVariants as code
 use Rattle.tangle_lexer.specs.declared.lexeme_kinds.LexemeKind.{LexemeKind}
 use Rattle.tangle_lexer.specs.declared.lexeme_kinds.LexemeKind.TheVariants as lexeme_kind
 use Rattle.tangle_lexer.specs.declared.modes.LexerState.{LexerState}
-use Rattle.tangle_lexer.specs.Constants.{constant_lexeme}
 use Rattle.tangle_lexer.specs.Lexemes.{Lexeme, fault_if, is_in_directive}
 use Rattle.tangle_lexer.specs.Names.{name_faults, mention_faults, has_single_equals, after_name}
 use Rattle.tangle_lexer.specs.Quoted.{quoted_text}
@@ -40,10 +38,6 @@ use-plain s text = grind (arith, nat_tests, plain-append, fault_if-plain)
 pub mention-plain : (s : LexerState) (text : List Cell) → ArePlain (mention_faults s text)
 mention-plain s text = grind (arith, nat_tests, plain-append, fault_if-plain)
 
-constant-plain : (constant : Option AsciiConstant) (s : LexerState) (text : List Cell)
-    → IsPlainLexeme s (constant_lexeme constant s text)
-constant-plain x s text = grind arith
-
 pub quoted-text : (r : Region) (close : ℕ) (s : LexerState) (text : List Cell)
     → AreText (quoted_text r close s text).tokens
 quoted-text r close s text = grind (arith, nat_tests, cut_tokens-text)
@@ -60,5 +54,5 @@ pub kind-plain : (kind : LexemeKind) (s : LexerState) (text : List Cell)
 kind-plain (lexeme_kind.Control code.SectionStart) s text h = absurd h
 kind-plain (lexeme_kind.Control code.Name) s text h = absurd h
 kind-plain (lexeme_kind.Control kind) s text h =
-    search (rules, white-plain, line_ends-plain, fault_if-plain, text-plain, verbatim_tokens-text, constant-plain)
+    search (rules, white-plain, line_ends-plain, fault_if-plain, text-plain, verbatim_tokens-text)
 kind-plain _ s text h = search (rules, white-plain, line_ends-plain, fault_if-plain, quoted-plain)

@@ -6,7 +6,7 @@ use Rattle.std.proofs.lemmas.Bool.Decides.{nat_tests}
 use Rattle.tangle_text.specs.Bytes.{number_sign, backslash, holds}
 use Rattle.std.proofs.Common.{◌≡◌, ◌<◌, ℕ, zero, suc, ◌+◌, ◌-◌, Bool, true, false, ◌&&◌, List, [], ◌∷◌, ◌++◌}
 use Rattle.std.proofs.Common.{length}
-use Rattle.std.proofs.Common.{take, drop, map, get_or, slice_get, Option, refl, ap}
+use Rattle.std.proofs.Common.{take, drop, map, get_or, slice_get, refl, ap}
 use Rattle.std.proofs.Common.{sym, ◌∙◌, subst, arith, append_assoc, append-nil, length-drop}
 use Rattle.std.proofs.lemmas.Option.{slice_get-get_or, slice_get_cases}
 use Rattle.std.proofs.lemmas.Bool.{and_parts}
@@ -19,12 +19,10 @@ use Rattle.tangle_text.specs.Runs.{holds_plain, run_count, run_size}
 use Rattle.tangle_text.specs.Runs.{parts_of, run_parts, are_apart}
 use Rattle.tangle_text.proofs.RunPartLemmas.{run_count-line, run_size-fits, get_drop}
 use Rattle.tangle_lexer.proofs.laws.Points.{Point, point_at, IsTextAt, text-is, text-somewhere, line-at}
-use Rattle.tangle_lexer.specs.declared.modes.LineOfC.{LineOfC}
 use Rattle.tangle_lexer.specs.declared.modes.LexerState.{LexerState}
 use Rattle.tangle_lexer.specs.declared.simple.SimpleLexeme.{SimpleLexeme}
 use Rattle.tangle_lexer.specs.declared.tokens.Token.{Token}
 use Rattle.tangle_lexer.specs.declared.tokens.Token.TheVariants as token
-use Rattle.tangle_lexer.specs.LinesOfC.{with_item}
 use Rattle.tangle_lexer.specs.Lexemes.{elsewhere}
 use Rattle.tangle_lexer.specs.Reads.{ReadsOn}
 use Rattle.tangle_lexer.specs.Runs.{part_token, IsRunOf, IsRunIn}
@@ -33,7 +31,6 @@ use Rattle.tangle_lexer.specs.Steps.{c_lexeme, lexeme, tokens_from}
 use Rattle.tangle_lexer.specs.Steps.{occurrences_from}
 use Rattle.tangle_lexer.proofs.lemmas.BlockLemmas.{unfolded-append, rest-drop}
 use Rattle.tangle_lexer.proofs.lemmas.RunTokens.{run-goes}
-use Rattle.tangle_lexer.specs.declared.modes.IncludeState.{IncludeState}
 use Rattle.tangle_lexer.proofs.lemmas.SimpleLemmas.{lexeme-simple}
 use Rattle.tangle_lexer.proofs.lemmas.StepLemmas.{tokens_from-step, occurrences_from-step}
 
@@ -66,10 +63,6 @@ run-end : (bytes : List ℕ) (column n : ℕ) → 0 < n → (get_or (0 ∷ drop 
 run-end bytes column zero some h = absurd (omega arith)
 run-end bytes column (suc n) some h = grind (arith, get_or-drop)
 
--- the first item of a line stays its first
-item-stays : (first b : Bool) (l : LineOfC) → with_item b (with_item first l) ≡ with_item first l
-item-stays first b x = grind arith
-
 line-run : (lines : List SourceLine) (s : LexerState) → is_c_text s.mode ≡ true
     → (at : Point) (text : List Cell) → IsTextAt (texts_of lines) at text → holds_plain (byte_at 0 text) ≡ true
     → holds number_sign (byte_at 0 text) ≡ false → 0 < run_count text
@@ -88,7 +81,7 @@ line-run lines s c_text at (c ∷ cs) is_text plain sign some =
     let n : ℕ = run_size 0 bytes in
     let count : run_count (c ∷ cs) ≡ n = ap run_count is ∙ run_count-line line column bytes rest in
     let parts = parts-are texts line column n in
-    let goes = run-goes s c_text (λ b. item-stays false b s.line.line) line rest column 0 n bytes (omega arith) refl in
+    let goes = run-goes s c_text (λ b. grind arith) line rest column 0 n bytes (omega arith) refl in
     let run : IsRunOf texts (record { line = line; start = column; end = column + n }) = record {
       span = record {
         line = is_text.0.real;
@@ -113,10 +106,6 @@ lexeme-apart : (s : LexerState) (text : List Cell) (p : SimpleLexeme)
     → is_apart s.line.include (byte_at 0 text) ≡ true → lexeme s text ≡ lexeme (elsewhere s) text
 lexeme-apart s text p here m h apart = grind (arith, nat_tests, kind-apart p s text h apart, lexeme-simple)
 
--- a first byte that is apart is no #
-apart-sign : (inc : IncludeState) (b : Option ℕ) → is_apart inc b ≡ true → holds number_sign b ≡ false
-apart-sign x b h = grind arith
-
 -- a run that may begin at a simple lexeme, and has bytes, is read from there on
 pub run-read : (lines : List SourceLine) (tokens : List Token) (s : LexerState) (text : List Cell) (p : SimpleLexeme)
     → IsSimple text p → is_c_text s.mode ≡ true
@@ -127,7 +116,7 @@ run-read lines tokens s text p here c_text begins some_bytes ours =
     let both = and_parts (is_word_or_sign p) (is_apart s.line.include (byte_at 0 text)) all.0 in
     let plain : holds_plain (byte_at 0 text) ≡ true = here.plain both.0 in
     let place = text-somewhere (texts_of lines) ours.0 (point_at 0 0) (text_from 0 lines) (text-is lines) in
-    let run = line-run lines s c_text place.0 text (rw ours.1 place.1) plain (apart-sign s.line.include (byte_at 0 text) both.1) some_bytes in
+    let run = line-run lines s c_text place.0 text (rw ours.1 place.1) plain (grind arith) some_bytes in
     grind (arith, nat_tests, lexeme-apart s text p here, tokens_from-step, occurrences_from-step)
 
 -- the token of a run is added

@@ -2,7 +2,7 @@
 use Rattle.std.proofs.Common.{rules}
 use Rattle.std.proofs.lemmas.Bool.Decides.{nat_tests}
 use Rattle.std.proofs.Common.{◌≡◌, ◌<◌, ℕ, true, List, [], ◌∷◌, length}
-use Rattle.std.proofs.Common.{arith, Some, Option, ◌++◌}
+use Rattle.std.proofs.Common.{arith, Some, ◌++◌}
 use Rattle.std.specs.Option.{IfSome}
 use Rattle.tangle_lexer.specs.declared.modes.LexerState.{LexerState}
 use Rattle.tangle_lexer.specs.declared.modes.LineState.{LineState}
@@ -10,15 +10,13 @@ use Rattle.tangle_lexer.specs.declared.simple.SimpleLexeme.{SimpleLexeme}
 use Rattle.tangle_text.specs.Text.{Cell, byte_at}
 use Rattle.tangle_lexer.specs.Lexemes.{with_line}
 use Rattle.tangle_lexer.specs.Steps.{occurrences_from, lexeme, c_lexeme}
-use Rattle.tangle_lexer.specs.Simple.{IsSimple, simple_of, simple_kind, is_c_text, begins_run}
+use Rattle.tangle_lexer.specs.Simple.{IsSimple, simple_of, simple_kind, is_c_text}
 use Rattle.tangle_lexer.specs.declared.tokens.Token.{Token}
 use Rattle.tangle_lexer.specs.Reads.{IsRead, AddsSimple}
 use Rattle.tangle_lexer.proofs.lemmas.HeadLemmas.{is_special}
 use Rattle.tangle_lexer.proofs.lemmas.PlainTokens.{HasNone, none-append}
 use Rattle.tangle_lexer.proofs.lemmas.BlockLemmas.{alone-append}
 use Rattle.tangle_lexer.specs.declared.modes.Mode.{Mode}
-use Rattle.tangle_lexer.specs.declared.tokens.Token.TheVariants as token
-use Rattle.tangle_text.specs.declared.spans.Span.{Span}
 use Rattle.tangle_lexer.proofs.lemmas.StepLemmas.{occurrences_from-step}
 
 pub simple-again : (old new : List Token) (l : LineState)
@@ -50,10 +48,6 @@ module _ (s : LexerState) (text : List Cell) (p : SimpleLexeme)
 pub simple-adds : (m : Mode) (old new : List Token) (s : LexerState) (text : List Cell) (p : SimpleLexeme)
     → new ≡ old ++ (c_lexeme (simple_kind p) s text).tokens → AddsSimple m old new
 simple-adds m old new s text x is = grind (arith, nat_tests, none-append, alone-append)
-
-pub run-adds : (m : Mode) (old : List Token) (s : LexerState) (p : SimpleLexeme) (b : Option ℕ) (run : Span)
-    → begins_run old m s.line.include p b ≡ true → AddsSimple m old (old ++ token.Run run ∷ [])
-run-adds m old s p b run begins = grind (arith, nat_tests, none-append, alone-append)
 
 -- the kind of a lexeme that begins with a byte that opens nothing longer
 

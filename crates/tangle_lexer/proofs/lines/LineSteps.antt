@@ -107,10 +107,6 @@ module _ (texts : List (List ℕ)) (R : Judgement texts) where
       → is_use_fault (token.Fault kind n) ≡ false → Steps l e (fault_if b kind n) l e
   faults-step x kind n h = search (rules, fault-step, no-steps)
 
-  -- items
-  item-settled : (n : Bool) (l : LineOfC) (j : Bool) → with_item n (settled l false) ≡ settled (with_item n l) j
-  item-settled n l j = grind arith
-
   abbrev pub is_item : Token → Bool
   is_item (token.Span kind s) = true
   is_item (token.AsciiConstant value n) = true
@@ -120,7 +116,7 @@ module _ (texts : List (List ℕ)) (R : Judgement texts) where
   pub item-step : {l : LineOfC} {e : AtLineEnd} (t : Token) → is_item t ≡ true
       → Steps l e (t ∷ []) (with_item (is_number_sign texts t) l) (if ends_in_backslash texts t then GoesOn else Ends)
   item-step {l} {e} t h =
-      one-step t (grind arith) (grind arith) (λ before us is. ((grind arith), (search (rules, item-settled))))
+      one-step t (grind arith) (grind arith) (λ before us is. ((grind arith), (grind arith)))
 
   pub join-step : {l : LineOfC} {e : AtLineEnd} → Steps l e (token.Join ∷ []) (joined_line l) Removed
   join-step {l} =

@@ -21,7 +21,7 @@ use Rattle.tangle_lexer.specs.LinesOfParts.{is_use, is_directive, body, c_parts,
 use Rattle.tangle_lexer.specs.LinesOfParts.{HasInnerEndsAsDirective, begins_with_use_fault, with_use_fault}
 use Rattle.tangle_lexer.specs.LinesOfParts as parts
 use Rattle.tangle_lexer.proofs.lemmas.BlockLemmas.{no-head}
-use Rattle.tangle_lexer.proofs.lemmas.HeadLemmas.{mode_after, c_part-is, lexeme-alone}
+use Rattle.tangle_lexer.proofs.lemmas.HeadLemmas.{mode_after, lexeme-alone}
 use Rattle.tangle_lexer.proofs.lemmas.PlainTokens.{HasNone}
 use Rattle.tangle_lexer.proofs.laws.Points.{Point, point_at, after_cell, IsTextAt, text-is}
 use Rattle.tangle_lexer.proofs.lines.LineSteps.{Judgement, Holds}
@@ -29,13 +29,10 @@ use Rattle.tangle_lexer.proofs.lines.KindSteps.{Follows, lexeme-follows}
 
 -- tokens without heads
 
-body-append : (ts us : List Token) → HasNone is_head ts → body (ts ++ us) ≡ ts ++ body us
-body-append [] us h = refl
-body-append (t ∷ ts) us h = grind (arith, nat_tests, body-append ts us)
-
-c_parts-append : (ts us : List Token) → HasNone is_head ts → c_parts (ts ++ us) ≡ c_parts us
-c_parts-append [] us h = refl
-c_parts-append (t ∷ ts) us h = grind (arith, nat_tests, c_parts-append ts us)
+parts-append : (ts us : List Token) → HasNone is_head ts
+    → (body (ts ++ us) ≡ ts ++ body us) × (c_parts (ts ++ us) ≡ c_parts us)
+parts-append [] us h = (refl, refl)
+parts-append (t ∷ ts) us h = grind (arith, nat_tests, parts-append ts us)
 
 module _ (texts : List (List ℕ)) where
   -- these lines of C are what the law says of them
@@ -75,7 +72,8 @@ module _ (texts : List (List ℕ)) where
   plain-law : (s : LexerState) (here : Lexeme) → is_c_part here.after.mode ≡ is_c_part s.mode
       → HasNone is_head here.tokens → (s.mode ≡ mode.CPart → Follows texts are-right s.line here.tokens here.after.line)
       → Law s here
-  plain-law s here same none follows ts right = search (rules, body-append, c_parts-append, c_part-is)
+  plain-law s here same none follows ts right =
+      let is = parts-append here.tokens ts none in search (rules, is.0, is.1)
 
   head-law : (s after : LexerState) (t : Token) (ts : List Token) → is_head t ≡ true → after.mode ≡ mode_after t
       → after.line ≡ front → AreRightFrom after ts → AreRightFrom s (t ∷ ts)

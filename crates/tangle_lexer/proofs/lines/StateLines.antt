@@ -23,7 +23,7 @@ use Rattle.tangle_lexer.proofs.lines.OpenLines.{directive-is}
 use Rattle.tangle_lexer.proofs.lines.LineSteps.{Judgement, Steps, no-steps, steps-append, front-open}
 use Rattle.tangle_lexer.proofs.lines.KindSteps.{lexeme-follows}
 use Rattle.tangle_lexer.proofs.lemmas.BlockLemmas.{no-head}
-use Rattle.tangle_lexer.proofs.lemmas.HeadLemmas.{c_part-is, lexeme-alone}
+use Rattle.tangle_lexer.proofs.lemmas.HeadLemmas.{lexeme-alone}
 use Rattle.std.proofs.Common.{inl, inr}
 
 -- the tokens after the last head
@@ -63,7 +63,7 @@ module _ (texts : List (List ℕ)) where
       let here = lexeme s (c ∷ cs) in
       elim (lexeme-alone s (c ∷ cs)) [
         | inl plain ↦
-            search (rules, c_part-is, no-head, body-append, steps-append, lexeme-follows)
+            search (rules, no-head, body-append, steps-append, lexeme-follows)
         | inr head ↦ rw (head.1, body-head ts head.0 head.2, head.4) (no-steps texts (last-is b))
       ]
 

@@ -1,13 +1,12 @@
 -- A verbatim text is an item of the open line of C, which may end in a backslash.
 use Rattle.std.proofs.Common.{rules}
-use Rattle.std.proofs.Common.{◌≡◌, ◌≤◌, Bool, true, false, List, [], ◌∷◌, ◌==◌}
+use Rattle.std.proofs.Common.{◌≡◌, ◌≤◌, Bool, true, false, List, [], ◌∷◌}
 use Rattle.std.proofs.Common.{inl, inr, refl, arith, ◌<◌, ◌++◌, ℕ}
 use Rattle.std.proofs.lemmas.Bool.Decides.{nat_tests}
 use Rattle.tangle_text.specs.declared.regions.Region.TheVariants as region
 use Rattle.tangle_text.specs.declared.regions.Unit.{Unit as Unit-of}
 use Rattle.tangle_text.specs.declared.regions.Unit.TheVariants as unit
 use Rattle.tangle_text.proofs.UnitLemmas.{count-is}
-use Rattle.tangle_text.specs.Bytes.{backslash}
 use Rattle.tangle_text.specs.Regions.{units, unit_at, count_before}
 use Rattle.tangle_text.specs.Text.{Cell, span_at}
 use Rattle.tangle_lexer.specs.declared.modes.AtLineEnd.{AtLineEnd}
@@ -19,7 +18,6 @@ use Rattle.tangle_lexer.specs.declared.tokens.Token.TheVariants as token
 use Rattle.tangle_lexer.specs.LinesOfC.{with_item}
 use Rattle.tangle_lexer.specs.Quoted.{cut_tokens, at_stop, verbatim_end, verbatim_tokens, last_is_backslash}
 use Rattle.tangle_lexer.specs.Quoted.{verbatim_ends_in_backslash}
-use Rattle.tangle_lexer.specs.SpanBytes.{last_byte}
 use Rattle.tangle_lexer.proofs.laws.CutTexts.{verbatim-cut}
 use Rattle.tangle_lexer.proofs.laws.Points.{Point, IsTextAt, text-column}
 use Rattle.tangle_lexer.proofs.laws.RegionUnits.{units-by}
@@ -51,9 +49,6 @@ module _ (texts : List (List ℕ)) where
   verbatim-past at start (c ∷ cs) h is =
       stop-past texts region.Verbatim at start c cs (is_line_end c.byte) fault.VerbatimEnd h is.0
 
-  empty-end : (text : List Cell) → (last_byte texts (span_at 0 text) == backslash) ≡ false
-  empty-end x = grind (arith, nat_tests)
-
   pub verbatim-steps : (R : Judgement texts) (l : LineOfC) (e : AtLineEnd) (at : Point) (text : List Cell)
       → IsTextAt texts at text
       → Steps texts R l e (verbatim_tokens text) (with_item false l) (end_by (verbatim_ends_in_backslash text))
@@ -70,5 +65,5 @@ module _ (texts : List (List ℕ)) where
           × (end_past texts e us ≡ end_by (last_cell false (count_before region.Verbatim text) text))
       by unit.Stop stops ts past =
           let ends = past (with_item false l) Ends false (λ k. absurd (omega arith)) (λ k. inr (same-item l, refl)) in
-          (ends.0 ∙ same-item l, rw (empty-end text) ends.1)
+          (ends.0 ∙ same-item l, grind (arith, nat_tests, ends.1))
       by u goes ts past = past l e false (λ k. absurd (omega arith)) (λ k. inl (goes-some text (λ stops. cc)))

@@ -20,8 +20,8 @@ use Rattle.tangle_scan.specs.LineTruth.{counted_after_line_end}
 use Rattle.tangle_scan.specs.LineTruth.{has_line_end, left_or_join, locations, is_expected, with_line_end}
 use Rattle.tangle_scan.specs.LineTruth.{origin_after_mark, part_locations, Location, IsOwn, AreAtTheirLines, IsAtItsLine}
 use Rattle.tangle_scan.specs.Passes.{items_by_origin, items_after, line_item, turn_after_line_end, is_unmarked, is_whole}
-use Rattle.tangle_lexer.proofs.laws.TokenOrder.{line_past, IsInPart, AreByLine}
-use Rattle.tangle_scan.proofs.lemmas.ItemsByOrigin.{part_items-by_origin, same-is, turn_of, turn-snoc, turn-is}
+use Rattle.tangle_lexer.proofs.laws.TokenOrder.{line_after, AreByLine}
+use Rattle.tangle_scan.proofs.lemmas.ItemsByOrigin.{part_items-by_origin, turn_of, turn-snoc, turn-is}
 use Rattle.std.proofs.Common.{◌≤◌, nat_le, None, ◌&&◌, ◌||◌, not, ap, sym, ◌∙◌}
 use Rattle.tangle_text.specs.Bytes.{backslash}
 use Rattle.tangle_lexer.specs.declared.tokens.SpanKind.TheVariants as span_kind
@@ -32,29 +32,14 @@ use Rattle.tangle_scan.specs.Directives.{ForEachChoice, border_after, goes_on, i
 use Rattle.tangle_scan.specs.Directives.{is_turn, item_ends_in}
 use Rattle.tangle_scan.proofs.lemmas.RuleLemmas.{blanks-item}
 
--- leaving out faults, or adding the white space of rule 1, does not change the lines
-
--- tokens in order, with no fault among them
-
-abbrev IsClean : List (List ℕ) → ℕ → Token → Type 0
-IsClean texts line (token.Fault kind at) = ⊥
-IsClean texts line t = IsInPart texts line t
-
-abbrev AreClean : List (List ℕ) → ℕ → List Token → Type 0
-AreClean texts line [] = Unit {0}
-AreClean texts line (t ∷ ts) = IsClean texts line t × AreClean texts (line_past line t) ts
-
-without_faults-by_line : (texts : List (List ℕ)) (es : List Token) (line : ℕ)
-    → AreByLine texts line es → AreClean texts line (without_faults es)
-without_faults-by_line texts [] line h = h
-without_faults-by_line texts (e ∷ es) line h = search (rules, without_faults-by_line texts es)
+-- adding the white space of rule 1 does not change the lines
 
 with_spaces-by_line : (texts : List (List ℕ)) (es : List Token) (line : ℕ)
-    → AreClean texts line es → AreClean texts line (with_spaces texts es)
+    → AreByLine texts line es → AreByLine texts line (with_spaces texts es)
 with_spaces-by_line texts [] line h = h
 with_spaces-by_line texts (e ∷ []) line h = h
 with_spaces-by_line texts (e ∷ g ∷ es) line h =
-    grind (arith, h.0, with_spaces-by_line texts (g ∷ es) (line_past line e) h.1)
+    grind (arith, h.0, with_spaces-by_line texts (g ∷ es) (line_after line e) h.1)
 
 -- rule 1 puts the same white space where line ends of a directive are white space
 
@@ -78,10 +63,11 @@ abbrev AreGaps : List Token → Type 0
 AreGaps run = list_all is_gap run ≡ true
 
 -- The tokens after a run follow from a line on that is not before this one, and is this one if the run has no line end.
-after-run : (texts : List (List ℕ)) (line : ℕ) (run es : List Token) → AreGaps run → AreClean texts line (run ++ es)
-    → (after : ℕ) × (line ≤ after) × (has_line_end run ≡ false → after ≡ line) × AreClean texts after es
+after-run : (texts : List (List ℕ)) (line : ℕ) (run es : List Token)
+    → AreGaps run → AreByLine texts line (run ++ es)
+    → (after : ℕ) × (line ≤ after) × (has_line_end run ≡ false → after ≡ line) × AreByLine texts after es
 after-run texts line [] es gaps h = (line, omega arith, λ none. refl, h)
-after-run texts line (e ∷ run) es gaps h = grind (arith, after-run texts (line_past line e) run es)
+after-run texts line (e ∷ run) es gaps h = grind (arith, after-run texts (line_after line e) run es)
 
 goes-snoc : (texts : List (List ℕ)) (xs : List Item) (x : Item) → goes_on texts (xs ++ x ∷ [])
     ≡ (if is_blank x then goes_on texts xs else item_ends_in backslash texts x)
@@ -113,21 +99,18 @@ module _ (lines : List SourceLine) where
   AreTrue es fs gs =
       (before : Option Token) (at : Turn) (white : Bool) (counted : Origin) (stretch : Bool) (number : ℕ) (read : Bool)
       (origin : Option Origin) (line : List Item)
-      → Inv before at counted stretch number read origin line → AreClean texts number es
+      → Inv before at counted stretch number read origin line → AreByLine texts number es
       → AreAtTheirLines lines read origin line (items_after lines before at counted white fs)
       (locations lines before counted stretch gs)
 
   -- the next source line, where there is one
-
-  not-out : (b : Bool) → not b ≡ false → b ≡ true
-  not-out b h = grind arith
 
   not-last : (n number : ℕ) → n ≡ number → number + 1 < length lines → nat_le (length lines) (n + 1) ≡ false
   not-last n number same real = grind (arith, nat_tests)
 
   expected-is : (counted : Origin) (n number : ℕ) → n ≡ number → number + 1 < length lines
       → is_expected lines counted n ≡ true → next_line counted ≡ origin_at lines (number + 1)
-  expected-is counted n number same real is = grind (arith, nat_tests, same-is, not-last n number same real)
+  expected-is counted n number same real is = grind (arith, nat_tests, not-last n number same real)
 
   after-is : (counted : Origin) (n number : ℕ) → n ≡ number → number + 1 < length lines
       → (if is_expected lines counted n then next_line counted else origin_at lines (n + 1)) ≡ origin_at lines (number + 1)
@@ -136,17 +119,14 @@ module _ (lines : List SourceLine) where
   -- what is true from here on
   module _ (before : Option Token) (at : Turn) (counted : Origin) (stretch : Bool) (number : ℕ) (read : Bool)
       (origin : Option Origin) (line : List Item) (h : Inv before at counted stretch number read origin line) where
-    -- a blank
-    blank-known : Inv before at counted stretch number read origin (line ++ item.Blank ∷ [])
-    blank-known = search (rules, turn-snoc, goes-snoc)
-
     -- a source item
     own : (n : ℕ) (x : Item) → n ≡ number → n < length texts
         → IsOwn lines read origin x (record { item = x; line = n; in_stretch = stretch })
     own n x same inside = grind (arith, length-map lines (λ l. l.bytes))
 
     -- one token other than a join, white space and a line end, before others
-    item-true : (e : Token) (es fs gs : List Token) → is_gap e ≡ false → AreTrue es fs gs → AreClean texts number (e ∷ es)
+    item-true : (e : Token) (es fs gs : List Token)
+        → is_gap e ≡ false → AreTrue es fs gs → AreByLine texts number (e ∷ es)
         → AreAtTheirLines lines read origin line
         (items_by_origin lines before at counted (e ∷ blanks texts (Some e) false fs))
         (locations lines before counted stretch (e ∷ gs))
@@ -156,7 +136,7 @@ module _ (lines : List SourceLine) where
         (search (rules, own), search (rules, turn-snoc, goes-snoc))
     item-true (token.AsciiConstant b n) es fs gs gap next ordered =
         (own n (item.AsciiConstant b) ordered.0.0 (rw ordered.0.0 ordered.0.1), search (rules, turn-snoc, goes-snoc))
-    item-true e es fs gs gap next ordered = search (rules, expected-is, not-out, turn-snoc, goes-snoc)
+    item-true e es fs gs gap next ordered = search (rules, expected-is, turn-snoc, goes-snoc)
 
     -- the end of a line, with what is true of the rest
     end-true : (n : ℕ) (rest : List Item) (ss : List Location) →
@@ -203,7 +183,7 @@ module _ (lines : List SourceLine) where
             → AreAtTheirLines lines read origin line ((if c || u then item.LineEnd else item.LineMark mark) ∷ rest) ss
         by true u e is next =
             rw (h.goes ∙ e) (next read (with_line_end origin) (line ++ item.LineEnd ∷ [])
-            (search (rules, expected-is, not-out, turn-snoc, goes-snoc)))
+            (search (rules, expected-is, turn-snoc, goes-snoc)))
         by false true e is next =
             rw (h.goes ∙ e) (each texts line read _ (λ now allowed. next now _ [] (known now (with_line_end origin) (λ now_read real.
             let plain = no-turn (is_whole at) refl real is in rw (h.obeys (allowed plain.0 now_read) (omega arith), plain.1) refl))))
@@ -216,7 +196,7 @@ module _ (lines : List SourceLine) where
       → AreTrue (e ∷ es) (e ∷ fs) (e ∷ gs)
   first-true e es fs gs gap next before at white counted stretch number read origin line h ordered =
       let here = item-true before at counted stretch number read origin in
-      let after = here (line ++ item.Blank ∷ []) (blank-known before at counted stretch number read origin line h) in
+      let after = here (line ++ item.Blank ∷ []) (search (rules, turn-snoc, goes-snoc)) in
       grind (arith, nat_tests, blanks-item, here line h e es fs gs gap next, after e es fs gs gap next)
 
   -- a run that rule 2 does not remove, before other tokens
@@ -250,7 +230,7 @@ module _ (lines : List SourceLine) where
           next before at white counted true after.0 read origin line (grind (arith, h.obeys, h.turns, h.goes)) after.3
       by true joined false ends =
           let after = after-run texts number run es gaps ordered in
-          next before at white counted stretch number read origin line h (subst (λ n. AreClean texts n es) (after.2 ends) after.3)
+          next before at white counted stretch number read origin line h (subst (λ n. AreByLine texts n es) (after.2 ends) after.3)
       by false none b ends =
           kept-true run es fs gs gaps none next before at white counted stretch number read origin line h ordered
 
@@ -277,22 +257,17 @@ module _ (lines : List SourceLine) where
       rw (← append-nil (left_of_run (map white_inner_end run)), ← append-nil (left_or_join run))
       (run-true run [] [] [] gaps at-end before at white counted stretch number read origin line h ordered)
   map_runs-true run (token.Join ∷ es) gaps = run-pushed run token.Join es gaps refl (λ r. map_runs-true r es)
-  map_runs-true run (token.White ∷ es) gaps = run-pushed run token.White es gaps refl (λ r. map_runs-true r es)
-  map_runs-true run (token.LineEnd n ∷ es) gaps =
-      run-pushed run (token.LineEnd n) es gaps refl (λ r. map_runs-true r es)
-  map_runs-true run (token.InnerLineEnd n ∷ es) gaps =
-      run-pushed run (token.InnerLineEnd n) es gaps refl (λ r. map_runs-true r es)
-  map_runs-true run (e ∷ es) gaps =
-      let left = map_runs left_of_run [] (map white_inner_end es) in
-      let right : List Token = map_runs left_or_join [] es in
-      run-true run (e ∷ es) (e ∷ left) (e ∷ right) gaps (first-true e es left right refl (map_runs-true [] es refl))
+  map_runs-true run (e ∷ es) gaps = first_of (
+    search (rules, run-pushed, λ (r : List Token). map_runs-true r es),
+    search (rules, run-true, first-true, map_runs-true [] es refl),
+  )
 
   -- the items of a part are at their own lines if its tokens follow line by line from the opening mark on
-  pub part-true : (line : ℕ) (es : List Token) → AreByLine texts line es
+  pub part-true : (line : ℕ) (es : List Token) → AreByLine texts line (without_faults es)
       → IsAtItsLine lines (origin_at lines line) (part_items lines line es) (part_locations lines line es)
   part-true line es ordered read origin begins =
       let clean = without_faults es in
-      let spaced = with_spaces-by_line texts clean line (without_faults-by_line texts es line ordered) in
+      let spaced = with_spaces-by_line texts clean line ordered in
       rw (part_items-by_origin lines line es, inner-spaced texts clean)
       (map_runs-true [] (with_spaces texts clean) refl None turn.NoItem false (origin_at lines line) false line read origin []
       (record { counts = λ out real. refl; obeys = λ is real. begins is; turns = λ real. refl; goes = refl }) spaced)

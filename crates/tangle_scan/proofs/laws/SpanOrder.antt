@@ -11,13 +11,13 @@ use Rattle.std.proofs.lemmas.List.Elements.{All-nil, All-cons}
 use Rattle.std.proofs.lemmas.List.Kept.{AllPairs-cons}
 use Rattle.tangle_lines.specs.Reading.{SourceLine}
 use Rattle.tangle_text.specs.declared.spans.Span.{Span}
-use Rattle.tangle_text.specs.Text.{IsSpan, text_from, texts_of}
+use Rattle.tangle_text.specs.Text.{IsSpan, texts_of}
 use Rattle.tangle_lexer.specs.declared.tokens.Token.{Token}
 use Rattle.tangle_lexer.specs.declared.tokens.Token.TheVariants as token
 use Rattle.tangle_lexer.specs.LinesOfParts.{body}
-use Rattle.tangle_lexer.specs.Steps.{tokens_from, all_tokens}
-use Rattle.tangle_lexer.proofs.laws.Points.{Point, point_at, text-is}
-use Rattle.tangle_lexer.proofs.laws.TokenOrder.{line_after, AreFromLine}
+use Rattle.tangle_lexer.specs.Steps.{all_tokens}
+use Rattle.tangle_lexer.proofs.laws.Points.{Point, point_at}
+use Rattle.tangle_lexer.proofs.laws.TokenOrder.{Precedes, span_end, line_after, AreFromLine}
 use Rattle.tangle_scan.specs.Rules.{without_backslashes, macro_tokens, macro_blanks, unmarked_items}
 use Rattle.tangle_scan.specs.Rules.{macro_items}
 use Rattle.tangle_scan.specs.Web.{Block, blocks, piece_of, macro_of}
@@ -25,7 +25,6 @@ use Rattle.tangle_scan.specs.ItemSpans.{item_spans}
 use Rattle.tangle_scan.specs.KeptBytes.{EndsBefore, AreInOrder}
 use Rattle.tangle_scan.proofs.lemmas.KeptTokens.{macro_blanks-kept, macro-kept}
 use Rattle.tangle_scan.proofs.laws.ItemSpans.{token_spans, alike-spans, part-spans}
-use Rattle.tangle_scan.proofs.laws.TokenSpans.{Precedes, Lead, lexemes-lead, text-reaches}
 use Rattle.tangle_scan.proofs.laws.WebLaws.{all-in_order}
 
 module _ (texts : List (List ℕ)) where
@@ -34,10 +33,9 @@ module _ (texts : List (List ℕ)) where
   AreFrom p [] = Unit {0}
   AreFrom p (s ∷ ss) = (Precedes p (point_at s.line s.start) × IsSpan texts s) × AreFrom (point_at s.line s.end) ss
 
-  spans-from : (line : ℕ) (p : Point) (ts : List Token)
-      → AreFromLine texts line ts → Lead (λ q. Unit {0}) p ts → AreFrom p (token_spans ts)
-  spans-from line p [] o h = tt
-  spans-from line p (x ∷ ts) o h = grind (arith, λ (q : Point). spans-from (line_after line x) q ts o.1)
+  spans-from : (line : ℕ) (p : Point) (ts : List Token) → AreFromLine texts line p ts → AreFrom p (token_spans ts)
+  spans-from line p [] h = tt
+  spans-from line p (x ∷ ts) h = grind (arith, spans-from (line_after line x) (span_end p x) ts h.1)
 
   earlier : (p q : Point) (ss : List Span) → Precedes p q → AreFrom q ss → AreFrom p ss
   earlier p q [] le h = tt
@@ -93,12 +91,7 @@ flat_map-twice f g (x ∷ xs) = grind (arith, nat_tests, flat_map-append f (g x)
 
 module _ (lines : List SourceLine) where
   all-from : AreFrom (texts_of lines) (point_at 0 0) (token_spans (all_tokens lines))
-  unfolding tokens_from
-  all-from =
-      spans-from (texts_of lines) 0 (point_at 0 0) (all_tokens lines) (all-in_order lines)
-      (lexemes-lead (texts_of lines) 0 _ (text_from 0 lines) (point_at 0 0) (point_at 0 0) (text-is lines)
-      (text-reaches (texts_of lines) (point_at 0 0) (point_at 0 0) (text_from 0 lines) (text-is lines)
-      (omega arith, λ e. omega arith)))
+  all-from = spans-from (texts_of lines) 0 (point_at 0 0) (all_tokens lines) (all-in_order lines)
 
   -- the spans of what is made of each block
   made-from : {X : Type 0} (spans : X → List Span) (make : Block → List X)

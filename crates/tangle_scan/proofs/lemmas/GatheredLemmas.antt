@@ -1,5 +1,4 @@
 -- What is stored of a web is what was gathered of it, block by block.
-use Rattle.std.proofs.Common.{rules}
 use Rattle.std.proofs.Common.{◌≡◌, ◌<◌, ℕ, ◌||◌, true, false, List, [], ◌∷◌, ◌++◌, map, length}
 use Rattle.std.proofs.Common.{None, Option, append-nil, append_assoc, get_or}
 use Rattle.std.specs.List.{All, AllZip, list_any}
@@ -9,6 +8,7 @@ use Rattle.std.proofs.lemmas.Bool.Decides.{nat_tests}
 use Rattle.std.proofs.lemmas.List.Folds.{list_any-append}
 use Rattle.std.proofs.lemmas.List.{map-append}
 use Rattle.digraph.specs.Graph.{row_at}
+use Rattle.tangle_lexer.specs.LinesOfParts.{body}
 use Rattle.tangle_lexer.specs.Heads.{is_head}
 use Rattle.tangle_lexer.specs.Runs.{IsRunIn, first_is_alone, unfolded}
 use Rattle.tangle_lexer.specs.declared.tokens.Token.{Token}
@@ -20,17 +20,12 @@ use Rattle.std.proofs.lemmas.List.Elements.{All-nil}
 use Rattle.std.proofs.lemmas.List.Concat.{flat_map-append}
 use Rattle.tangle_scan.specs.Texts.{TextRead, TextsRead, IsTextOf, item_uses, no_text, text_at, with_text}
 use Rattle.tangle_scan.specs.Web.{PieceRead, WebRead, is_all_macros, no_piece, token_faults}
-use Rattle.tangle_scan.specs.WebBuilder.{AreTextsOf, IsGathered, StoredBuilder, nothing_stored, part_head}
+use Rattle.tangle_scan.specs.WebBuilder.{AreTextsOf, IsGathered, StoredBuilder, part_head}
 use Rattle.tangle_scan.specs.WebBuilder.{with_macro, with_section}
 use Rattle.std.proofs.Math.ListN.{get_or-map, get_or-eq_default}
 use Rattle.tangle_scan.proofs.lemmas.UnfoldedTokens.{all_macros-unfolded, faults-unfolded, macro_faults-unfolded, unfolded-no_head}
 use Rattle.tangle_scan.proofs.lemmas.TextLemmas.{no-items}
-use Rattle.tangle_scan.proofs.lemmas.WebBuilderLemmas.{body-whole, no-section, no-blocks, no-head_faults}
-use Rattle.tangle_scan.proofs.lemmas.WebBuilderLemmas.{sections-added, blocks-added, faults-added}
-
-pub nothing-gathered : (source : SourceRead) (stored : StoredBuilder) → stored ≡ nothing_stored
-    → IsGathered source [] stored
-nothing-gathered source stored is = search rules
+use Rattle.tangle_scan.proofs.lemmas.WebBuilderLemmas.{no-head, block-added}
 
 -- a piece is put at the end
 
@@ -66,13 +61,13 @@ module _ (source : SourceRead) (stored : StoredBuilder) (before tokens : List To
       (record stored { faults = stored.faults ++ token_faults source.files source.lines None tokens })
   front-stored runs h =
       let faults = faults-unfolded source.files source.lines token.White tokens runs in
-      grind (arith, nat_tests, plain, no-blocks, no-section, body-whole, no-head_faults, faults, append-nil)
+      grind (arith, nat_tests, plain, no-head source.files source.lines 0, faults, append-nil)
 
   pub section-stored : All (IsRunIn texts) tokens → IsGathered source before stored
       → IsGathered source (before ++ token.Section ∷ all) (with_section source tokens stored)
   section-stored runs h =
       let same = faults-unfolded source.files source.lines token.White tokens runs in
-      grind (arith, nat_tests, plain, sections-added, blocks-added, faults-added, same, append-nil)
+      grind (arith, nat_tests, plain, block-added source.files source.lines 0, same, append-nil)
 
   pub macro-stored : (line : ℕ) → All (IsRunIn texts) tokens → first_is_alone tokens ≡ true
       → IsGathered source before stored
@@ -80,7 +75,9 @@ module _ (source : SourceRead) (stored : StoredBuilder) (before tokens : List To
       (with_macro source line tokens (macro_items texts all) stored)
   macro-stored line runs alone h =
       let same = macro_faults-unfolded source.files source.lines tokens runs alone in
-      grind (arith, nat_tests, plain, sections-added, blocks-added, faults-added, body-whole, same, flat_map-append, list_any-append, append-nil, append_assoc)
+      let whole : body all ≡ all = (no-head source.files source.lines 0 all plain).0 in
+      let added = block-added source.files source.lines 0 (token.MacroStart line) all before (grind arith) plain in
+      grind (arith, nat_tests, whole, added, same, flat_map-append, list_any-append, append-nil, append_assoc)
 
   pub piece-stored : (occurrence : Option ℕ) (line : ℕ) (text : TextRead) → All (IsRunIn texts) tokens
       → IsTextOf texts (part_items source.lines line all) text → IsGathered source before stored
@@ -94,7 +91,9 @@ module _ (source : SourceRead) (stored : StoredBuilder) (before tokens : List To
   piece-stored x line text runs is h =
       let same = faults-unfolded source.files source.lines token.White tokens runs in
       let macros = all_macros-unfolded texts tokens in
-      grind (arith, nat_tests, plain, sections-added, blocks-added, faults-added, body-whole, same, macros, text-pushed, flat_map-append, map-append, list_any-append, append-nil)
+      let whole : body all ≡ all = (no-head source.files source.lines 0 all plain).0 in
+      let added = block-added source.files source.lines 0 (part_head line x) all before (grind arith) plain in
+      grind (arith, nat_tests, plain, whole, added, same, macros, text-pushed, flat_map-append, map-append, list_any-append, append-nil)
 
 -- the text of a piece with this number
 

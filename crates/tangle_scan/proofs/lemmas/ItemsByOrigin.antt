@@ -21,9 +21,6 @@ use Rattle.tangle_scan.specs.Passes.{line_item, items_by_origin}
 use Rattle.tangle_scan.specs.Passes.{turn_after_item, is_number_sign, is_turn_item, is_whole}
 use Rattle.tangle_scan.specs.Rules.{is_front_gap}
 
-pub same-is : (p q : Origin) → same_origin p q ≡ true → p ≡ q
-same-is p q h = grind (arith, nat_tests)
-
 -- how much of a turn is on a line of C with these items
 
 abbrev pub is_gap_item : Item → Bool
@@ -105,7 +102,7 @@ module _ (lines : List SourceLine) where
           (if continued || (last || same) then next_line counted else next) rest
       by true last turns same e is = search (rules, line_end-alone)
       by false true turns same e is = search (rules, line_end-alone)
-      by false false turns same e is = grind (arith, nat_tests, same-is)
+      by false false turns same e is = grind (arith, nat_tests)
 
   -- what is made after this token, whatever is before it
   abbrev IsMade : Token → List Token → Type 0

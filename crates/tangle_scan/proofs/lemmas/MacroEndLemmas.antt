@@ -62,17 +62,13 @@ module _ (texts : List (List ℕ)) where
       rw ends.parts (parts_whole true true ends.first ends.others ends.apart (ends.last.joins ∙ run.ends) xs)
   token_whole x run kept xs = grind (arith, nat_tests, written_last)
 
-  token_dropped : (t : Token) (xs : List Item) → is_dropped_token texts t ≡ true
-      → without_end texts (xs ++ written_items texts t) ≡ without_end texts xs
-  token_dropped x xs dropped = grind (arith, nat_tests, append-nil, dropped_last)
-
   module _ (tokens front : List Token) (t : Token) (is : tokens ≡ front ++ t ∷ []) where
     pushed : spaced_items texts tokens ≡ spaced_items texts front ++ written_items texts t
     pushed = rw is (sym (flat_map_more (written_items texts) [] front t))
 
     pub dropped-at : is_dropped_token texts t ≡ true
         → without_end texts (spaced_items texts front) ≡ without_end texts (spaced_items texts tokens)
-    dropped-at dropped = rw pushed (sym (token_dropped t (spaced_items texts front) dropped))
+    dropped-at dropped = rw pushed (sym (grind (arith, nat_tests, append-nil, dropped_last)))
 
     pub written-at : IsRunIn texts t → is_dropped_token texts t ≡ false
         → without_end texts (spaced_items texts tokens) ≡ spaced_items texts tokens

@@ -27,9 +27,6 @@ use Rattle.tangle_scan.specs.Passes.{is_dropped, is_solid, is_spaced, items_ahea
 use Rattle.tangle_scan.proofs.lemmas.MacroItemLemmas.{ahead-item, first-solid}
 use Rattle.tangle_scan.proofs.lemmas.RunItems.{run-ends}
 
-part-plain : (p : RunPart) → (is_constant (part_token p) ≡ false) × (is_run (part_token p) ≡ false)
-part-plain x = grind arith
-
 module _ (texts : List (List ℕ)) where
   -- rule 1 beside runs, by the last part of the one and the first part of the other
 
@@ -43,7 +40,7 @@ module _ (texts : List (List ℕ)) where
       → would_merge_in_run texts e f ≡ would_merge texts (last_token texts e) (first_token texts f)
   merges-ends e (token.Run s) before run =
       let ends = run-ends texts s run in
-      rw ends.parts (sym (ends.merges e) ∙ merges-plain e (part_token ends.first) before (part-plain ends.first).1)
+      rw ends.parts (sym (ends.merges e) ∙ merges-plain e (part_token ends.first) before (grind arith))
   merges-ends e f before run = merges-plain e f before refl
 
   -- rule 1 at a gap, of which no join is a part
@@ -145,7 +142,7 @@ module _ (texts : List (List ℕ)) where
       let whole : are_apart false (is_name_part e) ends.others ≡ true = grind arith in
       let stays : ends_in backslash texts (last_of e ends.others) ≡ false = ends.last.joins ∙ run.ends in
       let kept = part-kept ends.first _ ends.others es whole stays in
-      let more = parts-ahead e in_name _ ends.others es (part-plain ends.first).0 whole stays in
+      let more = parts-ahead e in_name _ ends.others es (grind arith) whole stays in
       rw ends.parts (grind (arith, ahead-item texts at e (map part_token ends.others ++ es)))
 
   -- the items ahead of an item or a run, which is not dropped

@@ -27,7 +27,7 @@ use Rattle.tangle_text.specs.Bytes.{slash}
 use Rattle.tangle_scan.specs.Rules.{blanks}
 use Rattle.tangle_scan.specs.Passes.{IsPartRead, IsPassed, last_of, from_gap, start_of_gap, items_after, spaced_after, blank_before, origin_of}
 use Rattle.tangle_scan.specs.Passes.{ends_open, run_ends_in, would_merge_in_run}
-use Rattle.tangle_scan.specs.Passes.{is_joined, is_item, items_by_origin, keeps_white, last_after_line_end}
+use Rattle.tangle_scan.specs.Passes.{is_joined, is_item, keeps_white, last_after_line_end}
 use Rattle.tangle_scan.specs.Passes.{items_at, counted_after_token, blank_if}
 use Rattle.tangle_scan.specs.declared.turns.Turn.{Turn}
 use Rattle.tangle_scan.specs.declared.turns.Turn.TheVariants as turn
@@ -83,23 +83,12 @@ item-spaced : (texts : List (List ℕ)) (gap : List Token) (prev e : Token) (es 
     ≡ left_of_run gap ++ (white_if merges ++ e ∷ without_joins [] (spaced_after texts e es))
 item-spaced texts gap prev x es y solid is joined = grind (arith, has_join-push, append_assoc)
 
--- rules 4 and 5 at an item
-item-made : (lines : List SourceLine) (before : Option Token) (at : Turn) (counted : Origin) (blank : Bool) (e : Token)
-    (es : List Token) → is_solid e ≡ true
-    → items_by_origin lines before at counted (white_if blank ++ e ∷ es)
-    ≡ blank_if blank ++ (items_at lines e
-    ++ items_by_origin lines (Some e) (turn_after (texts_of lines) at e) (counted_after_token lines counted e) es)
-item-made lines before at counted y x es solid = grind arith
-
 -- how much of a turn is on the line after the first part of a run, and after the others
 
 abbrev is_settled : Turn → Bool
 is_settled turn.NoItem = false
 is_settled turn.NumberSign = false
 is_settled at = true
-
-run-settled : (texts : List (List ℕ)) (at : Turn) (s : Span) → is_settled (turn_after_run texts at s) ≡ true
-run-settled texts at s = grind arith
 
 -- the parts of a run after the first one
 parts-ahead : (lines : List SourceLine) (e : Token) (at : Turn) (counted : Origin) (after_word : Bool)
@@ -128,7 +117,7 @@ module _ (lines : List SourceLine) (whole items kept : List Item) (at : PartStat
       → IsPassed lines whole items kept at (e ∷ es)
       → whole ≡ items ++ (blank_if (blank_before lines at e) ++ (items_at lines e
       ++ ahead lines e (turn_after texts at.turn e) (counted_after_token lines (origin_of at.counted) e) es))
-  item-ahead e es solid run h = search (rules, item-spaced, item-blanks, item-made)
+  item-ahead e es solid run h = search (rules, item-spaced, item-blanks)
 
   -- after an item or a run, with which the items end
   pub item-passed : (new : List Item) (next : PartState) (e : Token) (es : List Token)
@@ -147,7 +136,7 @@ module _ (lines : List SourceLine) (whole items kept : List Item) (at : PartStat
       → whole ≡ items ++ (blank_if (blank_before lines at (part_token p)) ++ (map part_item (p ∷ ps)
       ++ ahead lines (last_of (part_token p) ps) (turn_after_run texts at.turn s) (origin_of at.counted) es))
   part-ahead s p ps es is number apart h =
-      grind (arith, nat_tests, item-ahead (part_token p) (map part_token ps ++ es), parts-ahead lines, run-settled texts at.turn s)
+      grind (arith, nat_tests, item-ahead (part_token p) (map part_token ps ++ es), parts-ahead lines)
 
   pub passed-whole : (es : List Token) → es ≡ [] → IsPassed lines whole items kept at es
       → items ++ blank_if (ends_open texts at) ≡ whole

@@ -3,7 +3,7 @@ use Rattle.std.proofs.Common.{arith}
 use Rattle.std.proofs.Common.{◌≡◌, ◌<◌, ℕ, ◌+◌, zero, suc, List, [], ◌∷◌, length, drop, get_or, slice_get, Some, refl}
 use Rattle.tangle_text.specs.Regions.{unit_of}
 use Rattle.tangle_text.specs.declared.regions.Region.TheVariants as region
-use Rattle.tangle_scan.specs.RawStrings.{size_by, quoted_size, follows_r, may_have_fault}
+use Rattle.tangle_scan.specs.RawStrings.{size_by, quoted_size, may_have_fault}
 use Rattle.std.proofs.Common.{false, List, Option, None}
 use Rattle.std.specs.List.{list_any}
 use Rattle.std.proofs.lemmas.Bool.{or_parts}
@@ -28,13 +28,9 @@ size_step (b ∷ bytes) (suc end) h =
     let two : suc end + 2 ≡ suc (end + 2) = omega arith in
     rw (one, two) (size_step bytes end (omega arith))
 
-uncut : (files : FileTable) (lines : List SourceLine) (word : Option Span) (s : Span)
-    → follows_r (texts_of lines) s ≡ false → raw_fault files lines word (Some s) ≡ []
-uncut files lines x s h = grind arith
-
 no_raw_fault : (files : FileTable) (lines : List SourceLine) (word : Option Span) (es : List Token)
     → list_any (may_have_fault (texts_of lines)) es ≡ false → raw_fault files lines word (quoted_ahead es) ≡ []
-no_raw_fault files lines word (token.Span span_kind.Quoted s ∷ es) h = grind (arith, uncut, or_parts)
+no_raw_fault files lines word (token.Span span_kind.Quoted s ∷ es) h = grind (arith, or_parts)
 no_raw_fault files lines None es h = grind arith
 no_raw_fault files lines (Some w) es h = grind arith
 

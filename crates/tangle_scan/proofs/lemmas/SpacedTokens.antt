@@ -9,7 +9,6 @@ use Rattle.tangle_lexer.specs.declared.tokens.Token.{Token}
 use Rattle.tangle_lexer.specs.declared.tokens.Token.TheVariants as token
 use Rattle.tangle_lexer.specs.Runs.{IsRunIn}
 use Rattle.tangle_scan.specs.Rules.{is_macro}
-use Rattle.tangle_scan.specs.declared.items.Item.{Item}
 use Rattle.tangle_scan.specs.declared.items.Item.TheVariants as item
 use Rattle.tangle_scan.specs.Passes.{first_token}
 use Rattle.tangle_scan.proofs.lemmas.RestLemmas.{split-at}
@@ -36,13 +35,9 @@ module _ (texts : List (List ℕ)) where
         ≡ spaced_items texts ts ++ ((blank_if blank ++ replicate n item.LineEnd) ++ written_items texts t)
     token-pushed blank n t = grind (arith, flat_map-append, gap-pushed, append_assoc, append-nil)
 
-  first-token : (t : Token) (items : List Item) → IsRunIn texts t
-      → is_macro texts (written_items texts t ++ items) ≡ is_macro texts (written_items texts (first_token texts t) ++ items)
-  first-token x items run = grind arith
-
   -- a macro begins with an identifier if its first token does
   pub macro_by_first : (tokens : List Token) (i : ℕ) → i < length tokens → All (IsRunIn texts) tokens
       → is_macro texts (spaced_items texts (drop i tokens))
       ≡ is_macro texts (written_items texts (first_token texts (get_or tokens i token.Section))
       ++ spaced_items texts (drop (i + 1) tokens))
-  macro_by_first tokens i low runs = grind (arith, split-at, first-token)
+  macro_by_first tokens i low runs = grind (arith, split-at)

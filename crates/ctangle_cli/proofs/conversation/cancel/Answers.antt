@@ -1,11 +1,9 @@
-use Rattle.std.proofs.Common.{[], codes, refl}
+use Rattle.std.proofs.Common.{rules}
 use Rattle.ctangle_cli.specs.Conversation.IsReply.{IsDropped, IsReported}
 use Rattle.ctangle_cli.proofs.conversation.cancel.Goals as goal
 
 pub returns-in-None : goal.returns-in-None
-returns-in-None g c = λ session.
-    (codes "no BadCommand\n", rw c.in-None.is ([], IsReported _ refl refl refl, refl), c.say.ensures)
+returns-in-None g c = λ session. (_, rw c.in-None.is (search (rules, IsReported)), c.say.ensures)
 
 pub returns-in-Some : goal.returns-in-Some
-returns-in-Some g c = λ session.
-    (codes "ok\n", rw c.in-Some.is ([], IsDropped _ refl refl, refl), c.say-in-Some.ensures)
+returns-in-Some g c = λ session. (_, rw c.in-Some.is (search (rules, IsDropped)), c.say-in-Some.ensures)

@@ -1,6 +1,6 @@
-use Rattle.std.proofs.Common.{[], ◌∷◌, Err, Ok, inl, refl}
+use Rattle.std.proofs.Common.{rules}
+use Rattle.std.proofs.Common.{Err, Ok, inl, refl}
 use Rattle.std.proofs.lemmas.Result.{err_from_is_err_and}
-use Rattle.tangle_session.specs.Headline.{Apply}
 use Rattle.ctangle_cli.specs.Conversation.IsReply.{IsEdit, IsHeld}
 use Rattle.ctangle_cli.proofs.conversation.make_or_hold.Goals as goal
 
@@ -8,22 +8,20 @@ pub returns-in_err-apply-in-None : goal.returns-in_err-apply-in-None
 returns-in_err-apply-in-None c = λ request is edit.
     let left = err_from_is_err_and c.from_residual-in_err-apply-in-None.result
     c.from_residual-in_err-apply-in-None.ensures.1 in
-    let refusal = c.in_err-apply-in-None.field-0.0 in
     rw (left.1, left.2, c.in-None.is) (inl (
-      Apply c.in_ok-edit.edit (Err refusal) ∷ [],
-      IsEdit c.in_ok-edit.edit (Err refusal) (rw c.in_ok-edit.was at is) refl,
-      (c.apply.new.self, c.in_err-apply-in-None.ensures, refl),
+      _,
+      IsEdit _ (Err c.in_err-apply-in-None.field-0.0)
+          (rw c.in_ok-edit.was at is) refl,
+      (_, c.in_err-apply-in-None.ensures, refl),
     ))
 
 pub returns-in_ok-apply-in-None : goal.returns-in_ok-apply-in-None
-returns-in_ok-apply-in-None c = λ request is edit.
-    rw c.in-None.is (inl (
-      Apply c.in_ok-edit.edit (Ok c.in_ok-apply-in-None.field-0) ∷ [],
-      IsEdit c.in_ok-edit.edit (Ok c.in_ok-apply-in-None.field-0) (rw c.in_ok-edit.was at is) refl,
-      (c.apply.new.self, c.in_ok-apply-in-None.ensures, refl),
-    ))
+returns-in_ok-apply-in-None c = λ request is edit. rw c.in-None.is (inl (
+  _,
+  IsEdit _ (Ok c.in_ok-apply-in-None.field-0)
+      (rw c.in_ok-edit.was at is) refl,
+  (_, c.in_ok-apply-in-None.ensures, refl),
+))
 
 pub returns-in_ok-push-in-Some : goal.returns-in_ok-push-in-Some
-returns-in_ok-push-in-Some c = λ request is edit.
-    rw (c.in-Some.is, c.in_ok-push-in-Some.ensures.items)
-    (inl ([], IsHeld c.in-Some.held.items c.in_ok-edit.edit (rw c.in_ok-edit.was at is) refl, refl))
+returns-in_ok-push-in-Some c = search (rules, IsHeld)

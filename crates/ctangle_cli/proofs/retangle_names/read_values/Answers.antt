@@ -1,4 +1,5 @@
-use Rattle.std.proofs.Common.{◌∙◌, codes, map, refl, sym, ap, List, option_map}
+use Rattle.std.proofs.Common.{rules}
+use Rattle.std.proofs.Common.{◌∙◌, codes, map, refl, ap, List}
 use Rattle.clap.specs.Words.{Text, takes}
 use Rattle.ctangle_cli.proofs.RetangleLemmas.{err_gives, no_fault, no_names, some_fault, value_is}
 use Rattle.ctangle_cli.specs.RetangleArguments.{retangle_app}
@@ -28,8 +29,4 @@ returns-clause-ok g c =
     let arguments : List Text = map g.S.AsStr.text c.args.arguments.now in
     let value = λ (id : Text). value_is c.in_ok-command.command retangle_app c.in_ok-matches.matches
     arguments id c.in_ok-command.ensures.app refl c.in_ok-matches.ensures.matches in
-    record {
-      web = value (codes "WEB") ∙ (sym c.get_str.ensures ∙ ap (option_map (λ s. s.now)) c.unwrap-web.ensures);
-      change = value (codes "change") ∙ sym c.get_str-change.ensures;
-      out = value (codes "out") ∙ sym c.get_str-out.ensures;
-    }
+    search (rules, value (codes "WEB"), value (codes "change"), value (codes "out"))

@@ -1,3 +1,4 @@
+use Rattle.std.proofs.Common.{rules}
 use Rattle.std.proofs.Common.{refl}
 use Rattle.ctangle_cli.specs.Run.EndsUnstarted.{IsMisused, IsCutAtUsage, IsUnnamed}
 use Rattle.ctangle_cli.specs.Run.RunEnds.{IsUnstarted}
@@ -10,14 +11,10 @@ returns-in-Ok-say g c =
     (refl, (refl, refl), refl) refl)
 
 pub returns-in-Err : goal.returns-in-Err
-returns-in-Err g c =
-    IsUnstarted (IsCutAtUsage (c.in-Err-Usage.ensures.usage (λ e. cc)) c.in-Err.ensures
-    (refl, (refl, refl), refl) refl)
+returns-in-Err g c = search (rules, IsUnstarted, IsCutAtUsage)
 
 pub returns-in-Err-NoMemory : goal.returns-in-Err-NoMemory
-returns-in-Err-NoMemory g c =
-    IsUnstarted (IsUnnamed (tries_from _ _ c.write_load.result _ c.write_load.ensures)
-    (refl, (refl, refl), refl) refl)
+returns-in-Err-NoMemory g c = search (rules, IsUnstarted, IsUnnamed, tries_from)
 
 pub returns-in-Ok : goal.returns-in-Ok
 returns-in-Ok g c = c.run_named.ensures _ c.in-Ok.ensures.ok

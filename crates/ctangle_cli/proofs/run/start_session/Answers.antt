@@ -1,3 +1,4 @@
+use Rattle.std.proofs.Common.{rules}
 use Rattle.std.proofs.Common.{[], append-nil, refl, sym}
 use Rattle.tangle_loading.specs.Endings.{ending_of}
 use Rattle.ctangle_cli.specs.Run.EndsUnstarted.{IsUnloaded}
@@ -22,9 +23,4 @@ returns-in-Err-start-clause-unstarted g c =
     (tries_from _ _ c.write_load-in-Err-start.result _ c.write_load-in-Err-start.ensures) refl
 
 pub returns-clause-started : goal.returns-clause-started
-returns-clause-started g c = record {
-  files = _;
-  loads = c.in-Ok.ensures.gives;
-  started = rw c.in-Ok.ensures.roles at c.in-Ok-start.ensures.started;
-  unwritten = refl;
-}
+returns-clause-started g c = search rules

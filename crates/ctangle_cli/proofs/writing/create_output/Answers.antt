@@ -1,3 +1,4 @@
+use Rattle.std.proofs.Common.{rules}
 use Rattle.std.proofs.Common.{◌∷◌, [], inr, refl}
 use Rattle.std.proofs.lemmas.Result.{on_ok_weaker, on_err_weaker}
 use Rattle.ctangle_cli.proofs.WriteLemmas.{took, took_front, wrote, wrote_within, wrote_prefix}
@@ -25,6 +26,4 @@ pub returns-in-Err-clause-prefix : goal.returns-in-Err-clause-prefix
 returns-in-Err-clause-prefix g c =
     let put = took_front _ (g.F.Out.Sink.stream c.in_ok-out.out)
     (g.F.Out.Sink.stream c.write_output_at-written.new.sink) c.in-Err.field-0 c.requires c.in-Err.ensures.written in
-    wrote_prefix c.close-closed.result _ _ _ _ _ c.args.name.now _
-    put.0 c.in_ok-out.ensures.empty c.in_ok-out.ensures.added put.1
-    c.close-closed.ensures.whole c.close-closed.ensures.prefix
+    search (rules, wrote_prefix)

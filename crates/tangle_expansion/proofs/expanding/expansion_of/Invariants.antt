@@ -4,4 +4,4 @@ use Rattle.tangle_bodies.specs.NodeBodies.{body_uses}
 use Rattle.tangle_expansion.proofs.expanding.expansion_of.Given as goal
 
 abbrev pub invariant-loop-id : goal.invariant-loop-id
-invariant-loop-id l = l.used.items ≡ map (λ id. kept_at l.kept (suc id)) (take l.id-index (body_uses l.body.value))
+invariant-loop-id l = l.used.items ≡ map (λ id. kept_at l.kept (suc id)) (take l.id-index (body_uses l.body))

@@ -6,7 +6,7 @@ use Rattle.tangle_expansion.proofs.passing.after_bytes.Goals as goal
 
 pub loop-at-preserved : goal.loop-at-preserved
 loop-at-preserved c =
-    let body = c.args.body.now in
+    let items = c.args.items.now in
     let at = c.loop-at.at in
     let next = c.cursor_after-at in
     let inv = c.loop-at.invariant in
@@ -14,8 +14,8 @@ loop-at-preserved c =
     record {
       tag = omega (arith, inv.tag, next.ensures.tag);
       start = omega (arith, inv.start, next.ensures.start);
-      text = λ numbers used.
-          inv.text numbers used
-          ∙ passes_bytes numbers body at next.result c.index-tag.result.now (omega arith) c.index-tag.ensures next.ensures
+      text = λ node numbers used.
+          inv.text node numbers used
+          ∙ passes_bytes node numbers items at next.result c.index-tag.result.now (omega arith) c.index-tag.ensures next.ensures
           c.args.from.start inv.start none used;
     }

@@ -6,5 +6,5 @@ use Rattle.tangle_expansion.proofs.writing.write_text.Goals as goal
 pub returns : goal.returns
 returns g c =
     written_whole _ _ _ _
-    (omega (arith, light_fits c.args.numbers.now c.write_text_after.ensures.short c.args.expansion.now c.requires))
+    (omega (arith, light_fits c.args.numbers.now c.write_text_after.ensures.short _ c.requires.light))
     c.write_text_after.ensures.writes

@@ -6,12 +6,15 @@ use Rattle.tangle_expansion.proofs.writing.write_to_use.Goals as goal
 
 pub loop-end-init : goal.loop-end-init
 loop-end-init g c =
-    let text = c.after_bytes-end.ensures.text c.args.text.now.numbers.now in
-    record { low = c.after_bytes-end.ensures.start; wrote = λ used last all more. rw (text used) more }
+    record {
+      low = c.after_bytes-end.ensures.start;
+      wrote = λ node used ours last all more.
+          rw (c.after_bytes-end.ensures.text node c.args.text.now.numbers.now used) more;
+    }
 
 pub returns-in-Use : goal.returns-in-Use
-returns-in-Use g c = λ used.
-    wrote_more _ _ _ _ _ _ _ _ _ _ (c.loop-end.invariant.wrote used)
+returns-in-Use g c = λ node used ours.
+    wrote_more _ _ _ _ _ _ _ _ _ _ (c.loop-end.invariant.wrote node used ours)
     (search (rules, passes_use))
     (rw (c.bytes_between-bytes.ensures, c.deref.ensures.value) at c.write_after-so_far.ensures)
 
@@ -20,18 +23,18 @@ loop-end-preserved g c =
     let text = c.args.text.now in
     record {
       low = c.after_bytes-end-in-loop-end.ensures.start;
-      wrote = λ used last all more.
+      wrote = λ node used ours last all more.
           wrote_more _ _ _ _ _ _ _ _ _ _
-          (wrote_more _ _ _ _ _ _ _ _ _ _ (c.loop-end.invariant.wrote used)
-          (passes_symbols text.numbers.now text.body.now c.loop-end.end c.cursor_after-next.result c.index-tag.result.now (omega arith)
+          (wrote_more _ _ _ _ _ _ _ _ _ _ (c.loop-end.invariant.wrote node used ours)
+          (passes_symbols node text.numbers.now text.items.now c.loop-end.end c.cursor_after-next.result c.index-tag.result.now (omega arith)
           c.index-tag.ensures c.cursor_after-next.ensures c.loop-end.at.start c.loop-end.invariant.low c.in_default.not-Use used)
           (rw (c.bytes_between-bytes.ensures, c.deref.ensures.value) at c.write_after-so_far.ensures))
-          refl c.write_symbols-so_far.ensures last all
-          (rw (c.after_bytes-end-in-loop-end.ensures.text text.numbers.now used) more);
+          refl (c.write_symbols-so_far.ensures node ours) last all
+          (rw (c.after_bytes-end-in-loop-end.ensures.text node text.numbers.now used) more);
     }
 
 pub returns : goal.returns
-returns g c = λ used.
-    wrote_more _ _ _ _ _ _ _ _ _ _ (c.loop-end.invariant.wrote used)
+returns g c = λ node used ours.
+    wrote_more _ _ _ _ _ _ _ _ _ _ (c.loop-end.invariant.wrote node used ours)
     (search (rules, stops_at_end))
     (rw (c.bytes_between-rest.ensures, c.deref-2.ensures.value) at c.write_after.ensures)

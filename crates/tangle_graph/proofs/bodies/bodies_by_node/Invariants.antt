@@ -1,5 +1,5 @@
 use Rattle.std.proofs.Common.{◌≡◌, length}
-use Rattle.tangle_graph.specs.Bodies.{node_bodies}
+use Rattle.tangle_bodies.specs.NodeBodies.{node_bodies}
 use Rattle.tangle_graph.proofs.PushLemmas.{HoldsAtEach, IsBodyMade}
 use Rattle.tangle_graph.proofs.bodies.bodies_by_node.Given as goal
 

@@ -1,15 +1,16 @@
 use Rattle.std.proofs.Common.{arith}
 use Rattle.std.proofs.Common.{rules}
 use Rattle.std.proofs.lemmas.Bool.Decides.{nat_tests}
-use Rattle.std.proofs.Common.{◌∙◌, ap, refl, sym}
+use Rattle.std.proofs.Common.{◌∙◌, [], ap, refl, sym}
 use Rattle.std.proofs.lemmas.List.{length-map}
 use Rattle.std.proofs.lemmas.Option.{IfSome_then}
 use Rattle.digraph.specs.Graph.{row_at}
-use Rattle.tangle_bodies.specs.NodeBodies.{names_at}
+use Rattle.tangle_bodies.specs.NodeBodies.{ItemsRead}
 use Rattle.tangle_bodies.specs.Nodes.{title_at}
 use Rattle.tangle_graph.proofs.BodyLemmas.{new_unless_same}
 use Rattle.tangle_graph.proofs.BodyMakingLemmas.{body_made, body_of_items, new_if_pieces, numbers, uses_below}
 use Rattle.tangle_graph.proofs.bodies.body_after.Goals as goal
+use Rattle.tangle_graph.proofs.bodies.body_after.Goals.{then-has_new_shape+in_ok-body-2, else-has_new_shape+in_ok-body-3}
 
 pub make-requires : goal.make-requires
 make-requires c = search (rules, numbers, length-map)
@@ -18,42 +19,45 @@ pub has_shape_of-has_new_shape-requires-clause-inside : goal.has_shape_of-has_ne
 has_shape_of-has_new_shape-requires-clause-inside c =
     grind (arith, nat_tests, uses_below)
 
-pub returns-then-has_uses_of-clause-body : goal.returns-then-has_uses_of-clause-body
-returns-then-has_uses_of-clause-body c = search (rules, body_of_items)
-
-pub returns-then-has_uses_of-clause-new_shape : goal.returns-then-has_uses_of-clause-new_shape
-returns-then-has_uses_of-clause-new_shape c =
-    let names = c.args.grouped.names.now in
-    let old_names = c.in-Some.before.names.now in
-    let body = c.in-Some.before.body.now.value in
-    let same = c.if-not-has_new_shape.true in
-    let one = rw c.deref.ensures at (c.has_shape_of-has_new_shape.ensures.0 same) in
-    let uses = rw c.deref-then-not-has_new_shape.ensures at (c.has_uses_of.ensures.0 c.if-has_uses_of.true) in
-    rw c.in_ok-body-2.ensures.cases (IfSome_then c.args.old c.in-Some.ensures.shape (λ store held before shape is holds.
-    new_unless_same names old_names body body shape (before (title_at names c.args.node))
-    c.has_shape_of-has_new_shape.result (
-      (λ _. record { tags = refl; bytes = refl; names_used = ap (names_at names) (sym uses) ∙ one.names_used }),
-      λ _. same,
-    ) holds (held before is)))
-
 pub returns-clause-body : goal.returns-clause-body
 returns-clause-body c =
-    search (rules, body_made)
+    let row = c.row-row.ensures ∙ ap (row_at c.args.grouped.pieces.now) c.number.ensures in
+    elim c.if-has_new_shape.branch [
+      | then-has_new_shape+in_ok-body-2 w ↦ rw w.body-is (body_made c.args.grouped c.requires.grouped
+          c.args.node c.requires.node c.row-row.result.now row _ c.in_ok-make.ensures _ w.in_ok-body-2.ensures)
+      | else-has_new_shape+in_ok-body-3 w ↦ (
+          let is = w.in_ok-body-3.ensures in
+          let one = rw c.deref-2.ensures at (c.has_shape_of-has_new_shape.ensures.0 w.if-has_new_shape.false) in
+          rw w.body-is (body_of_items c.args.grouped c.requires.grouped
+          c.args.node c.requires.node c.row-row.result.now row _ c.in_ok-make.ensures {others = []} {other = []} _
+          (rw is (record { tags = one.tags; bytes = one.bytes; names_used = refl }))
+          (sym (ap (λ (i : ItemsRead). i.uses) is))))
+    ]
 
 pub returns-clause-new_shape : goal.returns-clause-new_shape
 returns-clause-new_shape c =
     let names = c.args.grouped.names.now in
     let old_names = c.in-Some.before.names.now in
-    let same = c.has_shape_of-has_new_shape.result in
     let had = c.in-Some.before.body.now.value in
-    IfSome_then c.args.old c.in-Some.ensures.shape (λ store held before shape is holds.
-    new_unless_same names old_names c.in_ok-body-3.body.value had shape (before (title_at names c.args.node)) same
-    (search rules)
-    holds (held before is))
+    let same = c.has_shape_of-has_new_shape.result in
+    elim c.if-has_new_shape.branch [
+      | then-has_new_shape+in_ok-body-2 w ↦ rw w.body-is
+          (IfSome_then c.args.old c.in-Some.ensures.shape (λ store held before shape is holds.
+          new_unless_same names old_names w.in_ok-body-2.body.value had shape (before (title_at names c.args.node)) same
+          (search rules) holds (held before is)))
+      | else-has_new_shape+in_ok-body-3 w ↦ (
+          let one = rw c.deref-2.ensures at (c.has_shape_of-has_new_shape.ensures.0 w.if-has_new_shape.false) in
+          rw w.body-is (IfSome_then c.args.old c.in-Some.ensures.shape (λ store held before shape is holds.
+          new_unless_same names old_names w.in_ok-body-3.body.value had shape (before (title_at names c.args.node)) same (
+            λ _. rw w.in_ok-body-3.ensures (record { tags = refl; bytes = refl; names_used = one.names_used }),
+            λ _. w.if-has_new_shape.false,
+          ) holds (held before is))))
+    ]
 
 pub returns-in_default-clause-body : goal.returns-in_default-clause-body
 returns-in_default-clause-body c =
-    search (rules, body_made)
+    body_made c.args.grouped c.requires.grouped c.args.node c.requires.node
+    c.row-row.result.now (c.row-row.ensures ∙ ap (row_at c.args.grouped.pieces.now) c.number.ensures) _ c.in_ok-make.ensures _ c.in_ok-body.ensures
 
 pub returns-in_default-clause-new_shape : goal.returns-in_default-clause-new_shape
 returns-in_default-clause-new_shape c =

@@ -1,3 +1,4 @@
+use Rattle.std.proofs.Common.{rules}
 use Rattle.std.proofs.Common.{refl}
 use Rattle.tangle_bodies.specs.Nodes.{title_at}
 use Rattle.tangle_graph.proofs.NameLemmas.{no_shape}
@@ -7,3 +8,8 @@ pub returns-in_err-before-clause-shape : goal.returns-in_err-before-clause-shape
 returns-in_err-before-clause-shape c = rw (c.in_ok-old.was, c.from_residual-in_err-before.ensures) (λ shapes is.
     no_shape shapes c.in_ok-old.old.now (title_at c.args.names.now c.args.node) is
     (rw c.names.ensures at (c.in_err-before.ensures.none refl)))
+
+pub returns-clause-shape : goal.returns-clause-shape
+returns-clause-shape c = rw c.in_ok-old.was (λ shapes is.
+    let own = is.bodies.each c.in_ok-before.before c.body.result.now.value c.body.ensures.body in
+    search (rules, own.shape))

@@ -75,10 +75,13 @@ loop-node-preserved c =
           record {
             kept = λ shapes is. rw w.kept-is
                 (kept_more is.after ordered i h node at _ _ on (kept shapes is)
-                (λ _. rw (w.in_ok-share.ensures shapes is
-                (unaffected _ _ _ shapes _ is.after ordered (i, h, sym at)
-                (c.in_ok-flags.ensures _ _ _ c.requires.new_shapes is.before is.after) on off))
-                at w.in_ok-put.ensures.ok));
+                (λ _. (
+                  _,
+                  w.in_ok-put.ensures.ok,
+                  w.in_ok-share.ensures shapes is
+                      (unaffected _ _ _ shapes _ is.after ordered (i, h, sym at)
+                      (c.in_ok-flags.ensures _ _ _ c.requires.new_shapes is.before is.after) on off),
+                )));
             work = listed_more listed order i node false _ _ _ h at (λ j. on j && off j) c.loop-node.invariant.work
                 (w.work-is ∙ sym (append-nil c.loop-node.work));
           })

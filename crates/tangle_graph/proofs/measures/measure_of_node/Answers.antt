@@ -1,3 +1,4 @@
+use Rattle.std.proofs.Common.{rules}
 use Rattle.std.proofs.Common.{◌≡◌, ◌≤◌, true, [], ◌∷◌, arith, min, refl}
 use Rattle.tangle_expansion.specs.Limits.{levels, weight_cap}
 use Rattle.tangle_bodies.specs.Flat.{own_weight}
@@ -18,9 +19,9 @@ weighty (x ∷ s) h = refl
 
 pub returns-then-own-eq0 : goal.returns-then-own-eq0
 unfolding weight_cap
-returns-then-own-eq0 c = λ shapes names title held known.
-    measure_without shapes title (weightless (shapes title)
-    (omega (arith, c.symbol_count.ensures names (shapes title) held weight_cap (omega arith))))
+returns-then-own-eq0 c = λ shapes names title held known. (
+    let counted = c.symbol_count.ensures names (shapes title) held weight_cap in
+    search (rules, measure_without, weightless, counted))
 
 pub returns : goal.returns
 unfolding weight_cap levels
@@ -28,7 +29,5 @@ returns c = λ shapes names title held known.
     let counted : c.min-own.result ≡ min weight_cap (own_weight (shapes title)) =
     omega (arith, c.symbol_count.ensures names (shapes title) held weight_cap (omega arith)) in
     measure_with shapes title names c.args.measures.now c.args.body.now held known _ _ _ _
-    (weighty (shapes title) (omega (arith, counted))) counted
-    (rw c.uses.ensures at c.weight_with_uses-weight.ensures)
-    (omega (arith, rw c.uses-2.ensures at c.greatest_depth.ensures, c.saturating_add.ensures, c.min-depth.ensures))
+    (weighty (shapes title) (omega (arith, counted))) counted (search rules) (search rules)
     c.is_within.ensures

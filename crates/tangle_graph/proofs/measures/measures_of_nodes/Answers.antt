@@ -12,13 +12,13 @@ use Rattle.tangle_bodies.specs.Flat.{depth, weight}
 use Rattle.tangle_bodies.specs.NodeBodies.{body_uses}
 use Rattle.tangle_bodies.specs.Nodes.{title_at}
 use Rattle.tangle_names.proofs.ContainsLemmas.{no_item}
-use Rattle.tangle_graph.specs.Bodies.{AreBodiesOf, node_bodies}
+use Rattle.tangle_bodies.specs.NodeBodies.{AreBodiesOf, node_bodies}
 use Rattle.tangle_graph.specs.NameGraphs.{AreUsesOf}
 use Rattle.tangle_bodies.specs.Shapes.{Shapes}
 use Rattle.tangle_bodies.specs.declared.nodes.NodeBody.{NodeBody}
 use Rattle.tangle_graph.specs.Measures.{measure_at, measure_of, no_piece_measure}
 use Rattle.tangle_graph.specs.declared.measures.Measure.{Measure}
-use Rattle.tangle_graph.proofs.BodyLemmas.{read}
+use Rattle.tangle_bodies.proofs.EachLemmas.{read}
 use Rattle.tangle_graph.proofs.GraphLemmas.{sound, use_up, uses_count}
 use Rattle.tangle_expansion.proofs.UsedLemmas.{deeper, heavier}
 use Rattle.tangle_graph.proofs.FlagLemmas.{value_next}

@@ -2,7 +2,7 @@ use Rattle.std.proofs.Common.{◌≡◌, ◌<◌, List, ℕ, length, take}
 use Rattle.std.specs.Prelude.{Contains}
 use Rattle.tangle_bodies.specs.Nodes.{title_at}
 use Rattle.tangle_bodies.specs.Shapes.{Shapes}
-use Rattle.tangle_graph.specs.Bodies.{AreBodiesOf, node_bodies}
+use Rattle.tangle_bodies.specs.NodeBodies.{AreBodiesOf, node_bodies}
 use Rattle.tangle_graph.specs.Measures.{measure_at, measure_of}
 use Rattle.tangle_graph.proofs.measures.measures_of_nodes.Given as goal
 

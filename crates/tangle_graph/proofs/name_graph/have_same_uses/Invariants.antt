@@ -1,6 +1,6 @@
 use Rattle.std.proofs.Common.{◌≡◌, map, take}
 use Rattle.tangle_bodies.specs.NodeBodies.{body_uses}
-use Rattle.tangle_graph.specs.Bodies.{node_bodies}
+use Rattle.tangle_bodies.specs.NodeBodies.{node_bodies}
 use Rattle.tangle_graph.proofs.name_graph.have_same_uses.Given as goal
 
 abbrev pub invariant-loop-n : goal.invariant-loop-n

@@ -13,11 +13,10 @@ use Rattle.tangle_graph.proofs.outputs.outputs.Goals as goal
 
 pub loop-id-init : goal.loop-id-init
 loop-id-init c =
-    let all = shapes c.args.web.now c.args.table.now in
-    let measured : c.entry-main.result ≡ measure_of all Program =
+    let measured : c.entry-main.result ≡ measure_of (shapes c.args.web.now c.args.table.now) Program =
     search rules in
-    let has = piece_by_measure all Program _ measured in
-    search rules
+    let has = piece_by_measure (shapes c.args.web.now c.args.table.now) Program _ measured in search
+    rules
 
 pub loop-id-preserved : goal.loop-id-preserved
 loop-id-preserved c =

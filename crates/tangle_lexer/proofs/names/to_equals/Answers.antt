@@ -2,7 +2,7 @@ use Rattle.std.proofs.Common.{arith}
 use Rattle.std.proofs.lemmas.Bool.Decides.{nat_tests}
 use Rattle.std.proofs.Common.{drop-drop}
 use Rattle.tangle_lexer.specs.Names.{count_before_equals}
-use Rattle.tangle_lexer.proofs.lemmas.NameLemmas.{equals-here, not-double}
+use Rattle.tangle_lexer.proofs.lemmas.NameLemmas.{equals-here}
 use Rattle.tangle_lexer.proofs.names.to_equals.Goals as goal
 
 pub returns-in-Double : goal.returns-in-Double
@@ -14,4 +14,4 @@ returns-in-Double c =
 pub returns-in_default : goal.returns-in_default
 returns-in_default c =
     let is = equals-here c.args.reader.now _ _ c.skip_to_equals.ensures c.equals_at-equals.ensures in
-    grind (arith, nat_tests, is, not-double)
+    grind (arith, nat_tests, is)

@@ -1,3 +1,6 @@
+use Rattle.std.proofs.lemmas.Bool.Decides.{nat_tests}
+use Rattle.tangle_lexer.proofs.lemmas.PlainTokens.{none-append}
+use Rattle.tangle_lexer.proofs.lemmas.BlockLemmas.{alone-append}
 use Rattle.tangle_text.specs.Text.{Cell}
 use Rattle.std.proofs.Common.{rules}
 use Rattle.std.proofs.Common.{◌≡◌, true, length, ap, sym, ◌∙◌, arith, length-drop}
@@ -7,7 +10,7 @@ use Rattle.tangle_lexer.specs.Lexemes.{with_line}
 use Rattle.tangle_lexer.specs.Simple.{begins_run}
 use Rattle.tangle_lexer.proofs.lemmas.BlockLemmas.{no-run, plain-reads-on}
 use Rattle.tangle_lexer.proofs.lemmas.RunLemmas.{run-read, run-reads-on}
-use Rattle.tangle_lexer.proofs.lemmas.SimpleLemmas.{simple-adds, run-adds, simple-again, simple-read, simple-occurrences_from, simple-special}
+use Rattle.tangle_lexer.proofs.lemmas.SimpleLemmas.{simple-adds, simple-again, simple-read, simple-occurrences_from, simple-special}
 use Rattle.tangle_lexer.proofs.simple.run_or_simple.Goals as goal
 use Rattle.tangle_lexer.proofs.simple.run_or_simple.Goals.{then-begins_run+in_default, else-begins_run}
 
@@ -25,7 +28,7 @@ returns-in-Some-clause-read c = λ lines ours.
 
 pub returns-in-Some-clause-adds : goal.returns-in-Some-clause-adds
 returns-in-Some-clause-adds c =
-    search (rules, run-adds)
+    search (rules, nat_tests, none-append, alone-append)
 
 -- where no run was read, the reader is where it was
 same-place : (c : goal.After-set-2) → c.if-begins_run.reader ≡ c.args.reader.now

@@ -1,5 +1,6 @@
+use Rattle.std.proofs.Common.{rules}
 use Rattle.std.proofs.lemmas.Simd.{splat_is_map}
-use Rattle.std.proofs.Common.{◌∙◌, ◌<◌, ◌≤◌, false, sym, ap, length, arith}
+use Rattle.std.proofs.Common.{◌∙◌, ◌<◌, ◌≤◌, false, sym, length, arith}
 use Rattle.std.proofs.lemmas.List.{take_all}
 use Rattle.tangle_names.specs.Faults.{begins_another}
 use Rattle.tangle_names.specs.Sorted.{borrowed_names}
@@ -25,9 +26,8 @@ loop-position-preserved c =
     let more = more-among names texts k _ c.begins_at.result _ c.requires.distinct inside at
     (rw at at next ∙ sym c.begins_at.ensures) c.loop-position.invariant in
     elim c.if-begins_at.branch [
-      | then-begins_at w ↦
-          ap (λ v. v.items) w.begins-is ∙ w.flag.ensures ∙ rw w.if-begins_at.true at more
-      | else-begins_at w ↦ ap (λ v. v.items) w.begins-is ∙ rw w.if-begins_at.false at more
+      | then-begins_at w ↦ search (rules, more)
+      | else-begins_at w ↦ search (rules, more)
     ]
 
 pub returns : goal.returns

@@ -26,13 +26,11 @@ meant c =
 
 pub returns-then-not-begins_at : goal.returns-then-not-begins_at
 returns-then-not-begins_at c =
-    let found = meant (goal.at.returns-then-not-begins_at c).After-partition_point-first in
-    grind (arith, nat_tests, found)
+    grind (arith, nat_tests, meant (goal.at.returns-then-not-begins_at c).After-partition_point-first)
 
 pub returns-then-begins_at : goal.returns-then-begins_at
 returns-then-begins_at c =
-    let found = meant (goal.at.returns-then-begins_at c).After-partition_point-first in
-    grind (arith, nat_tests, found)
+    grind (arith, nat_tests, meant (goal.at.returns-then-begins_at c).After-partition_point-first)
 
 pub returns-else-begins_at : goal.returns-else-begins_at
 returns-else-begins_at c =

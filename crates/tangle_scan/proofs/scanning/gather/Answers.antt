@@ -8,7 +8,6 @@ use Rattle.tangle_text.specs.Text.{Cell}
 use Rattle.tangle_lexer.specs.Runs.{unfolded}
 use Rattle.tangle_lexer.specs.Steps.{tokens_from, occurrences_from}
 use Rattle.tangle_scan.specs.Rules.{texts_of}
-use Rattle.tangle_scan.proofs.lemmas.GatheredLemmas.{nothing-gathered}
 use Rattle.tangle_scan.proofs.scanning.gather.Goals as goal
 
 pub next_block-requires-clause-ours : goal.next_block-requires-clause-ours
@@ -28,7 +27,7 @@ loop-next_head-init c =
     let all = next.ensures.tokens
     ∙ append_assoc (unfolded texts c.next_block.new.buffers.tokens.items)
     (option_to_list next.next_head) (tokens_from next.state c.next_block.new.reader) in
-    search (rules, nothing-gathered, block-shorter)
+    search (rules, block-shorter)
 
 pub loop-next_head-preserved : goal.loop-next_head-preserved
 loop-next_head-preserved c =

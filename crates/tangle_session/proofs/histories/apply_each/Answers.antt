@@ -1,4 +1,4 @@
-use Rattle.std.proofs.Common.{◌≡◌, ◌∙◌, ◌+◌, List, ap, length, map, subst, take, arith}
+use Rattle.std.proofs.Common.{◌≡◌, List, ap, length, map, subst, take, arith}
 use Rattle.std.proofs.lemmas.List.{length-map, length_push, length-take, map_more}
 use Rattle.std.specs.Global.{Global}
 use Rattle.std.specs.declared.vec.Vec.{Vec}
@@ -18,13 +18,9 @@ loop-edits-preserved c =
     let same : length (map items (take at lists)) ≡ length answers =
     omega (arith, length-map (take at lists) items, length-take at lists) in
     record {
-      counted = c.push_reserved.ensures.len ∙ ap (λ n. n + 1) so_far.counted;
-      answered = omega (
-        arith,
-        ap length c.push_reserved.ensures.items,
-        length_push answers c.apply_all.result,
-      );
-      capacity = c.push_reserved.ensures.capacity ∙ so_far.capacity;
+      counted = omega arith;
+      answered = omega (arith, ap length c.push_reserved.ensures.items, length_push answers c.apply_all.result);
+      capacity = omega arith;
       history = λ files roles started. rw (
         c.push_reserved.ensures.items,
         map_more items lists at edits c.loop-edits-test.true,
@@ -33,6 +29,7 @@ loop-edits-preserved c =
       )
           (Answered c.loop-edits.session (ApplyAll edits.items c.apply_all.result)
           (so_far.history files roles started)
-          (subst (λ (e : List Edit). IsAnswered c.loop-edits.session (ApplyAll e c.apply_all.result) c.apply_all.new.self)
+          (subst (λ (e : List Edit). IsAnswered c.loop-edits.session (ApplyAll e c.apply_all.result)
+          c.apply_all.new.self)
           c.deref.ensures.value c.apply_all.ensures));
     }

@@ -1,5 +1,4 @@
-use Rattle.tangle_names.specs.NameTable.{table_over}
-use Rattle.std.proofs.Common.{inr, ◌∙◌, ap, sym}
+use Rattle.std.proofs.Common.{rules}
 use Rattle.std.proofs.lemmas.Result.{err_from_is_err_and}
 use Rattle.tangle_files.specs.Lines.{FileTable}
 use Rattle.tangle_files.specs.Roles.{RolesRead}
@@ -21,10 +20,6 @@ edited {old = old} {files = files} {roles = roles} {to = to} was made = (
   record { before = was.analysis.store.store; after = made.store.store; expansions = was.kept },
 )
 
-pub build-requires-clause-old : goal.build-requires-clause-old
-build-requires-clause-old c =
-    c.requires.agrees.analysis.table ∙ ap table_over (sym c.requires.agrees.analysis.occurrences)
-
 pub expand_again-requires-clause-new_shapes : goal.expand_again-requires-clause-new_shapes
 expand_again-requires-clause-new_shapes c = rw c.deref.ensures.value c.in_ok-analysis.ensures.new_shapes
 
@@ -41,10 +36,7 @@ returns-clause-agrees c =
     }
 
 pub returns-in_err-kept-clause-refused : goal.returns-in_err-kept-clause-refused
-returns-in_err-kept-clause-refused c =
-    let residual = c.from_residual-in_err-kept in
-    let failure = err_from_is_err_and residual.result residual.ensures.1 in
-    rw failure.1 (inr failure.2)
+returns-in_err-kept-clause-refused c = search (rules, err_from_is_err_and)
 
 pub returns-clause-work : goal.returns-clause-work
 returns-clause-work c =

@@ -1,6 +1,5 @@
 use Rattle.std.proofs.Common.{rules}
-use Rattle.std.proofs.lemmas.Bool.Decides.{nat_tests}
-use Rattle.std.proofs.Common.{◌≡◌, ◌==◌, ◌&&◌, not, false, get_or, arith}
+use Rattle.std.proofs.Common.{◌≡◌, ◌==◌, ◌&&◌, not, false, get_or}
 use Rattle.std.proofs.lemmas.Bool.{ne_eqb}
 use Rattle.std.proofs.Math.Bool.{and-false}
 use Rattle.tangle_text.proofs.QuoteLemmas.{ordinary-to, quote-on}
@@ -15,5 +14,4 @@ loop-end-preserved-then-not-is_escaped-2 c =
     search (rules, then-byte-eq92, else-byte-eq92, ne_eqb, quote-on)
 
 pub loop-end-init : goal.loop-end-init
-loop-end-init c =
-    grind (arith, nat_tests, c.end_of-end.ensures, ordinary-to c.args.close c.requires.close c.args.bytes.now c.args.from c.end_of-end.result)
+loop-end-init c = search (rules, ordinary-to)

@@ -5,12 +5,11 @@ use Rattle.tangle_text.proofs.runs.run_end.Goals as goal
 
 pub returns-else-is_at_quote-clause-end : goal.returns-else-is_at_quote-clause-end
 returns-else-is_at_quote-clause-end c =
-    let bytes = c.args.bytes.now in
-    let end = c.end_of-end in
-    let stops = column-ends bytes c.args.from end.result end.ensures.end in
+    let ends = c.end_of-end.ensures.end in
     grind (
       arith,
       nat_tests,
-      no-quote bytes end.result c.item_start.result stops c.item_start.ensures,
-      column-plain bytes c.args.from end.result end.ensures.end,
+      column-plain c.args.bytes.now c.args.from c.end_of-end.result ends,
+      no-quote c.args.bytes.now c.end_of-end.result c.item_start.result
+          (column-ends c.args.bytes.now c.args.from c.end_of-end.result ends),
     )

@@ -1,4 +1,5 @@
-use Rattle.std.proofs.Common.{[], ◌++◌, ℕ, ap, codes, inl, refl}
+use Rattle.std.proofs.Common.{rules}
+use Rattle.std.proofs.Common.{◌++◌, codes, inl}
 use Rattle.std.specs.Prelude.{decimal}
 use Rattle.tangle_session.specs.Headline.{output_at}
 use Rattle.ctangle_cli.specs.Conversation.{listed_faults, shown}
@@ -16,26 +17,23 @@ returns-in-Commit g c = let h = c.commit.ensures in rw c.in-Commit.is (h.0, inl 
 
 pub returns-in-Show : goal.returns-in-Show
 returns-in-Show g c =
-    let s = c.args.session.now in
-    let output = shown c.in-Show.file.now (output_at s.files s.roles c.in-Show.file.now) in
-    rw c.in-Show.is (output, inl ([], IsReported _ refl refl refl, refl), c.show.ensures)
+    let output = output_at c.args.session.now.files c.args.session.now.roles c.in-Show.file.now in
+    rw c.in-Show.is (shown c.in-Show.file.now output, search (rules, IsReported), c.show.ensures)
 
 pub returns-in-Faults : goal.returns-in-Faults
 returns-in-Faults g c =
-    rw c.in-Faults.is (
-      listed_faults c.faults.result.now,
-      inl ([], IsReported _ refl refl (ap listed_faults c.faults.ensures), refl),
-      c.list_faults.ensures,
-    )
+    let output = listed_faults c.faults.result.now in
+    rw c.in-Faults.is (output, search (rules, IsReported), c.list_faults.ensures)
 
 pub returns-in-Work : goal.returns-in-Work
 returns-in-Work g c =
-    let said = λ (n : ℕ). codes "work " ++ decimal n ++ codes "\n" in
-    rw c.in-Work.is (said c.last_work.result, inl ([], IsReported _ refl refl (ap said c.last_work.ensures), refl), c.write_work.ensures)
+    let said = codes "work " ++ decimal c.last_work.result ++ codes "\n" in
+    rw c.in-Work.is (said, search (rules, IsReported), c.write_work.ensures)
 
 pub returns-in-Quit : goal.returns-in-Quit
-returns-in-Quit g c = rw c.in-Quit.is (codes "ok\n", inl ([], IsReported _ refl refl refl, refl), c.say.ensures)
+returns-in-Quit g c = rw c.in-Quit.is (codes "ok\n", search (rules, IsReported), c.say.ensures)
 
 pub returns-in-BadCommand : goal.returns-in-BadCommand
 returns-in-BadCommand g c =
-    rw c.in-BadCommand.is (codes "no BadCommand\n", inl ([], IsReported _ refl refl refl, refl), c.say-in-BadCommand.ensures)
+    let output = codes "no BadCommand\n" in
+    rw c.in-BadCommand.is (output, search (rules, IsReported), c.say-in-BadCommand.ensures)

@@ -6,9 +6,9 @@ use Rattle.tangle_bodies.proofs.body_builder.BodyBuilder.add_uses.Given as goal
 
 abbrev pub invariant-loop-used : goal.invariant-loop-used
 invariant-loop-used l = record {
-  tags : l.self-inside.made.tags.items ≡ l.fn.self.tags;
-  bytes : l.self-inside.made.bytes.items ≡ l.fn.self.bytes;
-  uses : l.self-inside.made.uses.items ++ names_of l.table (drop l.used-index l.uses) ≡ l.fn.self.uses ++ names_of l.table l.uses;
+  tags : l.self-inside.items.tags.items ≡ l.fn.self.tags;
+  bytes : l.self-inside.items.bytes.items ≡ l.fn.self.bytes;
+  uses : l.self-inside.uses.items ++ names_of l.table (drop l.used-index l.uses) ≡ l.fn.self.uses ++ names_of l.table l.uses;
   all : (l.all && list_all (λ n. is_name (resolved_at l.table n)) (drop l.used-index l.uses))
       ≡ list_all (λ n. is_name (resolved_at l.table n)) l.uses;
 }

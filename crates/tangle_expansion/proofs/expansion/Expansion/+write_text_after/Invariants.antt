@@ -1,15 +1,20 @@
 use Rattle.std.proofs.Common.{drop}
-use Rattle.tangle_bodies.specs.Meaning.{shared_symbols}
-use Rattle.tangle_expansion.specs.Numbers.{expansion_bytes}
+use Rattle.tangle_bodies.specs.Nodes.{title_at}
+use Rattle.tangle_bodies.specs.NodeBodies.{names_at}
+use Rattle.tangle_expansion.specs.Expanded.{shared_of, shared_symbols, symbols_of}
+use Rattle.tangle_expansion.specs.Numbers.{expansion_bytes, names_used}
 use Rattle.tangle_expansion.specs.Writing.{Wrote, bytes_from}
 use Rattle.tangle_expansion.proofs.expansion.Expansion.+write_text_after.Given as goal
 
 abbrev pub decreases-write_text_after : goal.decreases-write_text_after
 decreases-write_text_after g l = goal.size-write_text_after g l
 
-abbrev pub invariant-loop-used : goal.invariant-loop-used
-invariant-loop-used g l =
+abbrev pub invariant-loop-i : goal.invariant-loop-i
+invariant-loop-i g l =
     let t = g.S.Sink.stream in
+    let node = title_at l.numbers.names l.fn.node in
+    let uses = names_used l.numbers in
     Wrote (t l.fn.sink) (t l.sink) l.fn.so_far l.so_far
-    (bytes_from l.text.body.now l.at l.numbers (shared_symbols (drop l.used-index l.used-items)))
-    (expansion_bytes l.numbers l.fn.self)
+    (bytes_from node l.text.items.now l.at l.numbers (shared_symbols uses
+    (shared_of (drop l.i l.shared.used.items)) (drop l.i (names_at l.numbers.names l.uses))))
+    (expansion_bytes l.numbers (symbols_of uses node l.fn.self))

@@ -39,14 +39,14 @@ returns-clause-store c =
     let built = is_built c.args.web.now c.args.table.now _ _ c.requires bodies graph _ _ _
     (c.in_ok-measures.ensures.size ∙ ap (λ (g : NameGraph). length g.uses) c.deref-shared.ensures)
     (c.in_ok-measures.ensures.measures _ _ (rw c.deref-3.ensures.value bodies)) _ named in
-    record {
+    rw c.in_ok-bodies.ensures.ok (record {
       store = built.0;
       names = named;
       reaching_cycles = reaching_is c.args.web.now c.args.table.now _ _ c.requires bodies graph;
       outputs = c.in_ok-outputs.ensures;
       grouped = grouped_by _ _ c.in_ok-pieces.pieces.value c.requires
           (rw c.in_ok-pieces.ensures.ok c.in_ok-pieces_by_node.ensures);
-    }
+    })
 
 pub invariant_of-store : goal.invariant_of-store
 invariant_of-store c =
@@ -56,8 +56,8 @@ invariant_of-store c =
     let built = is_built c.args.web.now c.args.table.now _ _ c.requires bodies graph _ _ _
     (c.in_ok-measures.ensures.size ∙ ap (λ (g : NameGraph). length g.uses) c.deref-shared.ensures)
     (c.in_ok-measures.ensures.measures _ _ (rw c.deref-3.ensures.value bodies)) _ named in
-    record { shapes = _; store = built.0; name_graph = graph; order = built.1 }
+    rw c.in_ok-bodies.ensures.ok (record { shapes = _; store = built.0; name_graph = graph; order = built.1 })
 
 pub returns-clause-new_shapes : goal.returns-clause-new_shapes
-returns-clause-new_shapes c = IfSome_then c.args.old c.in_ok-made.ensures.new_shapes (λ store are.
-    new_shapes_of store.now _ _ _ c.in_ok-made.made.new_shapes.items c.in_ok-name_graph.ensures.names refl are)
+returns-clause-new_shapes c = rw c.in_ok-bodies.ensures.ok (IfSome_then c.args.old c.in_ok-made.ensures.new_shapes (λ store are.
+    new_shapes_of store.now _ _ _ c.in_ok-made.made.new_shapes.items c.in_ok-name_graph.ensures.names refl are))

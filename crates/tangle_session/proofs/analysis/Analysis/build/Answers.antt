@@ -11,14 +11,10 @@ use Rattle.tangle_session.specs.Headline.{faults_at, source_at, table_at, web_at
 use Rattle.tangle_session.proofs.AnalysisLemmas.{faults_joined}
 use Rattle.tangle_session.proofs.analysis.Analysis.build.Goals as goal
 
-pub build-requires-clause-names : goal.build-requires-clause-names
-build-requires-clause-names c =
-    c.names.ensures ∙ c.in_ok-made.ensures.store.names ∙ ap (λ (t : TableRead). t.names) c.in_ok-table.ensures
-
-pub build-requires-clause-pieces : goal.build-requires-clause-pieces
-build-requires-clause-pieces c = subst (IsGroupedBy c.in_ok-web.web (table_of c.in_ok-web.web)) (sym c.pieces.ensures)
-    (subst (λ t. IsGroupedBy c.in_ok-web.web t c.in_ok-made.made.store.pieces)
-    c.in_ok-table.ensures c.in_ok-made.ensures.store.grouped)
+pub numbers-requires : goal.numbers-requires
+numbers-requires c =
+    let is = rw c.in_ok-table.ensures at c.in_ok-made.ensures.store in
+    record { store = is.store; names = is.names; pieces = is.grouped }
 
 pub returns-clause-made : goal.returns-clause-made
 unfolding faults_at source_at web_at

@@ -1,4 +1,4 @@
-use Rattle.std.proofs.Common.{refl}
+use Rattle.std.proofs.Common.{rules}
 use Rattle.std.specs.Prelude.{Err, Ok}
 use Rattle.tangle_files.specs.declared.refusal.Refusal.TheVariants.{WriteFault}
 use Rattle.tangle_session.proofs.TangleLemmas.{is_ready, names_apart, truth_at, writes_it, writes_none}
@@ -18,9 +18,7 @@ returns-in-Ok-clause-written g c = writes_it c.self.view_is c.self.invariant c.a
     _ c.in-Some.is _ _ (Ok c.in-Ok.size) c.in-Ok.ensures
 
 pub returns-in-Ok-clause-line_truth : goal.returns-in-Ok-clause-line_truth
-returns-in-Ok-clause-line_truth g c =
-    truth_at c.self.view_is c.self.invariant c.args.name.now _ c.find_output_at.ensures _
-    c.in-Some.is
+returns-in-Ok-clause-line_truth g c = search (rules, truth_at)
 
 pub returns-in-Err-clause-written : goal.returns-in-Err-clause-written
 returns-in-Err-clause-written g c = writes_it c.self.view_is c.self.invariant c.args.name.now _
@@ -29,6 +27,4 @@ returns-in-Err-clause-written g c = writes_it c.self.view_is c.self.invariant c.
     (Err (WriteFault c.in-Err.field-0.0)) c.in-Err.ensures
 
 pub returns-in-None-clause-written : goal.returns-in-None-clause-written
-returns-in-None-clause-written g c =
-    writes_none c.self.view_is c.self.invariant c.args.name.now _ c.find_output_at.ensures _ _
-    c.in-None.is refl
+returns-in-None-clause-written g c = search (rules, writes_none)

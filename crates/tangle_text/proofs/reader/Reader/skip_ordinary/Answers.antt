@@ -1,4 +1,4 @@
-use Rattle.std.proofs.Common.{◌≡◌, ◌+◌, ◌≤◌, Bool, true, false, List, ℕ, zero, drop, length, ap, ◌∙◌, refl, arith}
+use Rattle.std.proofs.Common.{◌≡◌, ◌+◌, ◌≤◌, Bool, true, false, List, ℕ, zero, drop, length, refl, arith}
 use Rattle.std.proofs.Common.{length-drop}
 use Rattle.std.specs.List.{prefix_len}
 use Rattle.std.proofs.lemmas.List.Sums.{prefix_len-le-length}
@@ -24,8 +24,7 @@ skipped lines bytes line column end false h is =
     )
 
 pub returns : goal.returns
-returns c =
-    let r = c.self.inside in
-    let found = skipped r.source.now.lines r.bytes.now r.line r.column c.end_of-self-inside.result
-    r.is_done (omega (arith, c.self.invariant)) c.end_of-self-inside.ensures.end in
-    (found.0, found.1 ∙ ap (drop found.0) c.self.view_is, rw c.self.view_is at found.2)
+returns c = rw (← c.self.view_is) (skipped _ _ _ _ _ _ (omega (
+  arith,
+  c.self.invariant,
+)) c.end_of-self-inside.ensures.end)

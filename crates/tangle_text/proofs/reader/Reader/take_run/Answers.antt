@@ -13,6 +13,5 @@ pub returns : goal.returns
 returns c =
     let text = c.args.self.now in
     let count = run_count-taken c.self.inside text c.self.view_is c.requires in
-    let taken = takes c.self.inside text (run_count text) c.run_end-end.result c.self.view_is c.requires
-    (omega (arith, count, c.run_end-end.ensures.end)) c.run_end-end.ensures.inside in
+    let taken = takes c.self.inside text (run_count text) c.run_end-end.result c.self.view_is c.requires in
     grind (arith, nat_tests, taken, count)
