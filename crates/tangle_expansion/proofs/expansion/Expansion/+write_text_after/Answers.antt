@@ -34,7 +34,7 @@ loop-i-preserved g t c =
     let less : i < length used = search rules in
     let named : name ≡ get_or names i name =
     sym (get_or-map (λ id. get_or numbers.names id []) ids i 0 name low) in
-    let room = omega (arith, low, length-map ids (λ id. get_or numbers.names id [])) in
+    let room : i < length names = omega (arith, low, length-map ids (λ id. get_or numbers.names id [])) in
     let here = rw (shared_at uses names used i name o room less named c.index.ensures) at c.loop-i.invariant in
     let before = c.write_to_use-before.ensures node (symbols_if_any uses (Named name) o ∷ left) c.of_node.ensures.numbers in
     let spaced = wrote_more _ _ _ _ _ _ _ _ _ _
