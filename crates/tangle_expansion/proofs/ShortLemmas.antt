@@ -1,7 +1,7 @@
 -- Few bytes are written for each symbol.
 use Rattle.std.proofs.Common.{rules}
 use Rattle.std.proofs.Common.{ℕ, ◌^◌, ◌<◌, ◌≤◌, Bool, List, [], ◌∷◌, ◌++◌}
-use Rattle.std.proofs.Common.{length, arith, length-append, get_or, All, map, ◌≡◌, ◌+◌}
+use Rattle.std.proofs.Common.{length, arith, length-append, get_or, All, map}
 use Rattle.std.specs.Prelude.{decimal}
 use Rattle.std.proofs.lemmas.List.Elements.{All-map, All-nil}
 use Rattle.std.specs.List.{AllByRecursion, IsDistinct}

@@ -2,7 +2,7 @@
 use Rattle.std.specs.Prelude.{◌≡◌, refl}
 use Rattle.std.proofs.Common.{ap, subst, sym}
 use Rattle.std.specs.Coded.{Coded, code_by, coded×}
-use base.Stored.{Gv, gnil, gnum, gcons}
+use base.Stored.{Gv, gnil, gcons}
 use Rattle.tangle_expansion.specs.Expanded.{Expanded, ItemsOfNode, Shared, End, Next}
 
 abbrev first : Gv → Gv

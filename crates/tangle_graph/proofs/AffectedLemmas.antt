@@ -4,15 +4,14 @@ use Rattle.std.proofs.lemmas.Bool.Decides.{nat_tests}
 use Rattle.std.proofs.Common.{◌≡◌, ◌≢◌, ◌<◌, ◌≤◌, ℕ, zero, Bool, List, [], ◌∷◌, length, take, get_or, refl}
 use Rattle.std.proofs.Common.{arith, Contains}
 use Rattle.std.specs.List.{filter}
-use Rattle.std.proofs.Math.Decide.{dec_lt, ℕ_discrete}
-use Rattle.std.proofs.lemmas.Bool.{and_parts, and_from}
+use Rattle.std.proofs.Math.Decide.{dec_lt}
 use Rattle.std.proofs.lemmas.List.{get_or-take, get_or_default}
 use Rattle.std.proofs.lemmas.List.Elements.{Contains-get_or}
 use Rattle.std.proofs.lemmas.List.Kept.{AllPairs-filter}
 use Rattle.tangle_bodies.specs.Shapes.{Shapes, Uses}
 use Rattle.digraph.specs.Nodes.{Node, program}
 use Rattle.tangle_graph.specs.Ordering.{IsOrderIn}
-use Rattle.tangle_graph.specs.Stores.{StoreRead, IsStoreOf, flag_at, is_expandable_at, title_in_store}
+use Rattle.tangle_graph.specs.Stores.{StoreRead, IsStoreOf, title_in_store}
 use Rattle.tangle_graph.specs.Stores.{uses_at}
 use Rattle.tangle_graph.specs.Affected.{ListsAffected}
 use Rattle.tangle_graph.specs.AffectedFlags.{AreFlagged, is_expandable_and_flagged}

@@ -1,14 +1,9 @@
 -- Bodies of nodes, and bodies that are read by their number.
 use Rattle.std.proofs.Common.{rules}
-use Rattle.std.proofs.Common.{◌≡◌, ◌≢◌, ◌<◌, ◌↔◌, ℕ, Bool, true, false, not, List, [], ◌∷◌, length}
-use Rattle.std.proofs.Common.{sym, subst, arith, map, get_or}
-use Rattle.std.specs.Prelude.{Contains, slice_get, Some}
-use Rattle.std.specs.Global.{Global}
-use Rattle.std.specs.declared.rc.Rc.{Rc}
-use Rattle.std.proofs.lemmas.Grind.{common_steps}
+use Rattle.std.proofs.Common.{◌≡◌, ◌≢◌, ◌<◌, ◌↔◌, ℕ, Bool, true, not, List, [], length}
+use Rattle.std.proofs.Common.{sym, subst, get_or}
+use Rattle.std.specs.Prelude.{Contains}
 use Rattle.std.proofs.lemmas.List.Elements.{All-contains}
-use Rattle.std.proofs.lemmas.Option.{gets, slice_get-get_or}
-use Rattle.digraph.specs.Graph.{row_at}
 use Rattle.tangle_names.proofs.ContainsLemmas.{into_map, out_of_map}
 use Rattle.tangle_bodies.specs.Nodes.{title_at}
 use Rattle.tangle_bodies.specs.NodeBodies.{HaveOneShape, HoldsShape, body_items}
@@ -16,7 +11,7 @@ use Rattle.tangle_bodies.specs.NodeBodies.{body_uses}
 use Rattle.tangle_bodies.specs.Shapes.{Named, Shape, Shapes, Uses}
 use Rattle.tangle_bodies.proofs.TagLemmas.{bodies_decide}
 use Rattle.tangle_bodies.specs.declared.nodes.NodeBody.{NodeBody}
-use Rattle.tangle_bodies.specs.NodeBodies.{IsBodyOf, node_bodies}
+use Rattle.tangle_bodies.specs.NodeBodies.{IsBodyOf}
 
 -- the names with the numbers that a body has are those that its node uses
 module _ (shapes : Shapes) (names : List (List ℕ))

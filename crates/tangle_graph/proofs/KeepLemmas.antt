@@ -1,9 +1,7 @@
 -- The expansion of one more node is kept, and what is kept at the end.
 use Rattle.std.proofs.Common.{rules}
-use Rattle.std.proofs.lemmas.Bool.Decides.{nat_tests}
 use Rattle.std.proofs.Common.{◌≡◌, ◌∙◌, ◌+◌, ◌<◌, ◌≤◌, ◌++◌, ℕ, Bool, true, false, cond, List, [], ◌∷◌, length, take}
-use Rattle.std.proofs.Common.{get_or, refl, suc, ap, sym, subst, append_assoc, arith, inl, inr, Contains}
-use Rattle.std.specs.Prelude.{None, Option, Some, unwrap_or}
+use Rattle.std.proofs.Common.{get_or, suc, ap, sym, append_assoc, arith, inl, inr, Contains}
 use Rattle.std.specs.List.{filter}
 use Rattle.std.proofs.lemmas.List.{take_all}
 use Rattle.std.proofs.lemmas.List.Elements.{filter_more}
@@ -12,13 +10,13 @@ use Rattle.tangle_graph.proofs.NameLemmas.{empty_unless}
 use Rattle.tangle_expansion.proofs.SameShapes.{used_expandable}
 use Rattle.tangle_expansion.specs.Expanded.{symbols_if_any, used_names}
 use Rattle.tangle_expansion.specs.Limits.{levels, heaviest, flat_of}
-use Rattle.tangle_bodies.specs.Flat.{Symbol, flat, pieces_flat}
+use Rattle.tangle_bodies.specs.Flat.{flat, pieces_flat}
 use Rattle.tangle_bodies.specs.Shapes.{Title, Named, Shape, Shapes}
 use Rattle.tangle_expansion.specs.declared.kept.Kept.{Kept}
 use Rattle.digraph.specs.Nodes.{Node}
 use Rattle.tangle_graph.specs.Ordering.{IsOrderIn}
 use Rattle.tangle_graph.specs.Stores.{StoreRead, IsStoreOf, KeepsUsed, IsNodeIn, is_expandable_at}
-use Rattle.tangle_graph.specs.Stores.{title_in_store, uses_at}
+use Rattle.tangle_graph.specs.Stores.{uses_at}
 use Rattle.tangle_graph.proofs.ExpandLemmas.{expandable_at, expandable_in}
 use Rattle.tangle_graph.specs.Keeping.{IsKept, KeepsJust, PutsRight}
 use Rattle.tangle_graph.proofs.FlagLemmas.{after_used, at_position, in_next, value_next}

@@ -1,8 +1,8 @@
 -- The rows of the names that bodies use, each once.
 use Rattle.std.proofs.Common.{rules}
 use Rattle.std.proofs.lemmas.Bool.Decides.{nat_tests}
-use Rattle.std.proofs.Common.{◌≡◌, ◌∙◌, ◌<◌, ◌+◌, ◌++◌, ◌∷◌, ℕ, suc, List, [], length, take, map, get_or}
-use Rattle.std.proofs.Common.{ap, sym, subst, arith, All, Contains, length-append}
+use Rattle.std.proofs.Common.{◌≡◌, ◌<◌, ◌+◌, ◌++◌, ◌∷◌, ℕ, suc, List, [], length, take, map, get_or}
+use Rattle.std.proofs.Common.{arith, All, length-append}
 use Rattle.std.specs.Global.{Global}
 use Rattle.std.specs.declared.rc.Rc.{Rc}
 use Rattle.std.specs.List.Sorted.{IsStrictlyIncreasing}

@@ -1,20 +1,17 @@
 -- Nodes and their titles.
 use Rattle.std.proofs.Common.{rules}
-use Rattle.std.proofs.lemmas.Bool.Decides.{nat_tests}
-use Rattle.std.proofs.Common.{◌≡◌, ◌<◌, ◌≤◌, ℕ, zero, suc, List, [], length, get_or, refl, ap, sym}
-use Rattle.std.proofs.Common.{arith, Some, None}
+use Rattle.std.proofs.Common.{◌≡◌, ◌≤◌, ℕ, suc, List, length}
+use Rattle.std.proofs.Common.{Some, None}
 use Rattle.std.specs.List.{position}
 use Rattle.std.specs.List.{IsDistinct}
 use Rattle.std.specs.Str.{bytes_eq}
 use Rattle.std.proofs.lemmas.List.Sums.{fails_before_first}
-use Rattle.std.proofs.lemmas.Map.Made.{AllPairs-from_IsDistinct}
 use Rattle.std.proofs.lemmas.Slice.Eq.{bytes_eq-Decides}
 use Rattle.std.proofs.lemmas.List.Quantifiers.{position-Some}
 use Rattle.digraph.specs.Nodes.{name_of_node}
 use Rattle.tangle_expansion.proofs.NumberLemmas.{once_named}
 use Rattle.tangle_bodies.specs.Nodes.{title_at}
 use Rattle.tangle_bodies.specs.Shapes.{Named}
-use Rattle.tangle_bodies.specs.Shapes as title
 
 -- each title has one node
 pub once_titled : (names : List (List ℕ)) (n m : ℕ)

@@ -1,7 +1,7 @@
 -- The pieces of a web as they are stored, one after another.
 use Rattle.std.proofs.Common.{rules}
-use Rattle.std.proofs.Common.{◌≡◌, ◌∙◌, ◌<◌, ◌+◌, ℕ, List, Option, map, length}
-use Rattle.std.proofs.Common.{get_or, ap, arith, sym}
+use Rattle.std.proofs.Common.{◌≡◌, ◌<◌, ◌+◌, ℕ, List, Option, map, length}
+use Rattle.std.proofs.Common.{get_or, ap, arith}
 use Rattle.std.specs.Option.{IfSome}
 use Rattle.std.proofs.lemmas.List.{get_or-map, length-map}
 use Rattle.tangle_scan.specs.Web.{WebRead, no_piece, stored_piece}

@@ -1,5 +1,4 @@
 -- The bytes of each output file of a web, and finding one by its name.
-use Rattle.std.proofs.Common.{rules}
 use Rattle.std.proofs.Common.{◌≡◌, ◌∙◌, ◌<◌, ℕ, Bool, true, List, [], ◌∷◌, length, map, get_or}
 use Rattle.std.proofs.Common.{refl, sym, subst, arith}
 use Rattle.std.specs.Prelude.{Some, Contains, find}

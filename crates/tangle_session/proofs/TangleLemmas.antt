@@ -1,6 +1,6 @@
 -- The fields of a session's state, which are made one after another, agree with the files.
 use Rattle.std.proofs.Common.{rules}
-use Rattle.std.proofs.Common.{◌≡◌, ◌∙◌, arith, ℕ, Bool, true, false, List, [], ◌∷◌, refl, ap, sym}
+use Rattle.std.proofs.Common.{◌≡◌, ◌∙◌, arith, ℕ, Bool, true, false, List, refl, ap, sym}
 use Rattle.std.proofs.Common.{subst, Bor, Contains, map}
 use Rattle.std.specs.List.{IsDistinct}
 use Rattle.std.specs.Option.{option_copied, option_map}

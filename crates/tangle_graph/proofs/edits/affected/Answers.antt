@@ -1,8 +1,5 @@
 use Rattle.std.proofs.Common.{rules}
-use Rattle.std.proofs.Common.{◌∙◌, ap, filter, subst, sym}
 use Rattle.std.proofs.lemmas.Result.{IfOk-weaker}
-use Rattle.tangle_graph.specs.Affected.{ListsAffected}
-use Rattle.tangle_graph.specs.AffectedFlags.{is_expandable_and_flagged}
 use Rattle.tangle_graph.proofs.AffectedLemmas.{lists_affected}
 use Rattle.tangle_graph.proofs.edits.affected.Goals as goal
 

@@ -1,5 +1,5 @@
 use Rattle.std.proofs.Common.{rules}
-use Rattle.std.proofs.Common.{◌≡◌, ◌∙◌, ap, arith, length, length-set, subst, sym, take, Contains}
+use Rattle.std.proofs.Common.{arith, length-set}
 use Rattle.std.proofs.lemmas.List.{take_all}
 use Rattle.tangle_graph.specs.Stores.{flag_at}
 use Rattle.tangle_graph.proofs.FlagLemmas.{at_position, flagged_next}

@@ -1,8 +1,7 @@
-use Rattle.std.proofs.Common.{◌≡◌, ◌∙◌, ◌&&◌, Bool, Contains, List, append-nil, arith, false, subst, sym, true}
+use Rattle.std.proofs.Common.{◌≡◌, ◌∙◌, ◌&&◌, Bool, Contains, List, append-nil, arith, false, sym, true}
 use Rattle.std.proofs.lemmas.Bool.{and_from, both_ways}
 use Rattle.std.proofs.lemmas.List.{take_all}
 use Rattle.digraph.specs.Nodes.{Node}
-use Rattle.tangle_expansion.specs.Kept.{PutsKept}
 use Rattle.tangle_graph.specs.Ordering.{IsOrderIn}
 use Rattle.tangle_graph.specs.Stores.{IsStoreOf, StoreRead, flag_at, is_expandable_at}
 use Rattle.tangle_graph.proofs.ExpandLemmas.{expandable_at}

@@ -1,4 +1,4 @@
-use Rattle.std.proofs.Common.{◌≡◌, ◌∙◌, Some, subst, sym}
+use Rattle.std.proofs.Common.{◌≡◌, ◌∙◌, subst, sym}
 use Rattle.digraph.specs.Nodes.{Node}
 use Rattle.tangle_expansion.specs.Limits.{IsExpandableNode, heaviest, levels}
 use Rattle.tangle_expansion.specs.declared.kept.Kept.{Kept}

@@ -1,11 +1,5 @@
 use Rattle.std.proofs.Common.{rules}
-use Rattle.std.proofs.Common.{◌∙◌, ap, arith, length, map}
-use Rattle.std.specs.Prelude.{Vec}
-use Rattle.std.specs.Global.{Global}
-use Rattle.std.specs.declared.rc.Rc.{Rc}
-use Rattle.tangle_bodies.specs.NodeBodies.{body_uses, node_bodies}
-use Rattle.tangle_bodies.specs.declared.nodes.NodeBody.{NodeBody}
-use Rattle.std.proofs.lemmas.List.{length-map}
+use Rattle.std.proofs.Common.{◌∙◌, ap, map}
 use Rattle.std.proofs.lemmas.Simd.{map-map}
 use Rattle.tangle_names.proofs.LawLemmas.{once as names_once}
 use Rattle.tangle_bodies.specs.WebShapes.{shapes}

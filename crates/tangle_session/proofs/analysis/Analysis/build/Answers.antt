@@ -1,10 +1,9 @@
-use Rattle.std.proofs.Common.{◌≡◌, ◌∙◌, ◌++◌, ℕ, List, ap, subst, sym}
+use Rattle.std.proofs.Common.{◌≡◌, ◌∙◌, ◌++◌, ℕ, List, ap, subst}
 use Rattle.tangle_files.specs.Roles.{RolesRead}
 use Rattle.tangle_scan.specs.Web.{WebRead, web_of}
 use Rattle.tangle_names.specs.Faults.{name_faults}
 use Rattle.tangle_names.specs.NameTable.{TableRead, table_of}
 use Rattle.tangle_expansion.specs.Numbers.{numbers_of}
-use Rattle.tangle_bodies.specs.Nodes.{IsGroupedBy}
 use Rattle.tangle_graph.specs.Faults.{graph_faults}
 use Rattle.tangle_graph.specs.WebStores.{IsStoreOfWeb}
 use Rattle.tangle_session.specs.Headline.{faults_at, source_at, table_at, web_at}
