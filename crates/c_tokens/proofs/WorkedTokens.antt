@@ -14,8 +14,8 @@ words_after word [] = word ∷ []
 words_after word (b ∷ bs) = if b == space then word ∷ words_after [] bs else words_after (word ++ b ∷ []) bs
 
 -- the tokens of the first text are the words of the second
-abbrev Reads : String → String → Type 0
-Reads text words = tokens (codes text) ≡ words_after [] (codes words)
+abbrev HasTokens : String → String → Type 0
+HasTokens text words = tokens (codes text) ≡ words_after [] (codes words)
 
 -- Pairs that may not touch: the tokens of both written together, and those of each by itself.
 abbrev AreReadOtherwise : String → String → String → String → Type 0
@@ -25,116 +25,116 @@ AreReadOtherwise a b together apart =
 
 worked :
     -- Identifiers.
-    Reads "while(x)" "while ( x )" ×
-    Reads "a1_b" "a1_b" ×
-    Reads "a$b" "a$b" ×
-    Reads "\\u00e9t" "\\u00e9t" ×
-    Reads "a\\U0001F600b" "a\\U0001F600b" ×
-    Reads "a\\u00e" "a \\ u00e" ×
-    Reads "\\U000000e" "\\ U000000e" ×
-    Reads "a@b`" "a @ b `" ×
+    HasTokens "while(x)" "while ( x )" ×
+    HasTokens "a1_b" "a1_b" ×
+    HasTokens "a$b" "a$b" ×
+    HasTokens "\\u00e9t" "\\u00e9t" ×
+    HasTokens "a\\U0001F600b" "a\\U0001F600b" ×
+    HasTokens "a\\u00e" "a \\ u00e" ×
+    HasTokens "\\U000000e" "\\ U000000e" ×
+    HasTokens "a@b`" "a @ b `" ×
     -- Numbers, which are not yet constants.
-    Reads "1e+5" "1e+5" ×
-    Reads "0x1.8p-3" "0x1.8p-3" ×
-    Reads "1E-2f" "1E-2f" ×
-    Reads ".5" ".5" ×
-    Reads "..5" ". .5" ×
-    Reads "1..2" "1..2" ×
-    Reads "1.5.x_$" "1.5.x_$" ×
-    Reads "1+2" "1 + 2" ×
-    Reads "0xe+1" "0xe+1" ×
-    Reads "1p+" "1p+" ×
-    Reads "1e+5.x-.5" "1e+5.x - .5" ×
-    Reads "1.e +5" "1.e + 5" ×
-    Reads "1e++" "1e+ +" ×
-    Reads "x1e+5" "x1e + 5" ×
-    Reads "1\\u00b2x" "1\\u00b2x" ×
+    HasTokens "1e+5" "1e+5" ×
+    HasTokens "0x1.8p-3" "0x1.8p-3" ×
+    HasTokens "1E-2f" "1E-2f" ×
+    HasTokens ".5" ".5" ×
+    HasTokens "..5" ". .5" ×
+    HasTokens "1..2" "1..2" ×
+    HasTokens "1.5.x_$" "1.5.x_$" ×
+    HasTokens "1+2" "1 + 2" ×
+    HasTokens "0xe+1" "0xe+1" ×
+    HasTokens "1p+" "1p+" ×
+    HasTokens "1e+5.x-.5" "1e+5.x - .5" ×
+    HasTokens "1.e +5" "1.e + 5" ×
+    HasTokens "1e++" "1e+ +" ×
+    HasTokens "x1e+5" "x1e + 5" ×
+    HasTokens "1\\u00b2x" "1\\u00b2x" ×
     -- Apostrophes that separate the digits and nondigits of a number, and others.
-    Reads "10'000" "10'000" ×
-    Reads "0xF'F" "0xF'F" ×
-    Reads "1'0'e" "1'0'e" ×
-    Reads "1'_" "1'_" ×
-    Reads ".5'0" ".5'0" ×
-    Reads "1.'5" "1.'5" ×
-    Reads "0x1.F'Fp0" "0x1.F'Fp0" ×
-    Reads "1'e+5" "1'e + 5" ×
-    Reads "1e+'5" "1e+'5" ×
-    Reads "12L'x'" "12L'x '" ×
-    Reads "4'" "4 '" ×
-    Reads "1''" "1 ' '" ×
-    Reads "1''2" "1 ' ' 2" ×
-    Reads "1'.5" "1 ' .5" ×
-    Reads "1'+'" "1 '+'" ×
-    Reads "1'\\u00e9" "1 ' \\u00e9" ×
-    Reads "1'2'3'" "1'2'3 '" ×
-    Reads "x1'2'" "x1 '2'" ×
-    Reads "1 '2'" "1 '2'" ×
-    Reads "1'\\\n0" "1'0" ×
+    HasTokens "10'000" "10'000" ×
+    HasTokens "0xF'F" "0xF'F" ×
+    HasTokens "1'0'e" "1'0'e" ×
+    HasTokens "1'_" "1'_" ×
+    HasTokens ".5'0" ".5'0" ×
+    HasTokens "1.'5" "1.'5" ×
+    HasTokens "0x1.F'Fp0" "0x1.F'Fp0" ×
+    HasTokens "1'e+5" "1'e + 5" ×
+    HasTokens "1e+'5" "1e+'5" ×
+    HasTokens "12L'x'" "12L'x '" ×
+    HasTokens "4'" "4 '" ×
+    HasTokens "1''" "1 ' '" ×
+    HasTokens "1''2" "1 ' ' 2" ×
+    HasTokens "1'.5" "1 ' .5" ×
+    HasTokens "1'+'" "1 '+'" ×
+    HasTokens "1'\\u00e9" "1 ' \\u00e9" ×
+    HasTokens "1'2'3'" "1'2'3 '" ×
+    HasTokens "x1'2'" "x1 '2'" ×
+    HasTokens "1 '2'" "1 '2'" ×
+    HasTokens "1'\\\n0" "1'0" ×
     -- Character constants.
-    Reads "L'x'" "L'x'" ×
-    Reads "u'x'U'y'" "u'x' U'y'" ×
-    Reads "u8'x'" "u8'x'" ×
-    Reads "LL'x'" "LL 'x'" ×
-    Reads "'\\''" "'\\''" ×
-    Reads "'\\\\'a" "'\\\\' a" ×
-    Reads "'\"'\"'\"" "'\"' \"'\"" ×
-    Reads "'a'b" "'a' b" ×
+    HasTokens "L'x'" "L'x'" ×
+    HasTokens "u'x'U'y'" "u'x' U'y'" ×
+    HasTokens "u8'x'" "u8'x'" ×
+    HasTokens "LL'x'" "LL 'x'" ×
+    HasTokens "'\\''" "'\\''" ×
+    HasTokens "'\\\\'a" "'\\\\' a" ×
+    HasTokens "'\"'\"'\"" "'\"' \"'\"" ×
+    HasTokens "'a'b" "'a' b" ×
     -- String literals.
-    Reads "u8\"s\"" "u8\"s\"" ×
-    Reads "u\"s\"U\"s\"" "u\"s\" U\"s\"" ×
-    Reads "L\"\"" "L\"\"" ×
-    Reads "x\"s\"" "x \"s\"" ×
-    Reads "\"a\\\"b\"" "\"a\\\"b\"" ×
-    Reads "\"a\"\"b\"" "\"a\" \"b\"" ×
-    Reads "\"/*\"*/" "\"/*\" * /" ×
-    Reads "\"\\x41\\101\"" "\"\\x41\\101\"" ×
+    HasTokens "u8\"s\"" "u8\"s\"" ×
+    HasTokens "u\"s\"U\"s\"" "u\"s\" U\"s\"" ×
+    HasTokens "L\"\"" "L\"\"" ×
+    HasTokens "x\"s\"" "x \"s\"" ×
+    HasTokens "\"a\\\"b\"" "\"a\\\"b\"" ×
+    HasTokens "\"a\"\"b\"" "\"a\" \"b\"" ×
+    HasTokens "\"/*\"*/" "\"/*\" * /" ×
+    HasTokens "\"\\x41\\101\"" "\"\\x41\\101\"" ×
     -- Punctuators, each as long as it can be.
-    Reads "a+++b" "a ++ + b" ×
-    Reads "a---b" "a -- - b" ×
-    Reads "..." "..." ×
-    Reads ".." ". ." ×
-    Reads "...." "... ." ×
-    Reads "<<<=" "<< <=" ×
-    Reads ">>=>" ">>= >" ×
-    Reads "->*" "-> *" ×
-    Reads "&&&" "&& &" ×
-    Reads "|||" "|| |" ×
-    Reads "###" "## #" ×
-    Reads "!==" "!= =" ×
-    Reads "-->" "-- >" ×
-    Reads "[](){};,~" "[ ] ( ) { } ; , ~" ×
-    Reads "a?b:c" "a ? b : c" ×
-    Reads "a:::b" "a :: : b" ×
+    HasTokens "a+++b" "a ++ + b" ×
+    HasTokens "a---b" "a -- - b" ×
+    HasTokens "..." "..." ×
+    HasTokens ".." ". ." ×
+    HasTokens "...." "... ." ×
+    HasTokens "<<<=" "<< <=" ×
+    HasTokens ">>=>" ">>= >" ×
+    HasTokens "->*" "-> *" ×
+    HasTokens "&&&" "&& &" ×
+    HasTokens "|||" "|| |" ×
+    HasTokens "###" "## #" ×
+    HasTokens "!==" "!= =" ×
+    HasTokens "-->" "-- >" ×
+    HasTokens "[](){};,~" "[ ] ( ) { } ; , ~" ×
+    HasTokens "a?b:c" "a ? b : c" ×
+    HasTokens "a:::b" "a :: : b" ×
     -- Digraphs.
-    Reads "%:%:" "%:%:" ×
-    Reads "%:%" "%: %" ×
-    Reads "%:%:%:" "%:%: %:" ×
-    Reads "<:" "<:" ×
-    Reads "<::>" "<: :>" ×
-    Reads "<::" "<: :" ×
-    Reads "<%%>" "<% %>" ×
-    Reads "%>=" "%> =" ×
-    Reads "%=:" "%= :" ×
-    Reads "<<=%:%:->=>" "<<= %:%: -> = >" ×
+    HasTokens "%:%:" "%:%:" ×
+    HasTokens "%:%" "%: %" ×
+    HasTokens "%:%:%:" "%:%: %:" ×
+    HasTokens "<:" "<:" ×
+    HasTokens "<::>" "<: :>" ×
+    HasTokens "<::" "<: :" ×
+    HasTokens "<%%>" "<% %>" ×
+    HasTokens "%>=" "%> =" ×
+    HasTokens "%=:" "%= :" ×
+    HasTokens "<<=%:%:->=>" "<<= %:%: -> = >" ×
     -- Comments.
-    Reads "a/**/b" "a b" ×
-    Reads "a/*/b*/c" "a c" ×
-    Reads "a//b" "a" ×
-    Reads "a//b\nc" "a c" ×
-    Reads "a/ /b" "a / / b" ×
-    Reads "//*x\n*/y" "* / y" ×
-    Reads "a/* // */b" "a b" ×
-    Reads "a/=b" "a /= b" ×
-    Reads "a/*b**/*c" "a * c" ×
-    Reads "a/*'*/b" "a b" ×
+    HasTokens "a/**/b" "a b" ×
+    HasTokens "a/*/b*/c" "a c" ×
+    HasTokens "a//b" "a" ×
+    HasTokens "a//b\nc" "a c" ×
+    HasTokens "a/ /b" "a / / b" ×
+    HasTokens "//*x\n*/y" "* / y" ×
+    HasTokens "a/* // */b" "a b" ×
+    HasTokens "a/=b" "a /= b" ×
+    HasTokens "a/*b**/*c" "a * c" ×
+    HasTokens "a/*'*/b" "a b" ×
     -- Backslashes with a line feed after them, and white space.
-    Reads "els\\\ne" "else" ×
-    Reads "a\\\n+\\\n+b" "a ++ b" ×
-    Reads "a/\\\n/b\nc" "a c" ×
-    Reads "a\\ \nb" "a \\ b" ×
-    Reads "\"a\\\nb\"" "\"ab\"" ×
-    Reads "1e\\\n+5" "1e+5" ×
-    Reads "a\tb\nc" "a b c" ×
+    HasTokens "els\\\ne" "else" ×
+    HasTokens "a\\\n+\\\n+b" "a ++ b" ×
+    HasTokens "a/\\\n/b\nc" "a c" ×
+    HasTokens "a\\ \nb" "a \\ b" ×
+    HasTokens "\"a\\\nb\"" "\"ab\"" ×
+    HasTokens "1e\\\n+5" "1e+5" ×
+    HasTokens "a\tb\nc" "a b c" ×
     -- Texts without tokens.
     (tokens (codes "") ≡ []) ×
     (tokens (codes "/**/") ≡ []) ×

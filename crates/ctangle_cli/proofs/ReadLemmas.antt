@@ -25,7 +25,7 @@ use Rattle.tangle_session.specs.Headline.{Call, Apply, ApplyAll, History, Starte
 use Rattle.tangle_session.specs.Headline.{source_at, web_at}
 use Rattle.tangle_session.specs.Sessions.{SessionRead}
 use Rattle.ctangle_cli.specs.Run.{Moment, StartsSession}
-use Rattle.ctangle_cli.specs.WhatTheCompilerReads.{OutputsAreReadAsWritten, OutputsStayReadAsWritten, node_of}
+use Rattle.ctangle_cli.specs.WhatTheCompilerReads.{OutputsAreReadAsWritten, OutputsStayReadAsWritten, title_of_output}
 
 -- no name and no line has a line feed, and the files are within the limits of tables
 abbrev pub AreSound : FileTable → Type 0
@@ -36,7 +36,7 @@ unfolding web_at source_at
 read-as-written files roles sound output there =
     let source = source_at files roles in
     let web = web_at files roles in
-    let node = node_of files roles output in
+    let node = title_of_output files roles output in
     let clear = source-has files roles sound.0 in
     let fit = outputs_fit web (table_of web) (table_inside web) roles.out output there in
     record {

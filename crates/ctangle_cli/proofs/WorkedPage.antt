@@ -82,19 +82,19 @@ if_not = codes "13 return\n13 most\n13 ;\n"
 abbrev after : List ℕ
 after = codes "15 }"
 
-record Reads (program_tokens header_tokens : List LineOfTokens) : Type 0 where
+record PageIsRead (program_tokens header_tokens : List LineOfTokens) : Type 0 where
   pub both : shown [] (codes "a.c") program_tokens ≡ before ++ if_debug ++ if_not ++ after
   pub debug : shown (true ∷ false ∷ true ∷ []) (codes "a.c") program_tokens ≡ before ++ if_debug ++ after
   pub other : shown (false ∷ true ∷ true ∷ []) (codes "a.c") program_tokens ≡ before ++ if_not ++ after
   pub of_header : shown [] (codes "a.h") header_tokens ≡ codes "21 extern\n21 int\n21 n\n21 ;"
 
-reads_of_lines : Reads (lines_of_each start_of_text program_lines) (lines_of_each start_of_text header_lines)
+reads_of_lines : PageIsRead (lines_of_each start_of_text program_lines) (lines_of_each start_of_text header_lines)
 unfolding is_element is_token is_punctuator digits
 reads_of_lines = record { both = refl; debug = refl; other = refl; of_header = refl }
 
 -- `c_reads` reads the lines of the bytes, each by itself, since no comment and no quoted text goes over its end
-worked : Reads (lines_from start_of_text program) (lines_from start_of_text header)
+worked : PageIsRead (lines_from start_of_text program) (lines_from start_of_text header)
 worked =
-    subst (λ (both : List LineOfTokens × List LineOfTokens). Reads both.0 both.1)
+    subst (λ (both : List LineOfTokens × List LineOfTokens). PageIsRead both.0 both.1)
     (λ i. (sym (each_line start_of_text program whole.0) i, sym (each_line start_of_text header whole.1) i))
     reads_of_lines

@@ -27,20 +27,20 @@ use Rattle.tangle_session.specs.Headline.{output_bytes, source_at, table_at, web
 use Rattle.tangle_session.specs.Sessions.{SessionRead}
 
 module _ (files : FileTable) (roles : RolesRead) where
-  abbrev pub node_of : OutputRead → Title
-  node_of output = title_at (table_at files roles).names output.node
+  abbrev pub title_of_output : OutputRead → Title
+  title_of_output output = title_at (table_at files roles).names output.node
 
   -- The author's text decides this: the groups of items of all macros are read alone, if the file
   -- begins with them, and those of the pieces that its node reaches are whole.
   pub record IsWholeFile (output : OutputRead) : Type 0 where
     pub macros : output.has_macros ≡ true → MacrosAreReadAlone (source_at files roles)
     pub pieces : output.has_piece ≡ true
-        → ReachesWholePieces (source_at files roles) (node_of output)
+        → ReachesWholePieces (source_at files roles) (title_of_output output)
 
   -- the class of each byte of an output file: whether it is of an item, and of which line
   abbrev pub classes_of : OutputRead → List ByteClass
   classes_of output =
-      classes_of_file (source_at files roles) output.has_macros output.has_piece (node_of output)
+      classes_of_file (source_at files roles) output.has_macros output.has_piece (title_of_output output)
 
   -- What a C compiler reads of an output file: the tokens of the author's groups, if these are
   -- whole, each at its line of the source, if also line marks are written in full, and each line of
@@ -49,7 +49,7 @@ module _ (files : FileTable) (roles : RolesRead) where
     pub tokens : IsWholeFile output
         → IsReadAsTexts
         (texts_of_file (source_at files roles) roles.marks output.has_macros output.has_piece
-        (node_of output))
+        (title_of_output output))
         (output_bytes files roles output)
     pub lines : roles.marks ≡ Full → IsWholeFile output
         → DirectivesAreSeen (classes_of output) (output_bytes files roles output)

@@ -7,7 +7,7 @@ use std::marker::Model;
 /// A node of a graph of names, as one number: the unnamed program is 0, and the full name with the
 /// number `id` in its table is `id + 1`. So no node has another number after a name is added at the
 /// end of a table.
-#[derive(Clone, Copy, Debug, PartialEq, Eq)]
+#[derive(Clone, Copy, Debug, PartialEq, Eq, PartialOrd, Ord)]
 pub struct Node {
     number: usize,
 }

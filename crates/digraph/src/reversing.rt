@@ -11,8 +11,8 @@ use crate::nodes::Node;
 use crate::rows::Rows;
 use std::alloc::{AllocError, Global};
 
-/// Sorts the numbers of the row, and leaves each once.
-pub fn once_each(row: &mut Vec<usize>)
+/// Sorts the nodes of the row by their numbers, and leaves each once.
+pub fn once_each(row: &mut Vec<Node>)
     ensures { IsOnceEach row.old.items row.new.items }
 {
     row.sort_unstable();

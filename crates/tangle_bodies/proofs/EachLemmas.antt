@@ -22,11 +22,12 @@ pub drop_at : {X : Type 0} (xs : List X) (i : ℕ) (x : X)
     → i < length xs → x ≡ get_or xs i x → drop i xs ≡ x ∷ drop (i + 1) xs
 drop_at xs i x h e = drop_more xs i x h ∙ ap (λ v. v ∷ drop (i + 1) xs) (sym e)
 
--- what `f` gives for each element, mapped, is what `h` gives for each element that `g` makes of them
-pub each_mapped : {X Y A B : Type 0} (k : A → B) (f : X → List A) (h : Y → List B) (g : X → Y)
-    → ((x : X) → map k (f x) ≡ h (g x)) → (xs : List X) → map k (flat_map f xs) ≡ flat_map h (map g xs)
-each_mapped k f h g same [] = refl
-each_mapped k f h g same (x ∷ xs) = grind (arith, nat_tests, map-append k, each_mapped k f h g same xs)
+-- what `f` gives for each element, mapped, is what `h` gives, mapped, for each element that `g` makes of them
+pub each_mapped : {X Y A B C : Type 0} (k : A → C) (l : B → C) (f : X → List A) (h : Y → List B) (g : X → Y)
+    → ((x : X) → map k (f x) ≡ map l (h (g x))) → (xs : List X) → map k (flat_map f xs) ≡ map l (flat_map h (map g xs))
+each_mapped k l f h g same [] = refl
+each_mapped k l f h g same (x ∷ xs) =
+    grind (arith, nat_tests, map-append k, map-append l, each_mapped k l f h g same xs)
 
 -- what holds of each item of a list, and of the default, holds of whatever is read from the list
 pub all_or : {X : Type 0} (P : X → Type 0) (xs : List X) (d : X) → P d → All P xs → (i : ℕ) → P (get_or xs i d)

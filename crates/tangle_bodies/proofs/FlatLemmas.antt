@@ -6,15 +6,17 @@ use Rattle.std.proofs.Common.{◌≡◌, ◌∙◌, ℕ, ◌+◌, zero, suc, Lis
 use Rattle.std.proofs.Common.{length, refl, ap}
 use Rattle.std.specs.Prelude.{flat_map}
 use Rattle.std.proofs.lemmas.List.{map-append, take-append-drop, length-take-le}
+use Rattle.std.proofs.lemmas.Simd.{map-map}
 use Rattle.tangle_text.specs.Runs.{part_more, parts_of}
 use Rattle.tangle_text.proofs.PartLemmas.{part-fits}
-use Rattle.tangle_bodies.specs.Shapes.{Title, Kind, ShapeItem, Written, Shape}
+use Rattle.tangle_bodies.specs.Shapes.{Title, Named, Kind, ShapeItem, Written, Shape}
 use Rattle.tangle_bodies.specs.Flat.{Symbol, Byte, items_flat, marks_after_shape_item}
 use Rattle.tangle_bodies.specs.Flat.{pieces_flat}
 use Rattle.tangle_bodies.proofs.EachLemmas.{joins, seams}
 use Rattle.tangle_bodies.specs.Meaning.{next_piece, next_mark, with_used, tags_flat, node_flat}
 use Rattle.tangle_bodies.specs.Flat.{own_symbols}
-use Rattle.tangle_bodies.specs.NodeBodies.{HoldsShape, body_uses, names_at}
+use Rattle.tangle_bodies.specs.NodeBodies.{HoldsShape, body_uses}
+use Rattle.tangle_bodies.specs.Nodes.{titles_at}
 use Rattle.tangle_bodies.specs.Tags.{item_tag, item_bytes, piece_end, shape_tags, shape_bytes}
 use Rattle.tangle_bodies.specs.Shapes.{item_names, shape_names}
 use Rattle.tangle_scan.specs.UnfoldedTags.{part_tag, run_tags, kind_tags, unfolded_tags}
@@ -90,9 +92,11 @@ module _ (node : Title) where
         let first = items_shaped piece 0 items (shape_bytes pieces) (shape_tags pieces) (shape_names pieces) in
         grind (joins, first, shape_flat (piece + 1) 0 pieces)
 
--- the symbols of a body, where each name that it uses has the symbols that it has in the shape
+-- the symbols of a body, where each node that it uses has the symbols that its title has in the shape
 pub held_flat : (node : Title) (names : List (List ℕ)) (shape : Shape) (body : NodeBody)
-    (symbols : List ℕ → List Symbol) (used : List (List Symbol)) → HoldsShape names shape body
-    → used ≡ map symbols (names_at names (body_uses body))
-    → node_flat node body.items.value used ≡ pieces_flat symbols node 0 shape
-held_flat node names shape body symbols used h same = search (rules, unfolded_flat, shape_flat)
+    (symbols : Title → List Symbol) (used : List (List Symbol)) → HoldsShape names shape body
+    → used ≡ map symbols (titles_at names (body_uses body))
+    → node_flat node body.items.value used ≡ pieces_flat (λ name. symbols (Named name)) node 0 shape
+held_flat node names shape body symbols used h same =
+    let named = same ∙ ap (map symbols) h.uses ∙ map-map symbols Named (shape_names shape) in
+    rw named (search (rules, unfolded_flat, shape_flat))

@@ -3,6 +3,7 @@ use Rattle.std.proofs.lemmas.Bool.Decides.{nat_tests}
 use Rattle.std.proofs.Common.{◌≡◌, ◌∙◌, ◌<◌, ℕ, ◌+◌, true, List, [], ◌∷◌, ◌++◌, length, map, take, drop, get_or, set}
 use Rattle.std.proofs.Common.{refl, ap, sym, arith, append_assoc}
 use Rattle.std.proofs.lemmas.List.{take_more_set, drop-set-lt}
+use Rattle.std.specs.Prelude.{is_some}
 use Rattle.std.specs.List.{list_all}
 use Rattle.tangle_text.specs.Runs.{parts_of}
 use Rattle.tangle_text.specs.declared.runs.RunPart.{RunPart}
@@ -11,8 +12,8 @@ use Rattle.tangle_scan.specs.declared.texts.ItemKind.TheVariants as tag
 use Rattle.tangle_scan.specs.declared.texts.ItemTag.{ItemTag}
 use Rattle.tangle_scan.specs.UnfoldedTags.{StandFor, part_tag, run_tags, tag_sizes, unfolded_tags}
 use Rattle.tangle_names.specs.NameTable.{TableRead}
-use Rattle.tangle_bodies.specs.ItemTags.{is_name, resolved_tags}
-use Rattle.tangle_bodies.specs.WebShapes.{resolved_at}
+use Rattle.tangle_bodies.specs.ItemTags.{resolved_tags}
+use Rattle.tangle_bodies.specs.Nodes.{node_of_occurrence}
 use Rattle.tangle_bodies.proofs.EachLemmas.{drop_at}
 
 module _ (table : TableRead) where
@@ -51,7 +52,7 @@ module _ (table : TableRead) where
   }
 
   -- where each occurrence resolves to a name
-  pub all-resolved : (tags : List ItemTag) (ns : List ℕ) → list_all (λ n. is_name (resolved_at table n)) ns ≡ true
+  pub all-resolved : (tags : List ItemTag) (ns : List ℕ) → list_all (λ n. is_some (node_of_occurrence table n)) ns ≡ true
       → resolved_tags table tags ns ≡ tags
   all-resolved [] ns h = refl
   all-resolved (t ∷ tags) ns h = grind (arith, nat_tests, all-resolved tags)

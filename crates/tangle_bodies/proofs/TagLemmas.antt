@@ -9,7 +9,7 @@ use Rattle.tangle_bodies.specs.NodeBodies.{HoldsShape, HaveOneShape, body_items}
 use Rattle.tangle_bodies.specs.declared.nodes.NodeBody.{NodeBody}
 use Rattle.tangle_bodies.specs.Tags.{written_kind, item_tag, piece_end, item_bytes, shape_tags, shape_bytes}
 use Rattle.tangle_bodies.specs.Shapes.{item_names}
-use Rattle.tangle_bodies.specs.Shapes.{shape_names}
+use Rattle.tangle_bodies.specs.Shapes.{Named, Program, Title, shape_names, shape_titles}
 use Rattle.tangle_scan.specs.declared.texts.ItemKind.{ItemKind}
 use Rattle.tangle_scan.specs.declared.texts.ItemKind.TheVariants as tag
 use Rattle.tangle_scan.specs.declared.texts.ItemTag.{ItemTag}
@@ -63,9 +63,18 @@ unfolding shape_from_tags item_from_tag
 shape_from_its_tags [] = refl
 shape_from_its_tags (items ∷ pieces) = grind (joins, piece_from_tags items, shape_from_its_tags pieces)
 
+abbrev name_of : Title → List ℕ
+name_of Program = []
+name_of (Named name) = name
+
+named_back : (names : List (List ℕ)) → map name_of (map Named names) ≡ names
+named_back [] = refl
+named_back (name ∷ names) = ap (λ rest. name ∷ rest) (named_back names)
+
 pub same_by_tags : (s t : Shape)
-    → shape_tags s ≡ shape_tags t → shape_bytes s ≡ shape_bytes t → shape_names s ≡ shape_names t → s ≡ t
-same_by_tags s t tags bytes names =
+    → shape_tags s ≡ shape_tags t → shape_bytes s ≡ shape_bytes t → shape_titles s ≡ shape_titles t → s ≡ t
+same_by_tags s t tags bytes titles =
+    let names = sym (named_back (shape_names s)) ∙ ap (map name_of) titles ∙ named_back (shape_names t) in
     sym (shape_from_its_tags s) ∙ (λ i. shape_from_tags (tags i) (bytes i) (names i)) ∙ shape_from_its_tags t
 
 -- the bodies of two nodes determine whether their shapes are equal

@@ -1,5 +1,5 @@
 -- The body of a node, as contracts mention it, and its items while they are made.
-use Rattle.std.specs.Prelude.{◌≡◌, ◌<◌, ◌+◌, ℕ, List, [], ◌∷◌, ◌++◌, length, map, slice_index_or}
+use Rattle.std.specs.Prelude.{◌≡◌, ◌+◌, ℕ, List, [], ◌∷◌, ◌++◌, length, map}
 use Rattle.std.specs.Prelude.{All, slice_get, Some}
 use Rattle.std.specs.Global.{Global}
 use Rattle.std.specs.declared.rc.Rc.{Rc}
@@ -9,10 +9,10 @@ use Rattle.tangle_scan.specs.Web.{PieceRead}
 use Rattle.tangle_names.specs.NameTable.{TableRead}
 use Rattle.tangle_bodies.specs.Shapes.{Shape, Shapes}
 use Rattle.tangle_bodies.specs.Tags.{piece_end, piece_start, shape_tags, shape_bytes}
-use Rattle.tangle_bodies.specs.Shapes.{shape_names}
-use Rattle.tangle_bodies.specs.ItemTags.{names_of, pieces_uses, resolved_tags}
+use Rattle.tangle_bodies.specs.Shapes.{shape_titles}
+use Rattle.tangle_bodies.specs.ItemTags.{nodes_of, pieces_uses, resolved_tags}
 use Rattle.tangle_bodies.specs.WebShapes.{shape_of}
-use Rattle.tangle_bodies.specs.Nodes.{title_at}
+use Rattle.tangle_bodies.specs.Nodes.{IsNodeOf, title_at, titles_at}
 use Rattle.tangle_scan.specs.declared.texts.ItemTag.{ItemTag}
 use Rattle.tangle_scan.specs.UnfoldedTags.{unfolded_tags}
 use Rattle.tangle_bodies.specs.declared.nodes.NodeBody.{NodeBody}
@@ -22,9 +22,9 @@ use Rattle.tangle_bodies.specs.declared.nodes.NodeItems.{NodeItems}
 pub record ItemsRead : Type 0 where
   pub tags : List ItemTag
   pub bytes : List ℕ
-  pub uses : List ℕ
+  pub uses : List Node
 
-abbrev pub items_read : NodeItems → List ℕ → ItemsRead
+abbrev pub items_read : NodeItems → List Node → ItemsRead
 items_read items uses =
     record { tags = items.tags.items; bytes = items.bytes.items; uses = uses }
 
@@ -39,23 +39,19 @@ abbrev pub with_piece : TableRead → ItemsRead → TextRead → ItemsRead
 with_piece table old text = record old {
   tags = old.tags ++ (piece_start ∷ resolved_tags table text.tags text.uses ++ piece_end ∷ []);
   bytes = old.bytes ++ text.bytes;
-  uses = old.uses ++ names_of table text.uses;
+  uses = old.uses ++ nodes_of table text.uses;
 }
 
--- the numbers of the names that the items use: one for each use that resolves to a name
-abbrev pub body_uses : NodeBody → List ℕ
+-- the nodes that the items use: one for each use that resolves to a name
+abbrev pub body_uses : NodeBody → List Node
 body_uses body = body.uses.items
-
--- the names with these numbers
-abbrev pub names_at : List (List ℕ) → List ℕ → List (List ℕ)
-names_at names numbers = map (λ id. slice_index_or names id []) numbers
 
 -- the body determines this shape, where the table has these names
 pub record HoldsShape (names : List (List ℕ)) (shape : Shape) (body : NodeBody) : Type 0 where
   pub tags : unfolded_tags body.items.value.tags.items body.items.value.bytes.items
       ≡ shape_tags shape
   pub bytes : body.items.value.bytes.items ≡ shape_bytes shape
-  pub names_used : names_at names (body_uses body) ≡ shape_names shape
+  pub uses : titles_at names (body_uses body) ≡ shape_titles shape
 
 -- these are the items of these pieces
 pub record AreItemsOf (texts : List (List ℕ)) (table : TableRead)
@@ -70,7 +66,7 @@ pub record HaveOneShape (names other_names : List (List ℕ))
     (items others : ItemsRead) : Type 0 where
   pub tags : unfolded_tags items.tags items.bytes ≡ unfolded_tags others.tags others.bytes
   pub bytes : items.bytes ≡ others.bytes
-  pub names_used : names_at names items.uses ≡ names_at other_names others.uses
+  pub uses : titles_at names items.uses ≡ titles_at other_names others.uses
 
 -- The bodies of the nodes of some shapes.
 
@@ -78,11 +74,11 @@ pub record HaveOneShape (names other_names : List (List ℕ))
 abbrev pub node_bodies : List (Rc NodeBody Global) → List NodeBody
 node_bodies bodies = map (λ (body : Rc NodeBody Global). body.value) bodies
 
--- the body determines the node's shape, and uses names of the table
+-- the body determines the node's shape, and uses nodes of the table
 pub record IsBodyOf (shapes : Shapes) (names : List (List ℕ))
     (node : Node) (body : NodeBody) : Type 0 where
   pub shape : HoldsShape names (shapes (title_at names node)) body
-  pub inside : All (λ id. id < length names) (body_uses body)
+  pub inside : All (IsNodeOf names) (body_uses body)
 
 -- there is a body for each node, which is such a one
 pub record AreBodiesOf (shapes : Shapes) (names : List (List ℕ))

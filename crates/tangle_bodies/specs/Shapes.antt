@@ -1,6 +1,6 @@
 -- The shapes of a web: the pieces of each node, without section numbers and origins, and with each
 -- use resolved.
-use Rattle.std.specs.Prelude.{ℕ, Bool, true, false, List, [], ◌∷◌, flat_map, Contains}
+use Rattle.std.specs.Prelude.{ℕ, Bool, true, false, List, [], ◌∷◌, flat_map, map, Contains}
 use Rattle.std.specs.Str.{bytes_eq}
 
 -- a node: the unnamed program, or a full name by its bytes
@@ -54,6 +54,10 @@ item_names _ = []
 
 abbrev pub shape_names : Shape → List (List ℕ)
 shape_names shape = flat_map (λ items. flat_map item_names items) shape
+
+-- the titles of what the uses name, one for each use
+abbrev pub shape_titles : Shape → List Title
+shape_titles shape = map Named (shape_names shape)
 
 -- One node uses another: it has a use of the other's name. Nothing uses the program. What a node
 -- reaches along these uses, and whether it contains itself, is as in `digraph`.

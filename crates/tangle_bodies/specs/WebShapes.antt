@@ -26,23 +26,23 @@ module _ (table : TableRead) where
   use_of (Name id) = Use (name_at id)
   use_of _ = NoUse
 
-  -- the node of the name to which an occurrence resolves
-  abbrev pub node_of : Resolved → Option Title
-  node_of (Name id) = Some (Named (name_at id))
-  node_of _ = None
+  -- the title of the name to which an occurrence resolves
+  abbrev pub title_of : Resolved → Option Title
+  title_of (Name id) = Some (Named (name_at id))
+  title_of _ = None
 
-  -- the node of a piece with this occurrence; without an occurrence it is the program. A piece
-  -- whose occurrence resolves to no name has no node, and is dropped.
-  abbrev pub node_of_occurrence : Option ℕ → Option Title
-  node_of_occurrence None = Some Program
-  node_of_occurrence (Some occurrence) = node_of (resolved_at occurrence)
+  -- the title of a piece with this occurrence; without an occurrence it is the program. A piece
+  -- whose occurrence resolves to no name has no title, and is dropped.
+  abbrev pub title_of_piece : Option ℕ → Option Title
+  title_of_piece None = Some Program
+  title_of_piece (Some occurrence) = title_of (resolved_at occurrence)
 
-  abbrev pub is_node : Title → Option Title → Bool
-  is_node node None = false
-  is_node node (Some other) = title_eq node other
+  abbrev pub is_titled : Title → Option Title → Bool
+  is_titled title None = false
+  is_titled title (Some other) = title_eq title other
 
   abbrev pub is_piece_of : Title → PieceRead → Bool
-  is_piece_of node piece = is_node node (node_of_occurrence piece.occurrence)
+  is_piece_of title piece = is_titled title (title_of_piece piece.occurrence)
 
 -- an occurrence with this resolution resolves to one of the first `count` names, or to none
 abbrev pub IsNameBelow : ℕ → Resolved → Type 0

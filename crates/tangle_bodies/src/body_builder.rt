@@ -1,23 +1,24 @@
 //! Makes the body of a node, piece by piece.
 ghost use Rattle.std.specs.Prelude.{◌≡◌, ◌↔◌, ◌≤◌, ◌<◌, ◌++◌, ◌∷◌, [], drop, length, take, true};
-ghost use Rattle.std.specs.Prelude.{IfOk, List, OnOk};
+ghost use Rattle.std.specs.Prelude.{IfOk, List, OnOk, is_some};
 ghost use Rattle.std.specs.List.{All, list_all};
 ghost use Rattle.tangle_scan.specs.Texts.{text_of};
 ghost use Rattle.tangle_scan.specs.declared.texts.ItemTag.{ItemTag as TagRead};
-ghost use Rattle.tangle_bodies.specs.ItemTags.{is_name, names_of, resolved_tags};
+ghost use Rattle.tangle_bodies.specs.ItemTags.{nodes_of, resolved_tags};
 ghost use Rattle.tangle_bodies.specs.NodeBodies.{AreItemsOf, HaveOneShape, body_items};
-ghost use Rattle.tangle_bodies.specs.NodeBodies.{body_uses, items_read, names_at, nothing_made};
+ghost use Rattle.tangle_bodies.specs.NodeBodies.{body_uses, items_read, nothing_made};
 ghost use Rattle.tangle_bodies.specs.NodeBodies.{with_piece};
-ghost use Rattle.tangle_bodies.specs.Nodes.{pieces_at};
-ghost use Rattle.tangle_bodies.specs.WebShapes.{resolved_at};
+ghost use Rattle.tangle_bodies.specs.Nodes.{HasNodes, IsNodeOf, node_of_occurrence, pieces_at};
+ghost use Rattle.tangle_bodies.specs.Nodes.{titles_at};
 
-use crate::nodes::{NodeBody, NodeItems};
-use crate::shapes::{same_items, use_same_names};
+use crate::nodes::{NodeBody, NodeItems, node_of_occurrence};
+use crate::shapes::{have_titles_of, same_items};
+use digraph::Node;
 use std::alloc::Global;
 use std::marker::Model;
 use std::rc::Rc;
 use tangle_lines::NoMemory;
-use tangle_names::{NameTable, Names, Resolved};
+use tangle_names::{NameTable, Names};
 use tangle_scan::{ItemKind, ItemTag, OccurrenceNumber, PieceText, Web};
 
 /// Buffers in which the items of one node after another are made. They are kept for the next node,
@@ -25,7 +26,7 @@ use tangle_scan::{ItemKind, ItemTag, OccurrenceNumber, PieceText, Web};
 #[derive(Drop)]
 pub struct BodyBuilder {
     items: NodeItems,
-    uses: Vec<usize>,
+    uses: Vec<Node>,
 }
 
 impl Model for BodyBuilder {
@@ -58,6 +59,7 @@ impl BodyBuilder {
     pub fn make(&mut self, web: &Web, table: &NameTable, numbers: &[usize]) -> Result<(), NoMemory>
         requires numbers { All (λ n. n < length web.now.pieces) numbers.now }
         requires ours { length table.now.resolved ≡ length web.now.occurrences }
+        requires nodes { HasNodes table.now }
         ensures { OnOk result (AreItemsOf web.now.texts table.now
             (pieces_at web.now.pieces numbers.now) self.new) }
     {
@@ -79,18 +81,18 @@ impl BodyBuilder {
         other_names: &Names,
         same_uses: bool,
     ) -> bool
-        requires inside { All (λ id. id < length names.now) self.now.uses }
-        requires other_inside { All (λ id. id < length other_names.now) (body_uses body.now) }
+        requires inside { All (IsNodeOf names.now) self.now.uses }
+        requires other_inside { All (IsNodeOf other_names.now) (body_uses body.now) }
         requires same_uses { same_uses ≡ true
-            → names_at names.now self.now.uses ≡ names_at other_names.now (body_uses body.now) }
+            → titles_at names.now self.now.uses ≡ titles_at other_names.now (body_uses body.now) }
         ensures { (result ≡ true)
             ↔ HaveOneShape names.now other_names.now self.now (body_items body.now) }
     {
         same_items(&self.items, &body.items)
-            && (same_uses || use_same_names(names, &self.uses, other_names, &body.uses))
+            && (same_uses || have_titles_of(names, &self.uses, other_names, &body.uses))
     }
 
-    /// Whether the uses that were made have the same numbers as those of a body.
+    /// Whether the uses that were made are the same nodes as those of a body.
     pub fn has_uses_of(&self, body: &NodeBody) -> bool
         ensures { (result ≡ true) ↔ (self.now.uses ≡ body_uses body.now) }
     {
@@ -134,21 +136,22 @@ impl BodyBuilder {
         Ok(())
     }
 
-    /// Adds the numbers of the names to which these occurrences resolve. Returns whether each
-    /// resolves to one.
+    /// Adds the nodes of the names to which these occurrences resolve. Returns whether each resolves
+    /// to one.
     fn add_uses(&mut self, table: &NameTable, uses: &[OccurrenceNumber]) -> Result<bool, NoMemory>
-        requires { All (λ n. n < length table.now.resolved) uses.now }
+        requires uses { All (λ n. n < length table.now.resolved) uses.now }
+        requires nodes { HasNodes table.now }
         ensures uses { OnOk result (self.new ≡ record self.old {
-          uses = self.old.uses ++ names_of table.now uses.now;
+          uses = self.old.uses ++ nodes_of table.now uses.now;
         }) }
         ensures all { IfOk result (λ all. all
-            ≡ list_all (λ n. is_name (resolved_at table.now n)) uses.now) }
+            ≡ list_all (λ n. is_some (node_of_occurrence table.now n)) uses.now) }
     {
         let mut all = true;
         for used in uses {
-            match table.resolve(used.number()) {
-                Resolved::Name(id) => self.uses.push(id)?,
-                Resolved::NoFullName | Resolved::Ambiguous => all = false,
+            match node_of_occurrence(table, used.number()) {
+                Some(node) => self.uses.push(node)?,
+                None => all = false,
             }
         }
         Ok(all)
@@ -156,7 +159,8 @@ impl BodyBuilder {
 
     /// Adds a piece.
     fn add_piece(&mut self, table: &NameTable, text: PieceText) -> Result<(), NoMemory>
-        requires { All (λ n. n < length table.now.resolved) (text_of text).uses }
+        requires uses { All (λ n. n < length table.now.resolved) (text_of text).uses }
+        requires nodes { HasNodes table.now }
         ensures { OnOk result (self.new ≡ with_piece table.now self.old (text_of text.entry)) }
     {
         let all_resolve = self.add_uses(table, text.uses)?;
@@ -176,16 +180,17 @@ fn resolved_tag<'u>(
     tag: ItemTag,
     uses: &'u [OccurrenceNumber],
 ) -> (ItemTag, &'u [OccurrenceNumber])
-    requires { All (λ n. n < length table.now.resolved) uses.now }
+    requires uses { All (λ n. n < length table.now.resolved) uses.now }
+    requires nodes { HasNodes table.now }
     ensures tag { (tags : List TagRead) → resolved_tags table.now (tag ∷ tags) uses.now
         ≡ result.0 ∷ resolved_tags table.now tags result.1.now }
     ensures left { All (λ n. n < length table.now.resolved) result.1.now }
 {
     match (tag.kind, uses) {
         (ItemKind::Use, [used, rest @ ..]) => {
-            let kind = match table.resolve(used.number()) {
-                Resolved::Name(_) => ItemKind::Use,
-                Resolved::NoFullName | Resolved::Ambiguous => ItemKind::NoUse,
+            let kind = match node_of_occurrence(table, used.number()) {
+                Some(_) => ItemKind::Use,
+                None => ItemKind::NoUse,
             };
             (ItemTag { kind, ..tag }, rest)
         }
@@ -204,7 +209,9 @@ fn mark_unresolved(
 )
     requires first { first ≤ length tags.old.items }
     requires uses { All (λ n. n < length table.now.resolved) uses.now }
-    requires all { all_resolve ≡ list_all (λ n. is_name (resolved_at table.now n)) uses.now }
+    requires nodes { HasNodes table.now }
+    requires all { all_resolve
+        ≡ list_all (λ n. is_some (node_of_occurrence table.now n)) uses.now }
     ensures { tags.new.items ≡ take first tags.old.items
         ++ resolved_tags table.now (drop first tags.old.items) uses.now }
 {

@@ -13,5 +13,5 @@ mod shapes;
 pub use body_builder::BodyBuilder;
 pub use counting::symbols_of_kind;
 pub use laws::{names_resolve_inside, tags_settle_the_shape};
-pub use nodes::{NodeBody, NodeItems};
+pub use nodes::{NodeBody, NodeItems, node_of_occurrence};
 pub use tangle_scan::{ItemKind, ItemTag};

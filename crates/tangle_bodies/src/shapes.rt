@@ -1,31 +1,32 @@
 //! Compares shapes.
-ghost use Rattle.std.specs.Prelude.{◌≡◌, ◌<◌, ◌↔◌, true, false, length};
+ghost use Rattle.std.specs.Prelude.{◌≡◌, ◌↔◌, true, false};
 ghost use Rattle.std.specs.List.{All};
 ghost use Rattle.tangle_scan.specs.UnfoldedTags.{unfolded_tags};
-ghost use Rattle.tangle_bodies.specs.NodeBodies.{HaveOneShape, body_items, body_uses, names_at};
+ghost use Rattle.tangle_bodies.specs.NodeBodies.{HaveOneShape, body_items, body_uses};
+ghost use Rattle.tangle_bodies.specs.Nodes.{IsNodeOf, titles_at};
 
-use crate::nodes::{NodeBody, NodeItems};
+use crate::nodes::{NodeBody, NodeItems, has_title_of};
+use digraph::Node;
 use tangle_names::Names;
 use tangle_scan::have_same_items;
 
-/// Whether the names with these numbers in one table are, one by one, those with the other numbers
-/// in the other table.
-pub(crate) fn use_same_names(
+/// Whether the nodes of one table have, one by one, the titles of the others in the other table.
+pub(crate) fn have_titles_of(
     names: &Names,
-    uses: &[usize],
+    nodes: &[Node],
     other_names: &Names,
-    other_uses: &[usize],
+    others: &[Node],
 ) -> bool
-    requires inside { All (λ id. id < length names.now) uses.now }
-    requires other_inside { All (λ id. id < length other_names.now) other_uses.now }
+    requires inside { All (IsNodeOf names.now) nodes.now }
+    requires other_inside { All (IsNodeOf other_names.now) others.now }
     ensures { (result ≡ true)
-        ↔ (names_at names.now uses.now ≡ names_at other_names.now other_uses.now) }
+        ↔ (titles_at names.now nodes.now ≡ titles_at other_names.now others.now) }
 {
-    if uses.len() != other_uses.len() {
+    if nodes.len() != others.len() {
         return false;
     }
-    for i in 0..uses.len() {
-        if names.text(uses[i]) != other_names.text(other_uses[i]) {
+    for i in 0..nodes.len() {
+        if !has_title_of(names, nodes[i], other_names, others[i]) {
             return false;
         }
     }
@@ -46,12 +47,12 @@ impl NodeBody {
     /// pieces, with items of the same kinds and bytes, and uses of the same names. Section numbers
     /// and origins do not belong to a shape, but the positions of the marks do.
     pub fn has_shape_of(&self, names: &Names, other: &NodeBody, other_names: &Names) -> bool
-        requires inside { All (λ id. id < length names.now) (body_uses self.now) }
-        requires other_inside { All (λ id. id < length other_names.now) (body_uses other.now) }
+        requires inside { All (IsNodeOf names.now) (body_uses self.now) }
+        requires other_inside { All (IsNodeOf other_names.now) (body_uses other.now) }
         ensures { (result ≡ true)
             ↔ HaveOneShape names.now other_names.now (body_items self.now) (body_items other.now) }
     {
         same_items(&self.items, &other.items)
-            && use_same_names(names, &self.uses, other_names, &other.uses)
+            && have_titles_of(names, &self.uses, other_names, &other.uses)
     }
 }

@@ -122,16 +122,16 @@ module _ (source : SourceRead) (modes : MarkMode)
     -- `tail` is written after the node, and read as the texts `us`.
     module _ (node : Title) (tail : List ℕ) (us : List (List ℕ)) (tail_read : IsReadAsTexts us tail) where
       -- a row that is whole, and what is written for the uses of its pieces, are read
-      abbrev IsRead : List Passage → List PieceRead → Type 0
-      IsRead row pieces =
+      abbrev RowIsRead : List Passage → List PieceRead → Type 0
+      RowIsRead row pieces =
           AllByRecursion (IsWholePassage source) row × AllByRecursion IsWholeName
           (shape_names (shape_of (texts_of lines) table pieces))
           → IsReadAsTexts (texts_in row ++ us) (flat_map bytes_of pieces ++ tail)
 
       one-more : (b : Block) (occurrence : Option ℕ) (line : ℕ) (row : List Passage) (pieces : List PieceRead)
-          → AreTexts (texts_of lines) (part_tokens (texts_of lines) b.tokens) → IsRead row pieces
+          → AreTexts (texts_of lines) (part_tokens (texts_of lines) b.tokens) → RowIsRead row pieces
           → let piece : PieceRead = piece_at lines b occurrence line in
-          IsRead (row_of_piece (texts_of lines) piece (part_tokens (texts_of lines) b.tokens) ++ row) (piece ∷ pieces)
+          RowIsRead (row_of_piece (texts_of lines) piece (part_tokens (texts_of lines) b.tokens) ++ row) (piece ∷ pieces)
       one-more b occurrence line row pieces are next ready =
           let piece = piece_at lines b occurrence line in
           let own : List Passage = row_of_piece (texts_of lines) piece (part_tokens (texts_of lines) b.tokens) in
@@ -152,7 +152,7 @@ module _ (source : SourceRead) (modes : MarkMode)
           → IsReadAsTexts (texts_in (row_of_node source node) ++ us)
           (expansion_bytes numbers (pieces_flat used node 0 (all_shapes node)) ++ tail)
       node-by-parts reaches line =
-          rw (written node) (node-by lines table node IsRead (λ ready. tail_read) one-more
+          rw (written node) (node-by lines table node RowIsRead (λ ready. tail_read) one-more
           feeds.lines (
             reaches node here,
             each IsWholeName (shape_names (all_shapes node))

@@ -75,10 +75,10 @@ module _ (texts : List (List ℕ)) (tail : List ℕ) (ts : List (List ℕ))
       × (last_number_goes_on (spliced text) (text_of texts f) ≡ false))
   apart-edges text e f of_e of_f may apart = by (is_range e) (is_range f) of_e.ends of_f.begins (rw may at apart)
     where
-      by : {ends begins goes_on : Bool} (range next_range : Bool) → (range ≡ false → ends ≡ true)
+      by : {ends begins continued : Bool} (range next_range : Bool) → (range ≡ false → ends ≡ true)
           → (next_range ≡ false → begins ≡ true)
-          → ((not range || ends) && (not next_range || begins) && not goes_on) ≡ true
-          → (ends ≡ true) × ((begins ≡ true) × (goes_on ≡ false))
+          → ((not range || ends) && (not next_range || begins) && not continued) ≡ true
+          → (ends ≡ true) × ((begins ≡ true) × (continued ≡ false))
       by range next_range of_ends of_begins all = grind arith
 
   meets-next : (items : List Token) (e f : Token) → HasItsEdges texts e → HasItsEdges texts f
@@ -127,7 +127,7 @@ module _ (texts : List (List ℕ)) (tail : List ℕ) (ts : List (List ℕ))
       → IsReadAsTexts (group_text texts (items ++ e ∷ []) ∷ texts_in (groups_after [] es) ++ ts)
       (group_text texts (items ++ e ∷ []) ++ bytes_from in_name (Some e) white es)
 
-  record Reads (es : List Token) : Type 0 where
+  record TokensAreRead (es : List Token) : Type 0 where
     front : ReadsFront es
     within : ReadsWithin es
     after_white : (in_name : Bool) → ReadsAfter in_name true es
@@ -163,7 +163,7 @@ module _ (texts : List (List ℕ)) (tail : List ℕ) (ts : List (List ℕ))
 
   at-item : (e : Token) (es : List Token) → is_front_gap e ≡ false →
       ((items : List Token) → groups_after items (e ∷ es) ≡ groups_after (items ++ e ∷ []) es)
-      → ReadsWithin es → Reads (e ∷ es)
+      → ReadsWithin es → TokensAreRead (e ∷ es)
   at-item e es item more within = record {
     front = λ on in_name white alone.
         rw (front-item in_name white e es item) (first on (in_name && not white && is_name_part e)
@@ -197,7 +197,7 @@ module _ (texts : List (List ℕ)) (tail : List ℕ) (ts : List (List ℕ))
       IsReadAlone texts (record { items = items; rest = es })
   same-group items es alone = grind (arith, nat_tests)
 
-  reads : (es : List Token) → Reads es
+  reads : (es : List Token) → TokensAreRead es
   reads [] = record {
     front = λ on in_name white alone. feed-front tail ts read;
     within = λ in_name items e last on.

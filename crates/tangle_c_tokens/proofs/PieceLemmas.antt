@@ -56,13 +56,13 @@ module _ (source : SourceRead) (used : ℕ → List ℕ) (mark : Origin → List
   bytes_of xs = flat_map item_bytes xs ++ tail
 
   -- the items are read as the row, if that is whole, and what is written for uses
-  abbrev Reads : List Passage → List Item → Type 0
-  Reads row xs =
+  abbrev RowReads : List Passage → List Item → Type 0
+  RowReads row xs =
       AllByRecursion (IsWholePassage source) row → AllByRecursion (IsWholeUse used) xs
       → IsReadAsTexts (texts_in row) (bytes_of xs)
 
-  mark-reads : (origin : Origin) (row : List Passage) (xs : List Item) → Reads row xs
-      → Reads (OfMark origin ∷ row) (item.LineMark origin ∷ xs)
+  mark-reads : (origin : Origin) (row : List Passage) (xs : List Item) → RowReads row xs
+      → RowReads (OfMark origin ∷ row) (item.LineMark origin ∷ xs)
   mark-reads origin row xs read whole uses =
       rw (append_assoc (line_feed ∷ mark origin) (flat_map item_bytes xs) tail)
       (feed-front (mark origin ++ bytes_of xs) _
@@ -105,8 +105,8 @@ module _ (source : SourceRead) (used : ℕ → List ℕ) (mark : Origin → List
       (front (text part.items ++ bytes_of xs) _ (follow (texts_in row) read))
 
   use-reads : (e : Token) (x : Item) (es : List Token) (origin : Origin) (row : List Passage) (xs : List Item)
-      → IsUseItem e x → Reads row (item.LineMark origin ∷ xs)
-      → Reads (OfPart (record { items = e ∷ []; rest = es }) ∷ row) (x ∷ item.LineMark origin ∷ xs)
+      → IsUseItem e x → RowReads row (item.LineMark origin ∷ xs)
+      → RowReads (OfPart (record { items = e ∷ []; rest = es }) ∷ row) (x ∷ item.LineMark origin ∷ xs)
   use-reads e x es origin row xs (OfUse line occurrence) read whole uses =
       let line : IsWholeLine (used occurrence ++ []) = rw append-nil uses.0 in
       part-reads (space ∷ []) (record { items = e ∷ []; rest = es }) (item.UseOf occurrence ∷ []) row
@@ -119,10 +119,10 @@ module _ (source : SourceRead) (used : ℕ → List ℕ) (mark : Origin → List
       (feed-apart _ _ line.lines line.kept) (read whole.1 uses.1)
 
   pub piece-by-parts : (line : ℕ) (es : List Token) → AreOnLine texts false (part_tokens texts es)
-      → Reads (row_after texts [] (flat_map mark_place (part_items source.lines line es)) (part_tokens texts es))
+      → RowReads (row_after texts [] (flat_map mark_place (part_items source.lines line es)) (part_tokens texts es))
       (part_items source.lines line es)
   piece-by-parts =
-      piece-lays source.lines used mark macros Reads (λ whole uses. tail_read)
+      piece-lays source.lines used mark macros RowReads (λ whole uses. tail_read)
       (λ row xs read whole uses. space-front (bytes_of xs) _ (read whole uses.1))
       (λ row xs read whole uses. feed-front (bytes_of xs) _ (read whole uses.1))
       mark-reads use-reads

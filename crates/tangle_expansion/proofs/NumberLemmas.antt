@@ -1,4 +1,4 @@
--- Rows for the nodes of a web, which are read by title: the numbers of pieces, and the names of uses.
+-- Rows for the nodes of a web, which are read by title: the numbers of pieces, and the titles of uses.
 use Rattle.std.proofs.Common.{rules}
 use Rattle.std.proofs.lemmas.Bool.Decides.{nat_tests}
 use Rattle.std.proofs.Common.{◌≡◌, ◌≤◌, ◌<◌, ◌+◌, ◌∙◌, ℕ, zero, suc, false, List, [], ◌∷◌, map, length, get_or}
@@ -19,15 +19,15 @@ use Rattle.tangle_scan.specs.Web.{WebRead, PieceRead}
 use Rattle.tangle_names.specs.declared.Resolved.{Resolved}
 use Rattle.tangle_names.specs.NameTable.{TableRead}
 use Rattle.tangle_bodies.proofs.EachLemmas.{part_read, some_at}
-use Rattle.tangle_bodies.specs.NodeBodies.{AreBodiesOf, body_uses, names_at, node_bodies}
-use Rattle.tangle_bodies.specs.Nodes.{title_at}
-use Rattle.tangle_bodies.specs.Shapes.{Title, Program, Named, Shapes, shape_names}
-use Rattle.tangle_bodies.specs.WebShapes.{is_node, node_of, node_of_occurrence, is_piece_of, pieces_of, resolved_at}
+use Rattle.tangle_bodies.specs.NodeBodies.{AreBodiesOf, body_uses, node_bodies}
+use Rattle.tangle_bodies.specs.Nodes.{title_at, titles_at}
+use Rattle.tangle_bodies.specs.Shapes.{Title, Program, Named, Shapes, shape_titles}
+use Rattle.tangle_bodies.specs.WebShapes.{is_titled, title_of, title_of_piece, is_piece_of, pieces_of, resolved_at}
 use Rattle.tangle_bodies.specs.WebShapes.{IsNameBelow, ResolvesInside, shape_of, shapes}
 use Rattle.tangle_bodies.specs.declared.nodes.NodeBody.{NodeBody}
-use Rattle.tangle_expansion.specs.Expanded.{used_names}
-use Rattle.tangle_expansion.specs.Numbers.{each_node, names_used, node_numbers, numbers_of, numbers_of_piece, row_number}
-use Rattle.tangle_expansion.specs.NumbersKept.{names_of_bodies}
+use Rattle.tangle_expansion.specs.Expanded.{used_titles}
+use Rattle.tangle_expansion.specs.Numbers.{each_node, node_numbers, numbers_of, numbers_of_piece, row_number, titles_used}
+use Rattle.tangle_expansion.specs.NumbersKept.{used_by_bodies}
 use Rattle.tangle_files.specs.declared.marks.MarkMode.{MarkMode}
 
 -- each name has one number
@@ -40,12 +40,12 @@ once_named names n m distinct hn hm e =
 -- a name that is not in the table has no piece
 module _ (table : TableRead) (name : List ℕ)
     (none : length table.names ≤ position_or_len (bytes_eq name) table.names) where
-  no_node : (r : Resolved) → IsNameBelow (length table.names) r → is_node table (Named name) (node_of table r) ≡ false
-  no_node r h = search (rules, fails_before_first)
+  no_title : (r : Resolved) → IsNameBelow (length table.names) r → is_titled table (Named name) (title_of table r) ≡ false
+  no_title r h = search (rules, fails_before_first)
 
-  no_piece : ResolvesInside table → (o : Option ℕ) → is_node table (Named name) (node_of_occurrence table o) ≡ false
+  no_piece : ResolvesInside table → (o : Option ℕ) → is_titled table (Named name) (title_of_piece table o) ≡ false
   no_piece inside None = refl
-  no_piece inside (Some occurrence) = no_node (resolved_at table occurrence) (inside occurrence)
+  no_piece inside (Some occurrence) = no_title (resolved_at table occurrence) (inside occurrence)
 
   pub no_pieces : ResolvesInside table → (pieces : List PieceRead) → filter (is_piece_of table (Named name)) pieces ≡ []
   no_pieces inside [] = refl
@@ -89,17 +89,17 @@ module _ (names : List (List ℕ)) where
         | inr e ↦ rw e (search (rules, get_or_past, length-map, none))
       ]
 
-  -- the names that the bodies use, with the numbers that these have
-  pub bodies_name : (all : Shapes) (bodies : List (Rc NodeBody Global)) → AreBodiesOf all names (node_bodies bodies)
-      → names_of_bodies names bodies ≡ each_node names (used_names all)
-  bodies_name all bodies are =
-      let named = λ (body : NodeBody). names_at names (body_uses body) in
-      let size = length-map (node_bodies bodies) named in
-      same_lists (names_of_bodies names bodies) (each_node names (used_names all))
-      (omega (arith, size, are.size, length-map names (λ name. used_names all (Named name))))
+  -- the titles of what the bodies use, by title
+  pub bodies_use : (all : Shapes) (bodies : List (Rc NodeBody Global)) → AreBodiesOf all names (node_bodies bodies)
+      → used_by_bodies names bodies ≡ each_node names (used_titles all)
+  bodies_use all bodies are =
+      let titled = λ (body : NodeBody). titles_at names (body_uses body) in
+      let size = length-map (node_bodies bodies) titled in
+      same_lists (used_by_bodies names bodies) (each_node names (used_titles all))
+      (omega (arith, size, are.size, length-map names (λ name. used_titles all (Named name))))
       (λ n d h. let body = some_at (node_bodies bodies) n (omega arith) in
-      part_read named (node_bodies bodies) n body.0 d body.1 ∙ (are.each n body.0 body.1).shape.names_used
-      ∙ at_node (used_names all) n d (omega (arith, are.size)))
+      part_read titled (node_bodies bodies) n body.0 d body.1 ∙ (are.each n body.0 body.1).shape.uses
+      ∙ at_node (used_titles all) n d (omega (arith, are.size)))
 
 -- what the numbers of a web say of a node with a title
 module _ (web : WebRead) (table : TableRead) (marks : MarkMode) (inside : ResolvesInside table) where
@@ -108,7 +108,7 @@ module _ (web : WebRead) (table : TableRead) (marks : MarkMode) (inside : Resolv
   node_numbers_of node = by_title table.names (λ node. map numbers_of_piece (pieces_of web table node))
       (λ name none. ap (map numbers_of_piece) (no_pieces table name none inside web.pieces)) node
 
-  pub names_used_of : names_used (numbers_of web table marks) ≡ used_names (shapes web table)
-  names_used_of = λ i node. by_title table.names (used_names (shapes web table))
-      (λ name none. ap (λ pieces. shape_names (shape_of web.texts table pieces))
+  pub titles_used_of : titles_used (numbers_of web table marks) ≡ used_titles (shapes web table)
+  titles_used_of = λ i node. by_title table.names (used_titles (shapes web table))
+      (λ name none. ap (λ pieces. shape_titles (shape_of web.texts table pieces))
       (no_pieces table name none inside web.pieces)) node i

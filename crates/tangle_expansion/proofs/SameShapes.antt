@@ -7,12 +7,12 @@ use Rattle.std.proofs.lemmas.List.Sums.{sum_by-cons}
 use Rattle.digraph.specs.Reach.{Reaches, here, on, ReachesCycle}
 use Rattle.digraph.proofs.OrderLemmas.{cycle_used}
 use Rattle.tangle_names.proofs.ContainsLemmas.{here as first, map_same, there}
-use Rattle.tangle_bodies.specs.Shapes.{Title, Named, Shape, Shapes, Uses, shape_names}
+use Rattle.tangle_bodies.specs.Shapes.{Title, Named, Shape, Shapes, Uses, shape_names, shape_titles}
 use Rattle.tangle_bodies.specs.Flat.{Symbol, pieces_flat, flat, pieces_weight, weight, greatest_by, pieces_depth, depth}
 use Rattle.tangle_bodies.proofs.FlatLemmas.{shape_flat}
 use Rattle.tangle_bodies.specs.Meaning.{tags_flat}
 use Rattle.tangle_expansion.specs.Affected.{IsExpandable}
-use Rattle.tangle_expansion.specs.Expanded.{Expanded, Shared, End, Next, shared_symbols, symbols_of, used_names}
+use Rattle.tangle_expansion.specs.Expanded.{Expanded, Shared, End, Next, shared_symbols, symbols_of, used_titles}
 use Rattle.tangle_expansion.proofs.UsedLemmas.{pieces_depth-use, pieces_weight-use, deeper, heavier}
 use Rattle.tangle_expansion.proofs.Weights.{weight-suc, pieces_length}
 
@@ -24,10 +24,10 @@ pieces_flat-same f g node shape same =
     rw (← shape_flat node f 0 0 shape, ← shape_flat node g 0 0 shape, map_same f g (shape_names shape) same) refl
 
 -- depths are equal if those of the used names are
-greatest-map : (f : List ℕ → ℕ) (names : List (List ℕ))
-    → greatest_by f names ≡ greatest_by (λ n. n) (map f names)
+pub greatest-map : {X : Type 0} (f : X → ℕ) (used : List X)
+    → greatest_by f used ≡ greatest_by (λ n. n) (map f used)
 greatest-map f [] = refl
-greatest-map f (name ∷ names) = ap (max (f name)) (greatest-map f names)
+greatest-map f (x ∷ used) = ap (max (f x)) (greatest-map f used)
 
 pieces_depth-same : (f g : List ℕ → ℕ) (shape : Shape)
     → ((name : List ℕ) → Contains (shape_names shape) name → f name ≡ g name)
@@ -70,10 +70,10 @@ same_reached (suc fuel) old new node same =
       pieces_depth-same _ _ (new node) (λ name u. (below name u).1),
     )
 
--- what an expansion gives follows from the names that these nodes use
+-- what an expansion gives follows from what these nodes use
 shared_same : (old new : Shapes) (shared : Shared) (names : List (List ℕ))
     → ((name : List ℕ) → Contains names name → SameReached old new (Named name))
-    → shared_symbols (used_names new) shared names ≡ shared_symbols (used_names old) shared names
+    → shared_symbols (used_titles new) shared (map Named names) ≡ shared_symbols (used_titles old) shared (map Named names)
 shared_same old new End names same = refl
 shared_same old new (Next items used rest) [] same = refl
 shared_same old new (Next items used rest) (name ∷ names) same =
@@ -81,14 +81,14 @@ shared_same old new (Next items used rest) (name ∷ names) same =
     let below = shared_same old new used (shape_names (new (Named name))) (λ n c other r. own other (on {b = Named n} c r)) in
     let more = shared_same old new rest names (λ n c. same n (there name names n c)) in
     λ i. tags_flat (Named name) 0 0 items.bytes items.tags
-    ((below ∙ ap (λ s. shared_symbols (used_names old) used (shape_names s)) (own (Named name) here)) i) ∷ more i
+    ((below ∙ ap (λ s. shared_symbols (used_titles old) used (shape_titles s)) (own (Named name) here)) i) ∷ more i
 
 pub same_symbols : (old new : Shapes) (node : Title) → SameReached old new node → (e : Expanded)
-    → symbols_of (used_names new) node e ≡ symbols_of (used_names old) node e
+    → symbols_of (used_titles new) node e ≡ symbols_of (used_titles old) node e
 same_symbols old new node same e =
     ap (tags_flat node 0 0 e.items.bytes e.items.tags)
     (shared_same old new e.used (shape_names (new node)) (λ n c other r. same other (on {b = Named n} c r))
-    ∙ ap (λ s. shared_symbols (used_names old) e.used (shape_names s)) (same node here))
+    ∙ ap (λ s. shared_symbols (used_titles old) e.used (shape_titles s)) (same node here))
 
 -- the expansion of a node that is not too deep, from those of the used names with the same fuel
 pub flat_by_uses : (fuel : ℕ) (shapes : Shapes) (node : Title) → depth fuel shapes node < fuel

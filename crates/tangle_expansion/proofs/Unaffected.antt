@@ -8,7 +8,7 @@ use Rattle.digraph.specs.Reach.{here, ReachesCycle}
 use Rattle.tangle_bodies.specs.Shapes.{Title, kind_discrete, item_discrete, Shape, Shapes, Uses}
 use Rattle.tangle_bodies.specs.Flat.{flat}
 use Rattle.tangle_expansion.specs.Affected.{IsExpandable, IsAffected}
-use Rattle.tangle_expansion.specs.Expanded.{Expanded, symbols_of, used_names}
+use Rattle.tangle_expansion.specs.Expanded.{Expanded, symbols_of, used_titles}
 use Rattle.tangle_expansion.proofs.SameShapes.{SameReached, same_reached, same_symbols, cycle_deep_and_heavy}
 
 -- equality of shapes can be decided
@@ -30,7 +30,7 @@ module _ (levels limit : ℕ) (old new : Shapes) (node : Title) (expandable : Is
       let reached = same_reached levels old new node same in
       search rules
 
-  pub stays_given : (e : Expanded) → symbols_of (used_names new) node e ≡ symbols_of (used_names old) node e
+  pub stays_given : (e : Expanded) → symbols_of (used_titles new) node e ≡ symbols_of (used_titles old) node e
   stays_given e = same_symbols old new node same e
 
 -- an expandable node reaches no name that contains itself

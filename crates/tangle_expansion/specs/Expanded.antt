@@ -2,7 +2,7 @@
 use Rattle.std.specs.Prelude.{ℕ, suc, max, List, [], ◌∷◌, Option, unwrap_or}
 use Rattle.tangle_bodies.specs.Flat.{Symbol}
 use Rattle.tangle_bodies.specs.Meaning.{tags_flat}
-use Rattle.tangle_bodies.specs.Shapes.{Title, Named, Shapes, shape_names}
+use Rattle.tangle_bodies.specs.Shapes.{Title, Shapes, shape_titles}
 use Rattle.tangle_bodies.specs.declared.nodes.NodeItems.{NodeItems}
 use Rattle.tangle_scan.specs.declared.texts.ItemTag.{ItemTag}
 
@@ -43,19 +43,19 @@ abbrev pub shared_depth : Shared → ℕ
 shared_depth End = 0
 shared_depth (Next items used rest) = max (suc (shared_depth used)) (shared_depth rest)
 
--- the names that each node uses: one for each use that resolves to a name
-abbrev pub UsedNames : Type 0
-UsedNames = Title → List (List ℕ)
+-- the titles of what each node uses: one for each use that resolves to a name
+abbrev pub UsedTitles : Type 0
+UsedTitles = Title → List Title
 
-abbrev pub used_names : Shapes → UsedNames
-used_names shapes node = shape_names (shapes node)
+abbrev pub used_titles : Shapes → UsedTitles
+used_titles shapes node = shape_titles (shapes node)
 
-module _ (uses : UsedNames) where
-  -- the symbols of what is shared for the uses of these names
-  abbrev pub shared_symbols : Shared → List (List ℕ) → List (List Symbol)
-  shared_symbols (Next items used rest) (name ∷ names) =
-      tags_flat (Named name) 0 0 items.bytes items.tags
-      (shared_symbols used (uses (Named name))) ∷ shared_symbols rest names
+module _ (uses : UsedTitles) where
+  -- the symbols of what is shared for the uses of nodes with these titles
+  abbrev pub shared_symbols : Shared → List Title → List (List Symbol)
+  shared_symbols (Next items used rest) (title ∷ titles) =
+      tags_flat title 0 0 items.bytes items.tags
+      (shared_symbols used (uses title)) ∷ shared_symbols rest titles
   shared_symbols _ _ = []
 
   -- The symbols that an expansion gives, where nodes use these names, to the node with this

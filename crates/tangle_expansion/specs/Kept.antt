@@ -1,5 +1,5 @@
 -- Kept expansions, as a map from nodes.
-use Rattle.std.specs.Prelude.{◌≡◌, ◌≢◌, ℕ, suc, List, map, Option, Some, None}
+use Rattle.std.specs.Prelude.{◌≡◌, ◌≢◌, List, map, Option, Some, None}
 use Rattle.std.specs.Prelude.{slice_index_or}
 use Rattle.digraph.specs.Nodes.{Node}
 use Rattle.tangle_expansion.specs.Expanded.{Expanded}
@@ -17,6 +17,6 @@ pub record PutsKept (old new : Kept) (node : Node) (e : Expanded) : Type 0 where
 abbrev pub SameKept : Kept → Kept → Type 0
 SameKept old new = (node : Node) → kept_at new node ≡ kept_at old node
 
--- what is kept for the names with these numbers
-abbrev pub kept_for : Kept → List ℕ → List (Option Expanded)
-kept_for kept ids = map (λ id. kept_at kept (suc id)) ids
+-- what is kept for these nodes
+abbrev pub kept_for : Kept → List Node → List (Option Expanded)
+kept_for kept nodes = map (kept_at kept) nodes

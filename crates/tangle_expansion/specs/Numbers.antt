@@ -15,7 +15,7 @@ use Rattle.tangle_names.specs.NameTable.{TableRead}
 use Rattle.tangle_bodies.specs.Shapes.{Title, Program, Named}
 use Rattle.tangle_bodies.specs.Flat.{Symbol, Byte, Opening, MarkOf, Closing, AllMacros}
 use Rattle.tangle_bodies.specs.WebShapes.{pieces_of, shapes}
-use Rattle.tangle_expansion.specs.Expanded.{UsedNames, used_names}
+use Rattle.tangle_expansion.specs.Expanded.{UsedTitles, used_titles}
 use Rattle.tangle_files.specs.declared.marks.MarkMode.{MarkMode}
 use Rattle.tangle_files.specs.declared.marks.MarkMode.TheVariants.{Full, Bare}
 use Rattle.tangle_scan.specs.MacroBytes.{macro_bytes}
@@ -30,10 +30,10 @@ pub record NumbersRead : Type 0 where
   -- for each file, what comes after the number in its line marks
   pub mark_ends : List (List ℕ)
   -- the names of the table; and a row for the program and for each name, with the numbers of its
-  -- pieces, and one with the names that it uses
+  -- pieces, and one with the titles of what it uses
   pub names : List (List ℕ)
   pub rows : List (List PieceNumbersRead)
-  pub uses : List (List (List ℕ))
+  pub uses : List (List Title)
   pub macros : List ℕ
   -- how line marks are written
   pub marks : MarkMode
@@ -63,7 +63,7 @@ numbers_of web table marks = record {
   mark_ends = map mark_end web.file_names;
   names = table.names;
   rows = each_node table.names (λ node. map numbers_of_piece (pieces_of web table node));
-  uses = each_node table.names (used_names (shapes web table));
+  uses = each_node table.names (used_titles (shapes web table));
   macros = flat_map (macro_bytes web.texts) web.macros;
   marks = marks;
 }
@@ -98,9 +98,9 @@ module _ (numbers : NumbersRead) where
   abbrev pub node_numbers : Title → List PieceNumbersRead
   node_numbers node = row_at numbers.rows (row_number numbers.names node)
 
-  -- the names that each node uses
-  abbrev pub names_used : UsedNames
-  names_used node = row_at numbers.uses (row_number numbers.names node)
+  -- the titles of what each node uses
+  abbrev pub titles_used : UsedTitles
+  titles_used node = row_at numbers.uses (row_number numbers.names node)
 
   abbrev pub numbers_at : Title → ℕ → PieceNumbersRead
   numbers_at node piece = get_or (node_numbers node) piece no_numbers

@@ -6,7 +6,7 @@ use Rattle.tangle_files.specs.Bytes.{line_feed}
 use Rattle.tangle_bodies.specs.Flat.{Symbol}
 use Rattle.tangle_expansion.specs.Limits.{heaviest}
 use Rattle.tangle_expansion.specs.Expanded.{symbols_if_any}
-use Rattle.tangle_expansion.specs.Numbers.{NumbersRead, expansion_bytes, names_used}
+use Rattle.tangle_expansion.specs.Numbers.{NumbersRead, expansion_bytes, titles_used}
 use Rattle.tangle_expansion.specs.Kept.{kept_at}
 use Rattle.digraph.specs.Nodes.{Node}
 use Rattle.tangle_expansion.specs.declared.kept.Kept.{Kept}
@@ -33,7 +33,7 @@ module _ (numbers : NumbersRead) (kept : Kept) where
   -- the symbols of what is kept for the node; none where no expansion is kept
   abbrev pub node_symbols : Node → List Symbol
   node_symbols node =
-      symbols_if_any (names_used numbers) (title_at numbers.names node) (kept_at kept node)
+      symbols_if_any (titles_used numbers) (title_at numbers.names node) (kept_at kept node)
 
   -- the output's node is one of the web; if it has a piece, its expansion is kept, and within the
   -- limit of weight

@@ -1,5 +1,5 @@
 //! Makes the expansion of a node from those of the names that it uses.
-ghost use Rattle.std.specs.Prelude.{◌≡◌, ◌++◌, ◌∷◌, [], suc, IfOk, OnOk, OnErr};
+ghost use Rattle.std.specs.Prelude.{◌≡◌, ◌++◌, ◌∷◌, [], IfOk, OnOk, OnErr};
 ghost use Rattle.tangle_expansion.specs.Expanded.{expanded};
 ghost use Rattle.tangle_expansion.specs.Kept.{kept_at, kept_for};
 ghost use Rattle.tangle_bodies.specs.NodeBodies.{body_uses};
@@ -13,11 +13,11 @@ use std::rc::Rc;
 use tangle_bodies::NodeBody;
 use tangle_lines::NoMemory;
 
-/// Shares the kept expansion of the name with this number, if there is one.
-fn share_kept(kept: &Kept, id: usize) -> Result<Option<Expansion>, NoMemory>
-    ensures { IfOk result (λ shared. shared ≡ kept_at kept.now (suc id)) }
+/// Shares the kept expansion of the node, if there is one.
+fn share_kept(kept: &Kept, node: Node) -> Result<Option<Expansion>, NoMemory>
+    ensures { IfOk result (λ shared. shared ≡ kept_at kept.now node) }
 {
-    match kept.get(Node::name(id)) {
+    match kept.get(node) {
         Some(expansion) => Ok(Some(expansion.share()?)),
         None => Ok(None),
     }
@@ -30,8 +30,8 @@ fn expansion_of(alloc: Global, body: &NodeBody, kept: &Kept) -> Result<Expansion
         (λ e. e ≡ expanded body.now.items.value (kept_for kept.now (body_uses body.now))) }
 {
     let mut used = Vec::with_capacity(alloc, body.uses().len())?;
-    for id in body.uses() {
-        used.push(share_kept(kept, *id)?)?;
+    for node in body.uses() {
+        used.push(share_kept(kept, *node)?)?;
     }
     let items = body.items.clone()?;
     let shared = Rc::new(alloc, SharedExpansion { items, used })?;

@@ -1,5 +1,5 @@
 //! Laws of the definitions of expansions and of their bytes.
-ghost use Rattle.std.specs.Prelude.{◌*◌, List, [], slice_index_or, ◌≡◌, ◌≢◌};
+ghost use Rattle.std.specs.Prelude.{◌*◌, List, [], ◌≡◌, ◌≢◌};
 ghost use Rattle.std.specs.Prelude.{◌<◌, ◌≤◌, ℕ, Bool, min, length, map, flat_map, Contains, Option};
 ghost use Rattle.tangle_lines.specs.declared.origin.Origin.{Origin};
 ghost use Rattle.tangle_lines.specs.Reading.{SourceRead};
@@ -8,7 +8,9 @@ ghost use Rattle.tangle_scan.specs.LineTruth.{PiecesAreAtTheirLines};
 ghost use Rattle.tangle_names.specs.NameTable.{TableRead, table_of};
 ghost use Rattle.tangle_files.specs.declared.marks.MarkMode.{MarkMode};
 ghost use Rattle.tangle_files.specs.declared.marks.MarkMode.TheVariants.{Full};
+ghost use Rattle.digraph.specs.Nodes.{Node};
 ghost use Rattle.digraph.specs.Reach.{ReachesCycle};
+ghost use Rattle.tangle_bodies.specs.Nodes.{title_at};
 ghost use Rattle.tangle_bodies.specs.Shapes.{Title, Named, Shapes, Uses};
 ghost use Rattle.tangle_bodies.specs.NodeBodies.{HoldsShape, body_uses};
 ghost use Rattle.tangle_bodies.specs.declared.nodes.NodeBody.{NodeBody};
@@ -16,7 +18,7 @@ ghost use Rattle.tangle_bodies.specs.Flat.{Symbol, flat, weight, depth, pieces_f
 ghost use Rattle.tangle_bodies.specs.Flat.{pieces_weight, pieces_depth};
 ghost use Rattle.tangle_expansion.specs.Affected.{IsExpandable, IsAffected};
 ghost use Rattle.tangle_expansion.specs.Expanded.{Expanded, expanded, symbols_if_any};
-ghost use Rattle.tangle_expansion.specs.Expanded.{symbols_of, used_names};
+ghost use Rattle.tangle_expansion.specs.Expanded.{symbols_of, used_titles};
 ghost use Rattle.tangle_bodies.specs.WebShapes.{shapes, pieces_of, ResolvesInside};
 ghost use Rattle.tangle_expansion.specs.Numbers.{NumbersRead, numbers_of, symbol_bytes};
 ghost use Rattle.tangle_expansion.specs.Numbers.{expansion_bytes};
@@ -47,7 +49,7 @@ pub fn unaffected_nodes_stay()
         → IsExpandable levels limit old node × (flat levels new node ≡ flat levels old node) }
     ensures given { (levels limit : ℕ) (old new : Shapes) (node : Title) (e : Expanded)
         → IsExpandable levels limit new node → ¬ (IsAffected levels limit old new node)
-        → symbols_of (used_names new) node e ≡ symbols_of (used_names old) node e }
+        → symbols_of (used_titles new) node e ≡ symbols_of (used_titles old) node e }
 {}
 
 /// An expandable node reaches no name that contains itself. So a caller that expands only
@@ -85,15 +87,15 @@ pub fn used_names_are_expandable()
 {}
 
 /// A body that determines the shape of a node gives the expansion of the node, if what is shared
-/// for each use gives that of the used name.
+/// for each use gives that of the used node.
 pub fn bodies_give_expansions()
     ensures { (names : List (List ℕ)) (shapes : Shapes) (levels : ℕ) (node : Title)
-        (body : NodeBody) (shared : ℕ → Option Expanded)
+        (body : NodeBody) (shared : Node → Option Expanded)
         → HoldsShape names (shapes node) body → depth levels shapes node < levels
-        → ((id : ℕ) → Contains (body_uses body) id
-        → symbols_if_any (used_names shapes) (Named (slice_index_or names id [])) (shared id)
-        ≡ flat levels shapes (Named (slice_index_or names id [])))
-        → symbols_of (used_names shapes) node
+        → ((used : Node) → Contains (body_uses body) used
+        → symbols_if_any (used_titles shapes) (title_at names used) (shared used)
+        ≡ flat levels shapes (title_at names used))
+        → symbols_of (used_titles shapes) node
         (expanded body.items.value (map shared (body_uses body))) ≡ flat levels shapes node }
 {}
 

@@ -1,10 +1,10 @@
 //! The section numbers and origins of a web, and the bytes of its macros.
-ghost use Rattle.std.specs.Prelude.{◌≡◌, ◌<◌, ◌+◌, ◌^◌, [], IfOk, get_or, length, All};
+ghost use Rattle.std.specs.Prelude.{◌≡◌, [], IfOk, get_or, All};
 ghost use Rattle.tangle_names.specs.NameTable.{table_of};
-ghost use Rattle.tangle_bodies.specs.NodeBodies.{AreBodiesOf, names_at, node_bodies};
-ghost use Rattle.tangle_bodies.specs.Nodes.{IsGroupedBy, IsNodeOf, title_at};
+ghost use Rattle.tangle_bodies.specs.NodeBodies.{AreBodiesOf, node_bodies};
+ghost use Rattle.tangle_bodies.specs.Nodes.{IsGroupedBy, IsNodeOf, title_at, titles_at};
 ghost use Rattle.tangle_bodies.specs.WebShapes.{shapes};
-ghost use Rattle.tangle_expansion.specs.Numbers.{mark_end, names_used, node_numbers, numbers_of};
+ghost use Rattle.tangle_expansion.specs.Numbers.{mark_end, node_numbers, numbers_of, titles_used};
 ghost use Rattle.tangle_expansion.specs.SymbolLimits.{SymbolsAreShort};
 
 use crate::mark_ends::mark_ends;
@@ -20,7 +20,7 @@ use tangle_names::Names;
 use tangle_scan::Web;
 
 /// What the outputs of a web need besides the items in its expansions: section numbers, origins of
-/// marks, the numbers of used names, and the bytes of the macros.
+/// marks, the nodes that each node uses, and the bytes of the macros.
 #[derive(Drop)]
 pub struct Numbers {
     mark_ends: Vec<Vec<u8>>,
@@ -87,13 +87,12 @@ impl Numbers {
         NodeNumbers::at(&self.pieces, &self.rows, node.number())
     }
 
-    /// The numbers of the names that the node uses: one for each use that resolves to a name.
-    pub(crate) fn uses(&self, node: Node) -> &[usize]
+    /// The nodes that the node uses: one for each use that resolves to a name.
+    pub(crate) fn uses(&self, node: Node) -> &[Node]
         requires { IsNodeOf self.now.names node }
-        ensures names { names_at self.now.names result.now
-            ≡ names_used self.now (title_at self.now.names node) }
-        ensures inside { All (λ id. id < length self.now.names) result.now }
-        ensures few { length self.now.names + 1 < 2 ^ 64 }
+        ensures titles { titles_at self.now.names result.now
+            ≡ titles_used self.now (title_at self.now.names node) }
+        ensures inside { All (IsNodeOf self.now.names) result.now }
     {
         let bodies: &Vec<Rc<NodeBody>> = &self.bodies;
         bodies[node.number()].uses()

@@ -7,7 +7,7 @@ ghost use Rattle.tangle_bodies.specs.Flat.{Symbol};
 ghost use Rattle.tangle_bodies.specs.Flat.{own_symbols};
 ghost use Rattle.tangle_bodies.specs.Nodes.{IsNodeOf, title_at};
 ghost use Rattle.tangle_bodies.specs.Shapes.{Title};
-ghost use Rattle.tangle_expansion.specs.Numbers.{expansion_bytes, mark_bytes_at, names_used, node_numbers};
+ghost use Rattle.tangle_expansion.specs.Numbers.{expansion_bytes, mark_bytes_at, node_numbers, titles_used};
 ghost use Rattle.tangle_expansion.specs.SymbolLimits.{SymbolsAreShort};
 ghost use Rattle.tangle_expansion.specs.Writing.{Wrote, bytes_between, bytes_from, from_use};
 
@@ -163,7 +163,7 @@ impl Expansion {
     ) -> Written
         requires { IsNodeOf numbers.now.names node }
         ensures writes { IsWrittenAfter (S.stream sink.old) (S.stream sink.new) so_far
-            (expansion_bytes numbers.now (symbols_of (names_used numbers.now)
+            (expansion_bytes numbers.now (symbols_of (titles_used numbers.now)
             (title_at numbers.now.names node) self.now)) result }
         ensures short { SymbolsAreShort numbers.now }
     {
@@ -182,7 +182,7 @@ impl Expansion {
             let (next, before) = write_to_use(&text, at, sink, so_far);
             so_far = write_after(sink, before, b" ");
             if let Some(used) = &shared.used[i] {
-                so_far = used.write_text_after(Node::name(uses[i]), numbers, sink, so_far);
+                so_far = used.write_text_after(uses[i], numbers, sink, so_far);
             }
             at = next;
         }
@@ -203,10 +203,10 @@ pub fn write_text<S: Sink>(
     sink: &mut S,
 ) -> Written
     requires inside { IsNodeOf numbers.now.names node }
-    requires light { length (symbols_of (names_used numbers.now)
+    requires light { length (symbols_of (titles_used numbers.now)
         (title_at numbers.now.names node) expansion.now) ≤ heaviest }
     ensures { IsWritten (S.stream sink.old) (S.stream sink.new)
-        (expansion_bytes numbers.now (symbols_of (names_used numbers.now)
+        (expansion_bytes numbers.now (symbols_of (titles_used numbers.now)
         (title_at numbers.now.names node) expansion.now)) result }
 {
     expansion.write_text_after(node, numbers, sink, Ok(0))

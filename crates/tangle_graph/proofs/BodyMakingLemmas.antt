@@ -7,12 +7,12 @@ use Rattle.std.proofs.lemmas.List.{length-map}
 use Rattle.digraph.specs.Graph.{row_at}
 use Rattle.digraph.specs.Nodes.{Node}
 use Rattle.tangle_scan.specs.Web.{PieceRead}
-use Rattle.tangle_bodies.specs.Nodes.{pieces_at, title_at}
+use Rattle.tangle_bodies.specs.Nodes.{pieces_at, title_at, titles_at}
 use Rattle.tangle_bodies.specs.NodeBodies.{ItemsRead, AreItemsOf, HaveOneShape, HoldsShape, body_items}
-use Rattle.tangle_bodies.specs.NodeBodies.{body_uses, names_at}
+use Rattle.tangle_bodies.specs.NodeBodies.{body_uses}
 use Rattle.tangle_bodies.specs.Shapes.{Shape}
 use Rattle.tangle_bodies.specs.WebShapes.{pieces_of, shapes}
-use Rattle.tangle_bodies.proofs.HeldLemmas.{names_held}
+use Rattle.tangle_bodies.proofs.HeldLemmas.{titles_held}
 use Rattle.tangle_bodies.proofs.TagLemmas.{bodies_decide}
 use Rattle.tangle_bodies.specs.declared.nodes.NodeBody.{NodeBody}
 use Rattle.tangle_bodies.specs.NodeBodies.{IsBodyOf}
@@ -42,7 +42,7 @@ module _ (grouped : GroupedWeb) (is : IsGrouped grouped) (node : Node) (inside :
     own : AreItemsOf grouped.web.now.texts grouped.table.now pieces items
     own = subst (λ ps. AreItemsOf grouped.web.now.texts grouped.table.now ps items) given are
 
-    pub uses_below : All (λ id. id < length names) items.uses
+    pub uses_below : All (IsNodeOf names) items.uses
     uses_below = rw (own.uses, is.names)
         (pieces_below grouped.table.now (resolves_inside grouped.web.now grouped.table.now is.table)
         (pieces_of grouped.web.now grouped.table.now (title_at grouped.table.now.names node)))
@@ -55,22 +55,24 @@ module _ (grouped : GroupedWeb) (is : IsGrouped grouped) (node : Node) (inside :
       shape = record {
         tags = sym same.tags ∙ own.tags;
         bytes = sym same.bytes ∙ own.bytes;
-        names_used = ap (names_at names) (sym uses ∙ own.uses)
-            ∙ rw is.names (names_held grouped.web.now.texts grouped.table.now
+        uses = ap (titles_at names) (sym uses ∙ own.uses)
+            ∙ rw is.names (titles_held grouped.web.now.texts grouped.table.now
             (pieces_of grouped.web.now grouped.table.now (title_at grouped.table.now.names node)));
       };
-      inside = subst (All (λ id. id < length names)) uses uses_below;
+      inside = subst (All (IsNodeOf names)) uses uses_below;
     }
 
     pub body_made : (body : NodeBody) → body_items body ≡ items
         → IsBodyOf (shapes grouped.web.now grouped.table.now) names node body
     body_made body e = body_of_items {others = []} {other = []} body
         (subst (λ i. HaveOneShape [] [] i (body_items body)) e
-        (record { tags = refl; bytes = refl; names_used = refl }))
+        (record { tags = refl; bytes = refl; uses = refl }))
         (sym (ap (λ (i : ItemsRead). i.uses) e))
 
   -- whether the shape of a node that had no piece is new
   pub new_if_pieces : (body : NodeBody) (s t : Shape)
       → IsBodyOf (shapes grouped.web.now grouped.table.now) names node body
       → HoldsShape names s body → t ≡ [] → ((not (length row == 0) ≡ true) ↔ (s ≢ t))
-  new_if_pieces body s t has held none = search (rules, bodies_decide, piece_of_row, length-map, given)
+  new_if_pieces body s t has held none =
+      let decided = bodies_decide names names body body s _ held has.shape in
+      search (rules, decided, piece_of_row, length-map, given)

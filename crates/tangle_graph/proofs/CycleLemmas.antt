@@ -1,9 +1,8 @@
 -- What the functions compute of cycles is what holds along the uses of a web.
 use Rattle.std.proofs.Common.{rules}
-use Rattle.std.proofs.Common.{◌≡◌, ◌∙◌, ◌<◌, [], map, length, sym, subst, Contains}
+use Rattle.std.proofs.Common.{◌≡◌, ℕ, zero, suc, List, [], arith, get_or, map, subst, Contains}
 use Rattle.std.specs.Bool.{Decides}
-use Rattle.std.proofs.lemmas.List.{get_or_default}
-use Rattle.std.proofs.lemmas.List.Elements.{All-contains}
+use Rattle.std.proofs.lemmas.List.Elements.{All-contains, Contains-get_or}
 use Rattle.std.proofs.lemmas.Map.Views.{Contains-from_any, list_any-from_Contains}
 use Rattle.std.proofs.lemmas.Slice.Eq.{bytes_eq-Decides}
 use Rattle.std.proofs.lemmas.Cmp.{nat_list_eq_equiv}
@@ -12,11 +11,13 @@ use Rattle.digraph.specs.Reach.{ContainsItself, ReachesCycle}
 use Rattle.tangle_scan.specs.Web.{WebRead}
 use Rattle.tangle_names.specs.NameTable.{TableRead, table_of}
 use Rattle.tangle_names.proofs.ContainsLemmas.{into_map, out_of_map}
+use Rattle.digraph.specs.Nodes.{Node}
 use Rattle.tangle_bodies.specs.ItemTags.{pieces_uses}
+use Rattle.tangle_bodies.specs.Nodes.{IsNodeOf, title_at}
 use Rattle.tangle_bodies.specs.Shapes.{Title, Named, Shapes, Uses, shape_names}
 use Rattle.tangle_bodies.specs.Shapes as title
-use Rattle.tangle_bodies.specs.WebShapes.{name_at, pieces_of, shapes}
-use Rattle.tangle_bodies.proofs.HeldLemmas.{names_held}
+use Rattle.tangle_bodies.specs.WebShapes.{pieces_of, shapes}
+use Rattle.tangle_bodies.proofs.HeldLemmas.{titles_held}
 use Rattle.tangle_graph.specs.Cycles.{contains_itself, has_use, reaches_cycle}
 use Rattle.tangle_graph.proofs.GraphLemmas.{resolves_inside}
 use Rattle.tangle_graph.proofs.GroupLemmas.{pieces_below}
@@ -33,16 +34,21 @@ module _ (web : WebRead) (table : TableRead) (ours : table ≡ table_of web) whe
   all = shapes web table
 
   -- each used name is in the table
+  name_in : (node : Node) (name : List ℕ) → IsNodeOf table.names node → title_at table.names node ≡ Named name
+      → Contains (map Named table.names) (Named name)
+  name_in zero name low same = search rules
+  name_in (suc id) name low same = subst (Contains (map Named table.names)) same
+      (into_map Named table.names (get_or table.names id []) (Contains-get_or table.names id [] (omega arith)))
+
   among : (a b : Title) → Uses all a b → Contains (map Named table.names) b
   among a title.Program u = absurd u
   among a (Named name) u =
       let pieces = pieces_of web table a in
       let uses = pieces_uses table pieces in
-      let used = out_of_map (name_at table) uses name
-      (subst (λ l. Contains l name) (sym (names_held web.texts table pieces)) u) in
-      let low = All-contains (λ id. id < length table.names) uses used.0
-      (pieces_below table (resolves_inside web table ours) pieces) used.1 in
-      into_map Named table.names name (used.0, low, get_or_default table.names used.0 name [] low ∙ used.2)
+      let used = out_of_map (title_at table.names) uses (Named name)
+      (rw (titles_held web.texts table pieces) (into_map Named (shape_names (all a)) name u)) in
+      name_in used.0 name (All-contains (IsNodeOf table.names) uses used.0
+      (pieces_below table (resolves_inside web table ours) pieces) used.1) used.2
 
   pub contains_computed : (a : Title) → Decides (contains_itself all table.names a) (ContainsItself (Uses all) a)
   unfolding contains_itself

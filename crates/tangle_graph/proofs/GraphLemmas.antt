@@ -1,6 +1,5 @@
 -- The rows that grouping makes are the pieces of each node, and uses by number are uses by title.
-use Rattle.std.proofs.lemmas.Bool.Decides.{nat_tests}
-use Rattle.std.proofs.Common.{◌≡◌, ◌∙◌, ◌<◌, ◌≤◌, ◌+◌, ℕ, suc, List, [], length, map, ap, sym, subst, arith}
+use Rattle.std.proofs.Common.{◌≡◌, ◌∙◌, ◌<◌, ◌≤◌, ◌+◌, ℕ, List, [], length, map, ap, sym, subst, arith}
 use Rattle.std.proofs.Common.{All, Contains}
 use Rattle.std.specs.List.{IsDistinct}
 use Rattle.std.specs.Str.{bytes_eq}
@@ -10,7 +9,6 @@ use Rattle.std.proofs.lemmas.Option.{slice_get_within}
 use Rattle.std.proofs.lemmas.List.Elements.{All-from_get_or}
 use Rattle.tangle_scan.specs.Web.{WebRead}
 use Rattle.tangle_names.specs.NameTable.{TableRead, table_of}
-use Rattle.tangle_names.proofs.ContainsLemmas.{into_map, out_of_map}
 use Rattle.tangle_names.proofs.LawLemmas.{once as names_once}
 use Rattle.tangle_bodies.specs.NodeBodies.{body_uses}
 use Rattle.tangle_scan.specs.Web.{no_piece}
@@ -21,13 +19,14 @@ use Rattle.tangle_bodies.specs.WebShapes.{ResolvesInside, is_piece_of, pieces_of
 use Rattle.tangle_bodies.specs.declared.nodes.NodeBody.{NodeBody}
 use Rattle.tangle_bodies.proofs.InsideLemmas.{table_inside}
 use Rattle.digraph.specs.Graph.{Graph, HasUse, row_at}
+use Rattle.digraph.specs.Nodes.{Node}
 use Rattle.digraph.specs.Rows.{IsRowsOf}
 use Rattle.digraph.proofs.GraphLemmas.{node_in}
 use Rattle.tangle_bodies.specs.NodeBodies.{AreBodiesOf}
 use Rattle.tangle_graph.specs.Grouping.{positions_of}
 use Rattle.tangle_graph.specs.NameGraphs.{AreUsesOf}
 use Rattle.tangle_bodies.proofs.EachLemmas.{part_read, some_at}
-use Rattle.tangle_graph.proofs.BodyLemmas.{name_used, used_name}
+use Rattle.tangle_graph.proofs.BodyLemmas.{node_used, used_node}
 use Rattle.tangle_graph.proofs.RowLemmas.{numbers_below, positions_read}
 
 module _ (web : WebRead) (table : TableRead) (ours : table ≡ table_of web) where
@@ -55,26 +54,24 @@ module _ (shapes : Shapes) (names : List (List ℕ)) (bodies : List NodeBody) (u
   pub uses_count : length uses ≡ length names + 1
   uses_count = used.size ∙ length-map bodies body_uses ∙ are.size
 
-  -- each name that the body of a node has is a use of the node
-  pub use_up : (n id : ℕ) (body : NodeBody) → slice_get bodies n ≡ Some body
-      → Contains (body_uses body) id → HasUse uses n (suc id)
-  use_up n id body at c =
-      ((used.once n (omega (arith, slice_get_within bodies n body at, length-map bodies body_uses))).same (suc id)).1
-      (grind (arith, nat_tests, into_map suc, part_read body_uses bodies n body [] at))
+  -- each node that the body of a node has is a use of the node
+  pub use_up : (n m : Node) (body : NodeBody) → slice_get bodies n ≡ Some body
+      → Contains (body_uses body) m → HasUse uses n m
+  use_up n m body at c =
+      ((used.once n (omega (arith, slice_get_within bodies n body at, length-map bodies body_uses))).same m).1
+      (rw (part_read body_uses bodies n body [] at) c)
 
   pub sound : (n m : ℕ) → HasUse uses n m → Uses shapes (title_at names n) (title_at names m)
   sound n m u =
       let inside = node_in uses n m u in
       let own = some_at bodies n (omega (arith, uses_count)) in
-      let found = out_of_map suc (row_at (map body_uses bodies) n) m (((used.once n (omega
-      arith)).same m).0 u) in
-      let name = used_name shapes names n own.0 (are.each n own.0 own.1) found.0 in
-      grind (arith, nat_tests, part_read body_uses bodies n own.0 [] own.1, name)
+      used_node shapes names n own.0 (are.each n own.0 own.1) m
+      (rw (part_read body_uses bodies n own.0 [] own.1) at (((used.once n (omega arith)).same m).0 u))
 
   pub complete : (n : ℕ) (t : Title) → n < length uses → Uses shapes (title_at names n) t
       → (m : ℕ) × HasUse uses n m × (m < length uses) × (title_at names m ≡ t)
   complete n title.Program h u = absurd u
   complete n (Named name) h u =
       let own = some_at bodies n (omega (arith, uses_count)) in
-      let found = name_used shapes names n own.0 (are.each n own.0 own.1) name u in
-      grind (arith, nat_tests, use_up n found.0 own.0 own.1 found.1, uses_count)
+      let found = node_used shapes names n own.0 (are.each n own.0 own.1) name u in
+      (found.0, use_up n found.0 own.0 own.1 found.1, omega (arith, found.2, uses_count), found.3)

@@ -10,9 +10,9 @@ use Rattle.tangle_scan.specs.declared.items.Item.TheVariants as item
 use Rattle.tangle_scan.specs.Web.{PieceRead}
 use Rattle.tangle_names.specs.NameTable.{TableRead}
 use Rattle.tangle_bodies.specs.ItemTags.{uses_in, pieces_uses}
-use Rattle.tangle_bodies.specs.Nodes.{title_at}
+use Rattle.tangle_bodies.specs.Nodes.{IsNodeOf, title_at}
 use Rattle.tangle_bodies.specs.Shapes.{title_eq}
-use Rattle.tangle_bodies.specs.WebShapes.{node_of_occurrence, is_node}
+use Rattle.tangle_bodies.specs.WebShapes.{is_titled, title_of_piece}
 use Rattle.tangle_bodies.specs.WebShapes.{ResolvesInside}
 use Rattle.tangle_graph.specs.Grouping.{node_of_piece, has_number_in}
 use Rattle.tangle_graph.proofs.ListLemmas.{all_flat}
@@ -26,14 +26,14 @@ module _ (table : TableRead) (distinct : IsDistinct bytes_eq table.names) (insid
 
   pub piece_is : (occurrence : Option ℕ)
       → has_number_in n (node_of_piece table occurrence)
-      ≡ is_node table (title_at table.names n) (node_of_occurrence table occurrence)
+      ≡ is_titled table (title_at table.names n) (title_of_piece table occurrence)
   piece_is occurrence = search (rules, same_node)
 
 item_below : (table : TableRead) → ResolvesInside table → (x : Item)
-    → All (λ id. id < length table.names) (uses_in table x)
+    → All (IsNodeOf table.names) (uses_in table x)
 item_below table inside (item.UseOf occurrence) = search rules
 item_below table inside x = search rules
 
 pub pieces_below : (table : TableRead) → ResolvesInside table → (pieces : List PieceRead)
-    → All (λ id. id < length table.names) (pieces_uses table pieces)
+    → All (IsNodeOf table.names) (pieces_uses table pieces)
 pieces_below table inside = search (rules, all_flat, item_below)

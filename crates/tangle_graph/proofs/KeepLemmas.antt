@@ -1,21 +1,21 @@
 -- The expansion of one more node is kept, and what is kept at the end.
 use Rattle.std.proofs.Common.{rules}
 use Rattle.std.proofs.Common.{◌≡◌, ◌∙◌, ◌+◌, ◌<◌, ◌≤◌, ◌++◌, ℕ, Bool, true, false, cond, List, [], ◌∷◌, length, take}
-use Rattle.std.proofs.Common.{get_or, suc, ap, sym, append_assoc, arith, inl, inr, Contains}
+use Rattle.std.proofs.Common.{get_or, zero, suc, ap, sym, append_assoc, arith, inl, inr, Contains}
 use Rattle.std.specs.List.{filter}
 use Rattle.std.proofs.lemmas.List.{take_all}
 use Rattle.std.proofs.lemmas.List.Elements.{filter_more}
 use Rattle.std.proofs.lemmas.Bool.{both_ways, cases_Bool}
 use Rattle.tangle_graph.proofs.NameLemmas.{empty_unless}
 use Rattle.tangle_expansion.proofs.SameShapes.{used_expandable}
-use Rattle.tangle_expansion.specs.Expanded.{symbols_if_any, used_names}
+use Rattle.tangle_expansion.specs.Expanded.{symbols_if_any, used_titles}
 use Rattle.tangle_expansion.specs.Limits.{levels, heaviest, flat_of}
 use Rattle.tangle_bodies.specs.Flat.{flat, pieces_flat}
 use Rattle.tangle_bodies.specs.Shapes.{Title, Named, Shape, Shapes}
 use Rattle.tangle_expansion.specs.declared.kept.Kept.{Kept}
 use Rattle.digraph.specs.Nodes.{Node}
 use Rattle.tangle_graph.specs.Ordering.{IsOrderIn}
-use Rattle.tangle_graph.specs.Stores.{StoreRead, IsStoreOf, KeepsUsed, IsNodeIn, is_expandable_at}
+use Rattle.tangle_graph.specs.Stores.{StoreRead, IsStoreOf, KeepsUsed, IsNodeIn, is_expandable_at, title_in_store}
 use Rattle.tangle_graph.specs.Stores.{uses_at}
 use Rattle.tangle_graph.proofs.ExpandLemmas.{expandable_at, expandable_in}
 use Rattle.tangle_graph.specs.Keeping.{IsKept, KeepsJust, PutsRight}
@@ -37,19 +37,18 @@ module _ {shapes : Shapes} {store : StoreRead} {order : List Node}
     -- the expansion of a used name is kept, if the name has a piece, and else none
     used_kept : (kept : Kept) → is_expandable_at store node ≡ true
         → AreKept shapes store (take i order) kept → KeepsUsed shapes store kept node
-    used_kept kept flag keeps id u =
+    used_kept kept flag keeps zero u = absurd u.uses
+    used_kept kept flag keeps (suc id) u =
         let here : IsNodeIn store node = at_position store order ordered i h node at in
-        let inside : IsNodeIn store (suc id) = omega arith in
-        let next : Contains (uses_at store node) (suc id) = (is.uses node (suc id) here).1 (inside, u.uses) in
-        let used = (expandable_at shapes store is node here).0 flag in
-        let none : is_expandable_at store (suc id) ≡ false
-        → flat_of shapes (Named (get_or store.names id [])) ≡ [] =
+        let next : Contains (uses_at store node) (suc id) = (is.uses node (suc id) here).1 (u.inside, u.uses) in
+        let user = (expandable_at shapes store is node here).0 flag in
+        let none : is_expandable_at store (suc id) ≡ false → flat_of shapes (title_in_store store (suc id)) ≡ [] =
         λ off. flat_empty shapes _ (empty_unless _
-        (λ has. both_ways _ off ((expandable_at shapes store is (suc id) inside).1
-        (used_expandable levels heaviest shapes _ _ used u.uses has)))) in
+        (λ has. both_ways _ off ((expandable_at shapes store is (suc id) u.inside).1
+        (used_expandable levels heaviest shapes _ _ user u.uses has)))) in
         let right = keeps (suc id)
         (λ _. after_used store order ordered i h node at (suc id) next) in
-        let given = symbols_if_any (used_names shapes) (Named (get_or store.names id [])) in
+        let given = symbols_if_any (used_titles shapes) (title_in_store store (suc id)) in
         elim (cases_Bool (is_expandable_at store (suc id))) [
           | inl on ↦ (let e = right.expandable on in ap given e.1 ∙ e.2)
           | inr off ↦ ap given (right.other off) ∙ sym (none off)

@@ -9,7 +9,7 @@ use Rattle.tangle_bodies.specs.declared.nodes.NodeBody.{NodeBody}
 use Rattle.tangle_graph.specs.NewBodies.{AreNewBodies}
 use Rattle.tangle_graph.specs.Stores.{AreNewShapes, StoreRead, IsStoreOf, IsNodeIn, title_in_store, uses_at}
 use Rattle.tangle_bodies.proofs.EachLemmas.{some_at}
-use Rattle.tangle_graph.proofs.BodyLemmas.{name_used}
+use Rattle.tangle_graph.proofs.BodyLemmas.{node_used}
 
 -- a title with a piece is the title of a node
 pub node_with_piece : (shapes : Shapes) (store : StoreRead) (node : Title)
@@ -34,10 +34,9 @@ pub use_of_title : (shapes : Shapes) (store : StoreRead) (node : Node) (used : T
 use_of_title shapes store node title.Program is inside u = absurd u
 use_of_title shapes store node (Named name) is inside u =
     let own = some_at store.bodies node (omega arith) in
-    let found = name_used shapes store.names node own.0 (is.bodies.each node own.0 own.1) name u in
-    let same : Named (get_or store.names found.0 []) ≡ Named name = ap Named found.3 in
-    let used = subst (Uses shapes (title_in_store store node)) (sym same) u in
-    (suc found.0, (is.uses node (suc found.0) inside).1 (omega arith, used), same)
+    let found = node_used shapes store.names node own.0 (is.bodies.each node own.0 own.1) name u in
+    let used = subst (Uses shapes (title_in_store store node)) (sym found.3) u in
+    (found.0, (is.uses node found.0 inside).1 (found.2, used), found.3)
 
 -- the flags of the bodies of a store are those of its new shapes
 pub new_shapes_of : (old store : StoreRead) (names : List (List ℕ)) (bodies : List NodeBody) (flags : List Bool)

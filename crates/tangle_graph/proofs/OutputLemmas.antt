@@ -13,8 +13,8 @@ use Rattle.tangle_scan.specs.Web.{WebRead}
 use Rattle.tangle_names.specs.NameTable.{TableRead}
 use Rattle.tangle_names.proofs.ContainsLemmas.{out_of_filter, out_of_map}
 use Rattle.tangle_expansion.specs.Limits.{IsExpandableNode, flat_of, heaviest}
-use Rattle.tangle_expansion.specs.Expanded.{symbols_if_any, used_names}
-use Rattle.tangle_expansion.specs.Numbers.{NumbersRead, names_used}
+use Rattle.tangle_expansion.specs.Expanded.{symbols_if_any, used_titles}
+use Rattle.tangle_expansion.specs.Numbers.{NumbersRead, titles_used}
 use Rattle.tangle_expansion.specs.Outputs.{OutputRead, IsReady, node_symbols}
 use Rattle.digraph.specs.Nodes.{Node}
 use Rattle.tangle_expansion.specs.declared.kept.Kept.{Kept}
@@ -77,7 +77,7 @@ module _ (web : WebRead) (table : TableRead) (resolves : ResolvesInside table) w
 
 -- what is kept gives the symbols of a node, and an output file is then ready to be written
 module _ (shapes : Shapes) (store : StoreRead) (kept : Kept) (numbers : NumbersRead) (is : IsStoreOf shapes store)
-    (keeps : KeepsJust shapes store kept) (uses_are : names_used numbers ≡ used_names shapes)
+    (keeps : KeepsJust shapes store kept) (uses_are : titles_used numbers ≡ used_titles shapes)
     (names_are : numbers.names ≡ store.names) where
   pub kept_symbols : (node : Node) → is_expandable_at store node ≡ true
       → node_symbols numbers kept node ≡ flat_of shapes (title_in_store store node)

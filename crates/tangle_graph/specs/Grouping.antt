@@ -1,20 +1,12 @@
 -- The pieces of each node.
-use Rattle.std.specs.Prelude.{ℕ, suc, Bool, false, ◌==◌, List, Option}
+use Rattle.std.specs.Prelude.{ℕ, Bool, false, ◌==◌, List, Option}
 use Rattle.std.specs.Prelude.{None, Some, slice_index_or}
 use Rattle.tangle_scan.specs.Web.{PieceRead, no_piece}
-use Rattle.tangle_names.specs.declared.Resolved.{Resolved}
-use Rattle.tangle_names.specs.declared.Resolved.TheVariants.{Name, NoFullName, Ambiguous}
 use Rattle.tangle_names.specs.NameTable.{TableRead}
-use Rattle.tangle_bodies.specs.Nodes.{title_at}
-use Rattle.tangle_bodies.specs.WebShapes.{is_piece_of, resolved_at}
+use Rattle.tangle_bodies.specs.Nodes.{node_of_occurrence, title_at}
+use Rattle.tangle_bodies.specs.WebShapes.{is_piece_of}
 use Rattle.digraph.specs.Nodes.{Node, program}
 use Rattle.digraph.specs.Users.{numbers_where}
-
--- the node of the full name, if the occurrence resolves to one
-abbrev pub node_of_resolved : Resolved → Option Node
-node_of_resolved (Name id) = Some (suc id)
-node_of_resolved NoFullName = None
-node_of_resolved Ambiguous = None
 
 abbrev pub has_number_in : ℕ → Option ℕ → Bool
 has_number_in n None = false
@@ -26,7 +18,7 @@ module _ (table : TableRead) where
   -- node.
   abbrev pub node_of_piece : Option ℕ → Option Node
   node_of_piece None = Some program
-  node_of_piece (Some occurrence) = node_of_resolved (resolved_at table occurrence)
+  node_of_piece (Some occurrence) = node_of_occurrence table occurrence
 
   -- the numbers of the node's pieces among the first `count` pieces
   abbrev pub positions_of : List PieceRead → ℕ → Node → List ℕ

@@ -2,7 +2,7 @@
 use Rattle.std.specs.Prelude.{◌≡◌, ◌≢◌, ◌↔◌, ◌++◌, true, false, List}
 use Rattle.std.specs.Prelude.{Some, None, AllPairs, Contains}
 use Rattle.tangle_expansion.specs.Affected.{IsAffected}
-use Rattle.tangle_expansion.specs.Expanded.{Expanded, symbols_of, used_names}
+use Rattle.tangle_expansion.specs.Expanded.{Expanded, symbols_of, used_titles}
 use Rattle.tangle_expansion.specs.Kept.{kept_at, PutsKept}
 use Rattle.tangle_expansion.specs.Limits.{levels, heaviest, flat_of, IsExpandableNode}
 use Rattle.tangle_bodies.specs.Shapes.{Shapes}
@@ -14,7 +14,7 @@ use Rattle.tangle_graph.specs.Affected.{EditedShapes}
 
 -- the expansion of the node is its right one: it gives the symbols of the node
 abbrev pub IsRight : Shapes → StoreRead → Node → Expanded → Type 0
-IsRight shapes store node e = symbols_of (used_names shapes) (title_in_store store node) e
+IsRight shapes store node e = symbols_of (used_titles shapes) (title_in_store store node) e
     ≡ flat_of shapes (title_in_store store node)
 
 -- the right expansion of the node is kept

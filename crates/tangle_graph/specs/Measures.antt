@@ -1,9 +1,9 @@
 -- The weights and the depths of nodes, and which nodes are expandable.
-use Rattle.std.specs.Prelude.{◌≡◌, ℕ, suc, false, List, [], slice_index_or}
+use Rattle.std.specs.Prelude.{◌≡◌, ℕ, false, List, slice_index_or}
 use Rattle.std.specs.Prelude.{Contains}
 use Rattle.digraph.specs.Nodes.{Node}
 use Rattle.tangle_bodies.specs.Nodes.{title_at}
-use Rattle.tangle_bodies.specs.Shapes.{Shapes, Title, Named}
+use Rattle.tangle_bodies.specs.Shapes.{Shapes, Title}
 pub use Rattle.tangle_bodies.specs.Flat.{greatest_by}
 use Rattle.tangle_expansion.specs.Limits.{weight_of, depth_of}
 use Rattle.tangle_bodies.specs.Nodes.{IsNodeOf}
@@ -31,7 +31,7 @@ abbrev pub AreMeasures : Shapes → List (List ℕ) → List Measure → Type 0
 AreMeasures shapes names measures = (node : Node) → IsNodeOf names node
     → measure_at measures node ≡ measure_of shapes (title_at names node)
 
--- what is recorded of the names with these numbers holds of them
-abbrev pub AreUsesMeasured : Shapes → List (List ℕ) → List Measure → List ℕ → Type 0
-AreUsesMeasured shapes names measures uses = (id : ℕ) → Contains uses id
-    → measure_at measures (suc id) ≡ measure_of shapes (Named (slice_index_or names id []))
+-- what is recorded of these nodes holds of them
+abbrev pub AreUsesMeasured : Shapes → List (List ℕ) → List Measure → List Node → Type 0
+AreUsesMeasured shapes names measures uses = (node : Node) → Contains uses node
+    → measure_at measures node ≡ measure_of shapes (title_at names node)

@@ -6,11 +6,12 @@ use Rattle.std.specs.List.{list_any, range_with_len}
 use Rattle.std.specs.Str.{bytes_eq}
 use Rattle.tangle_scan.specs.Web.{WebRead}
 use Rattle.tangle_names.specs.NameTable.{TableRead}
+use Rattle.tangle_names.specs.declared.Resolved.{Resolved}
+use Rattle.tangle_names.specs.declared.Resolved.TheVariants.{Name}
 use Rattle.tangle_bodies.specs.Shapes.{Title, Program, Named, Shape, Shapes}
 use Rattle.tangle_bodies.specs.Flat.{weight, depth}
 use Rattle.tangle_expansion.specs.Limits.{levels, heaviest}
 use Rattle.tangle_expansion.specs.Outputs.{OutputRead}
-use Rattle.tangle_bodies.specs.ItemTags.{uses_resolved}
 use Rattle.tangle_bodies.specs.WebShapes.{name_at, resolved_at, shapes}
 use Rattle.digraph.specs.Nodes.{program}
 use Rattle.tangle_graph.specs.Grouping.{has_number_in}
@@ -31,11 +32,16 @@ is_expandable shapes title =
 abbrev pub first_file_occurrence : TableRead → ℕ → Option ℕ
 first_file_occurrence table id = slice_index_or table.first_file_occurrences id None
 
+-- the name to which an occurrence resolves, if to one
+abbrev pub names_resolved : Resolved → List ℕ
+names_resolved (Name id) = id ∷ []
+names_resolved _ = []
+
 -- the name that has its first occurrence with `@(` here, if one has
 abbrev pub first_file_name : TableRead → ℕ → List ℕ
 first_file_name table occurrence =
     filter (λ id. has_number_in occurrence (first_file_occurrence table id))
-    (uses_resolved (resolved_at table occurrence))
+    (names_resolved (resolved_at table occurrence))
 
 -- the names with an occurrence that begins with `@(`, in the order of their first ones
 abbrev pub file_names : WebRead → TableRead → List ℕ

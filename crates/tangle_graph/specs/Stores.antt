@@ -6,7 +6,7 @@ use Rattle.std.specs.Prelude.{slice_get, slice_index_or, List, [], length}
 use Rattle.std.specs.Prelude.{AllPairs, Contains, Option}
 use Rattle.tangle_bodies.specs.Shapes.{Title, Named, Shape, Shapes, Uses}
 use Rattle.std.specs.Option.{option_map}
-use Rattle.tangle_expansion.specs.Expanded.{Expanded, expanded, symbols_if_any, used_names}
+use Rattle.tangle_expansion.specs.Expanded.{Expanded, expanded, symbols_if_any, used_titles}
 use Rattle.tangle_expansion.specs.Kept.{kept_at, kept_for}
 use Rattle.tangle_bodies.specs.NodeBodies.{body_uses}
 use Rattle.tangle_expansion.specs.Limits.{flat_of}
@@ -22,7 +22,6 @@ use Rattle.tangle_graph.specs.Measures.{AreMeasures, measure_at}
 use Rattle.tangle_bodies.specs.Nodes.{IsNodeOf}
 use Rattle.tangle_graph.specs.declared.measures.Measure.{Measure}
 use Rattle.std.specs.Prelude.{not}
-use Rattle.std.specs.Prelude.{suc}
 
 -- the bytes of the names, and lists with an entry for each node
 pub record StoreRead : Type 0 where
@@ -73,7 +72,7 @@ module _ (store : StoreRead) where
   abbrev pub body_at : Node → Option NodeBody
   body_at node = slice_get store.bodies node
 
-  -- the expansion of the node's body, with what is kept for the names that it uses
+  -- the expansion of the node's body, with what is kept for the nodes that it uses
   abbrev pub expanded_at : Kept → Node → Option Expanded
   expanded_at kept node =
       option_map (λ body. expanded body.items.value (kept_for kept (body_uses body))) (body_at node)
@@ -90,18 +89,17 @@ module _ (store : StoreRead) where
   abbrev pub IsNodeIn : Node → Type 0
   IsNodeIn node = IsNodeOf store.names node
 
--- the node uses the name with this number
-pub record UsesNumber (shapes : Shapes) (store : StoreRead) (node : Node) (id : ℕ) : Type 0 where
-  pub inside : id < length store.names
-  pub uses : Uses shapes (title_in_store store node) (title_in_store store (suc id))
+-- the node uses this one
+pub record UsesNode (shapes : Shapes) (store : StoreRead) (node used : Node) : Type 0 where
+  pub inside : IsNodeIn store used
+  pub uses : Uses shapes (title_in_store store node) (title_in_store store used)
 
--- for each name that the node uses, what is kept gives the name's symbols; a name without a piece
--- has none
+-- for each node that the node uses, what is kept gives its symbols; a node without a piece has none
 abbrev pub KeepsUsed : Shapes → StoreRead → Kept → Node → Type 0
 KeepsUsed shapes store kept node =
-    (id : ℕ) → UsesNumber shapes store node id
-    → symbols_if_any (used_names shapes) (Named (slice_index_or store.names id []))
-    (kept_at kept (suc id)) ≡ flat_of shapes (Named (slice_index_or store.names id []))
+    (used : Node) → UsesNode shapes store node used
+    → symbols_if_any (used_titles shapes) (title_in_store store used) (kept_at kept used)
+    ≡ flat_of shapes (title_in_store store used)
 
 -- The store is that of the shapes: what it records of each node holds for the node's title. For a
 -- node that it does not have it gives what holds for a node without a piece.

@@ -1,5 +1,5 @@
 //! The body of each node, and whether its shape is new.
-ghost use Rattle.std.specs.Prelude.{◌≡◌, ◌≢◌, ◌<◌, [], IfOk, length, All, IfSome};
+ghost use Rattle.std.specs.Prelude.{◌≡◌, ◌≢◌, ◌<◌, ◌+◌, ◌^◌, [], IfOk, length, All, IfSome};
 ghost use Rattle.std.specs.Prelude.{true, MatchOption, None};
 ghost use Rattle.digraph.specs.Nodes.{Node};
 ghost use Rattle.tangle_bodies.specs.NodeBodies.{HoldsShape, body_items, body_uses};
@@ -68,7 +68,7 @@ fn body_before<'s>(
     ensures same_names { IfSome result
         (λ before. before.same_names ≡ true → before.names.now ≡ names.now) }
     ensures uses { IfSome result
-        (λ before. All (λ id. id < length before.names.now) (body_uses before.body.now.value)) }
+        (λ before. All (IsNodeOf before.names.now) (body_uses before.body.now.value)) }
     ensures shape { IfSome old.entry (λ store. (shapes : Shapes) → IsStoreOf shapes store.now
         → MatchOption result (shapes (title_at names.now node) ≡ [])
         (λ before. HoldsShape before.names.now (shapes (title_at names.now node))
@@ -125,6 +125,7 @@ fn body_after(
     same_names: bool,
 ) -> Result<BodyAfter, NoMemory>
     requires grouped { IsGrouped grouped }
+    requires few { length grouped.names.now + 1 < 2 ^ 64 }
     requires node { IsNodeOf grouped.names.now node }
     requires same_names { same_names ≡ true
         → IfSome old (λ store. store.now.names ≡ grouped.names.now) }

@@ -1,5 +1,5 @@
 //! The weight and the depth of each node.
-ghost use Rattle.std.specs.Prelude.{◌≡◌, ◌+◌, ◌≤◌, ◌&&◌, ℕ, IfOk, length, map, min, suc, sum_by};
+ghost use Rattle.std.specs.Prelude.{◌≡◌, ◌+◌, ◌≤◌, ◌&&◌, ℕ, IfOk, length, map, min, sum_by};
 ghost use Rattle.std.specs.Prelude.{List, nat_lt, nat_le};
 ghost use Rattle.digraph.specs.Graph.{InRange};
 ghost use Rattle.digraph.specs.Order.{IsOrder};
@@ -49,35 +49,28 @@ const BEYOND: Measure = Measure {
     is_expandable: false,
 };
 
-/// What is recorded of the name with this number.
-pub(crate) fn measure_of_name(measures: &[Measure], id: usize) -> Measure
-    ensures { result ≡ measure_at measures.now (suc id) }
-{
-    entry(measures, Node::name(id), NO_PIECE)
-}
-
-/// The weight of a node with this number of symbols of its own, which uses these names.
+/// The weight of a node with this number of symbols of its own, which uses these nodes.
 #[tactic(auto, unfolding(tangle_expansion::specs::Limits::weight_cap))]
-fn weight_with_uses(own: u32, measures: &[Measure], uses: &[usize]) -> u32
+fn weight_with_uses(own: u32, measures: &[Measure], uses: &[Node]) -> u32
     requires { own ≤ weight_cap }
     ensures { result ≡ min weight_cap
-        (own + sum_by (λ id. (measure_at measures.now (suc id)).weight) uses.now) }
+        (own + sum_by (λ node. (measure_at measures.now node).weight) uses.now) }
 {
     let mut weight = own;
-    for id in uses {
-        let used = measure_of_name(measures, *id).weight;
+    for node in uses {
+        let used = entry(measures, *node, NO_PIECE).weight;
         weight = weight.saturating_add(used).min(WEIGHT_CAP);
     }
     weight
 }
 
-/// The greatest depth of these names, or 0 if there is none.
-fn greatest_depth(measures: &[Measure], uses: &[usize]) -> u16
-    ensures { result ≡ greatest_by (λ id. (measure_at measures.now (suc id)).depth) uses.now }
+/// The greatest depth of these nodes, or 0 if there is none.
+fn greatest_depth(measures: &[Measure], uses: &[Node]) -> u16
+    ensures { result ≡ greatest_by (λ node. (measure_at measures.now node).depth) uses.now }
 {
     let mut greatest = 0;
-    for id in uses {
-        greatest = greatest.max(measure_of_name(measures, *id).depth);
+    for node in uses {
+        greatest = greatest.max(entry(measures, *node, NO_PIECE).depth);
     }
     greatest
 }
@@ -90,7 +83,7 @@ fn is_within(weight: u32, depth: u16) -> bool
     depth < LEVELS && weight <= HEAVIEST
 }
 
-/// The measure of the node with this body, by those of the names that it uses.
+/// The measure of the node with this body, by those of the nodes that it uses.
 #[tactic(auto, unfolding(tangle_expansion::specs::Limits::levels, tangle_expansion::specs::Limits::weight_cap))]
 fn measure_of_node(measures: &[Measure], body: &NodeBody) -> Measure
     ensures { (shapes : Shapes) (names : List (List ℕ)) (title : Title)

@@ -1,6 +1,6 @@
 //! The graph of names of a store: all that follows from the names and the uses of the nodes,
 //! whatever else the nodes contain.
-ghost use Rattle.std.specs.Prelude.{◌≡◌, ◌<◌, ◌+◌, ◌^◌, IfOk, OnOk, All, length, map, suc, true};
+ghost use Rattle.std.specs.Prelude.{◌≡◌, ◌<◌, IfOk, All, length, map, true};
 ghost use Rattle.std.specs.List.Sorted.{IsStrictlyIncreasing};
 ghost use Rattle.digraph.specs.Graph.{InRange};
 ghost use Rattle.tangle_bodies.specs.NodeBodies.{body_uses};
@@ -14,7 +14,7 @@ use tangle_bodies::NodeBody;
 use tangle_lines::NoMemory;
 use tangle_names::Names;
 
-/// The names, shared with their table; for each node the names that it uses, the nodes that use it,
+/// The names, shared with their table; for each node the nodes that it uses, those that use it,
 /// and whether it contains itself; and the nodes that reach no cycle, each after those that it
 /// uses.
 ///
@@ -36,7 +36,7 @@ impl NameGraph {
         names: Names,
         bodies: &[Rc<NodeBody>],
     ) -> Result<Rc<NameGraph>, NoMemory>
-        requires { All (All (λ id. suc id < length bodies.now))
+        requires { All (All (λ node. node < length bodies.now))
             (map body_uses (node_bodies bodies.now)) }
         ensures names { IfOk result (λ name_graph. name_graph.value.names ≡ names) }
         ensures name_graph { IfOk result
@@ -58,34 +58,20 @@ impl NameGraph {
     }
 }
 
-/// Replaces `nodes` by the nodes of the names with these numbers.
-fn fill_with_names(nodes: &mut Vec<Node>, ids: &[usize]) -> Result<(), AllocError>
-    requires { All (λ id. suc id < 2 ^ 64) ids.now }
-    ensures { OnOk result (nodes.new.items ≡ map suc ids.now) }
-{
-    nodes.clear();
-    for id in ids {
-        nodes.push(Node::name(*id))?;
-    }
-    Ok(())
-}
-
-/// For each node, the names that its items use, each once.
+/// For each node, the nodes that its items use, each once.
 fn uses_of_bodies(alloc: Global, bodies: &[Rc<NodeBody>]) -> Result<Rows<Node>, AllocError>
-    requires { All (All (λ id. suc id < length bodies.now))
+    requires { All (All (λ node. node < length bodies.now))
         (map body_uses (node_bodies bodies.now)) }
     ensures uses { IfOk result (AreUsesOf (map body_uses (node_bodies bodies.now))) }
     ensures range { IfOk result InRange }
     ensures increasing { IfOk result (All IsStrictlyIncreasing) }
 {
     let mut rows = Rows::new(alloc);
-    let mut ids = Vec::new(alloc);
     let mut nodes = Vec::new(alloc);
     for body in bodies {
-        ids.clear();
-        ids.extend_from_slice(body.uses())?;
-        once_each(&mut ids);
-        fill_with_names(&mut nodes, &ids)?;
+        nodes.clear();
+        nodes.extend_from_slice(body.uses())?;
+        once_each(&mut nodes);
         rows.push_row(&nodes)?;
     }
     Ok(rows)
@@ -107,7 +93,7 @@ pub(crate) fn are_same_names(names: &Names, others: &Names) -> bool
     true
 }
 
-/// Whether each node uses the same names, in the same order, as the node with its number did.
+/// Whether each node uses the same nodes, in the same order, as the node with its number did.
 pub(crate) fn have_same_uses(before: &[Rc<NodeBody>], bodies: &[Rc<NodeBody>]) -> bool
     ensures { result ≡ true → map body_uses (node_bodies before.now)
         ≡ map body_uses (node_bodies bodies.now) }

@@ -1,13 +1,15 @@
 //! Which names of files are those of the main file or of an earlier file.
-ghost use Rattle.std.specs.Prelude.{◌≡◌, ◌<◌, ◌+◌, ◌||◌, List, ℕ, IfOk, length};
+ghost use Rattle.std.specs.Prelude.{◌≡◌, ◌<◌, ◌+◌, ◌||◌, List, ℕ, IfOk, length, suc};
 ghost use Rattle.tangle_bodies.specs.Shapes.{Shapes};
-ghost use Rattle.tangle_graph.specs.Measures.{AreMeasures};
+ghost use Rattle.tangle_graph.specs.Measures.{AreMeasures, measure_at};
 ghost use Rattle.tangle_graph.specs.NamedFiles.{AreFlagged, HaveForms, flags_at, flags_of};
 ghost use Rattle.tangle_graph.specs.Outputs.{is_file};
 ghost use Rattle.tangle_graph.specs.PlainForms.{plain_form};
 
-use crate::measures::{Measure, measure_of_name};
+use crate::measures::{Measure, NO_PIECE};
+use crate::nodes::entry;
 use crate::plain_forms::plain_form;
+use digraph::Node;
 use indexmap::IndexSet;
 use std::alloc::Global;
 use tangle_lines::NoMemory;
@@ -18,6 +20,13 @@ use tangle_names::NameTable;
 #[derive(Drop)]
 pub(crate) struct NamedFiles {
     flags: Vec<(bool, bool)>,
+}
+
+/// What is recorded of the name with this number.
+fn measure_of_name(measures: &[Measure], id: usize) -> Measure
+    ensures { result ≡ measure_at measures.now (suc id) }
+{
+    entry(measures, Node::name(id), NO_PIECE)
 }
 
 /// Whether the name is that of a file: an occurrence of it begins with `@(`, and it has a piece.

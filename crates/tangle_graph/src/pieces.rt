@@ -3,14 +3,15 @@ ghost use Rattle.std.specs.Prelude.{◌≡◌, ◌<◌, ◌+◌, ◌^◌, ℕ, I
 ghost use Rattle.digraph.specs.Rows.{IsRowsOf};
 ghost use Rattle.tangle_names.specs.NameTable.{table_of};
 ghost use Rattle.tangle_scan.specs.Web.{no_piece};
-ghost use Rattle.tangle_bodies.specs.Nodes.{title_at};
-ghost use Rattle.tangle_bodies.specs.WebShapes.{ResolvesInside, is_piece_of};
+ghost use Rattle.tangle_bodies.specs.Nodes.{HasNodes, IsNodeOf, title_at};
+ghost use Rattle.tangle_bodies.specs.WebShapes.{is_piece_of};
 ghost use Rattle.tangle_graph.specs.Grouping.{node_of_piece, has_number_in};
 ghost use Rattle.tangle_graph.specs.Grouping.{positions_of};
 
 use digraph::{GrowingRows, Node, Rows};
 use std::alloc::{AllocError, Global};
-use tangle_names::{NameTable, Resolved};
+use tangle_bodies::node_of_occurrence;
+use tangle_names::NameTable;
 use tangle_scan::{OccurrenceNumber, Web};
 
 /// The number of nodes: the program, and each name of the table.
@@ -27,18 +28,14 @@ fn node_count(table: &NameTable) -> Result<usize, AllocError>
 /// The node that a piece belongs to, by the occurrence that defines the piece. A piece without an
 /// occurrence belongs to the program.
 fn node_of_piece(table: &NameTable, occurrence: Option<OccurrenceNumber>) -> Option<Node>
-    requires inside { ResolvesInside table.now }
+    requires nodes { HasNodes table.now }
     requires occurrence { IfSome occurrence (λ n. n < length table.now.resolved) }
-    requires count { length table.now.names + 1 < 2 ^ 64 }
     ensures node { result ≡ node_of_piece table.now occurrence }
-    ensures within { IfSome result (λ n. n < length table.now.names + 1) }
+    ensures within { IfSome result (IsNodeOf table.now.names) }
 {
-    let Some(occurrence) = occurrence else {
-        return Some(Node::program());
-    };
-    match table.resolve(occurrence.number()) {
-        Resolved::Name(id) => Some(Node::name(id)),
-        Resolved::NoFullName | Resolved::Ambiguous => None,
+    match occurrence {
+        Some(occurrence) => node_of_occurrence(table, occurrence.number()),
+        None => Some(Node::program()),
     }
 }
 
@@ -50,7 +47,7 @@ fn node_at(web: &Web, table: &NameTable, i: usize) -> Option<Node>
     ensures node { (n : ℕ) → n < length table.now.names + 1 → has_number_in n result
         ≡ is_piece_of table.now (title_at table.now.names n)
         (slice_index_or web.now.pieces i no_piece) }
-    ensures within { IfSome result (λ n. n < length table.now.names + 1) }
+    ensures within { IfSome result (IsNodeOf table.now.names) }
 {
     let pieces = web.pieces();
     node_of_piece(table, pieces[i].occurrence)

@@ -1,8 +1,8 @@
 //! Comparing the shapes of two nodes, each of a store of its own.
-ghost use Rattle.std.specs.Prelude.{◌≡◌, ◌<◌, ◌↔◌, [], true, length, All, IfSome, MatchOption};
+ghost use Rattle.std.specs.Prelude.{◌≡◌, ◌↔◌, [], true, All, IfSome, MatchOption};
 ghost use Rattle.tangle_bodies.specs.NodeBodies.{HoldsShape, body_uses};
 ghost use Rattle.tangle_bodies.specs.Shapes.{Shapes};
-ghost use Rattle.tangle_graph.specs.Stores.{IsStoreOf, shape_in_store};
+ghost use Rattle.tangle_graph.specs.Stores.{IsNodeIn, IsStoreOf, shape_in_store};
 
 use crate::store::Store;
 use digraph::Node;
@@ -11,7 +11,7 @@ use tangle_bodies::NodeBody;
 /// The body of the node, which holds its shape; `None` for a node that the store doesn't have.
 fn body_in(store: &Store, node: Node) -> Option<&NodeBody>
     ensures uses { IfSome result
-        (λ body. All (λ id. id < length store.now.names) (body_uses body.now)) }
+        (λ body. All (IsNodeIn store.now) (body_uses body.now)) }
     ensures shape { (shapes : Shapes) → IsStoreOf shapes store.now
         → MatchOption result (shape_in_store store.now shapes node ≡ [])
         (λ body. HoldsShape store.now.names (shape_in_store store.now shapes node) body.now) }

@@ -1,5 +1,5 @@
 //! The store of a web's graph of names.
-ghost use Rattle.std.specs.Prelude.{◌≡◌, ◌++◌, ◌∷◌, [], IfOk, OnOk, OnErr, suc};
+ghost use Rattle.std.specs.Prelude.{◌≡◌, ◌++◌, ◌∷◌, [], IfOk, OnOk, OnErr};
 ghost use Rattle.std.specs.Prelude.{All, true, ◌<◌, length, map, IfSome, Some};
 ghost use Rattle.tangle_names.specs.NameTable.{table_of};
 ghost use Rattle.tangle_bodies.specs.NodeBodies.{body_uses, node_bodies};
@@ -123,7 +123,7 @@ impl Store {
     pub(crate) fn body(&self, node: Node) -> &Rc<NodeBody>
         requires { IsNodeIn self.now node }
         ensures body { body_at self.now node ≡ Some result.now.value }
-        ensures uses { All (λ id. id < length self.now.names) (body_uses result.now.value) }
+        ensures uses { All (IsNodeIn self.now) (body_uses result.now.value) }
     {
         let bodies: &Vec<Rc<NodeBody>> = &self.bodies;
         &bodies[node.number()]
@@ -199,7 +199,7 @@ impl Store {
         entry(&self.measures, node, NO_PIECE).depth
     }
 
-    /// The names that the node uses, each once.
+    /// The nodes that the node uses, each once.
     pub fn uses(&self, node: Node) -> &[Node]
         ensures { result.now ≡ uses_at self.now node }
     {
@@ -225,9 +225,9 @@ impl Store {
 
     /// The faults of the graph of the store's web: names that are used and have no piece, names that
     /// are never used, names that contain themselves, nodes that are too large, names with `@(` that
-    /// are the main file's, and those that are an earlier file's. Each kind is in the order of the names, with the program last. The
-    /// last fault is that the program has no piece. Uses in dropped pieces count, and so do uses by
-    /// abbreviations.
+    /// are the main file's, and those that are an earlier file's. Each kind is in the order of the
+    /// names, with the program last. The last fault is that the program has no piece. Uses in
+    /// dropped pieces count, and so do uses by abbreviations.
     ///
     /// # Errors
     ///
@@ -263,7 +263,7 @@ impl Store {
     }
 
     /// Expands a node: the expansion has the items of the node's body, with the kept expansion of
-    /// each used name, if there is one. The node is added to the end of the work's list.
+    /// each used node, if there is one. The node is added to the end of the work's list.
     ///
     /// # Errors
     ///
@@ -307,7 +307,7 @@ fn name_graph_after(
     old: Option<&Store>,
 ) -> Result<Rc<NameGraph>, NoMemory>
     requires same_names { same_names ≡ true → IfSome old (λ store. store.now.names ≡ names) }
-    requires inside { All (All (λ id. suc id < length bodies.now))
+    requires inside { All (All (λ node. node < length bodies.now))
         (map body_uses (node_bodies bodies.now)) }
     ensures names { IfOk result (λ name_graph. name_graph.value.names ≡ names) }
     ensures name_graph { IfOk result

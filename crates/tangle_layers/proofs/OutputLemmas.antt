@@ -1,7 +1,7 @@
 -- The output files of a web are ready to be written where what its nodes expand to is kept.
 use Rattle.std.proofs.Common.{◌≡◌, ◌∙◌, ◌≤◌, ℕ, List, length, sym, subst}
-use Rattle.tangle_expansion.specs.Expanded.{used_names}
-use Rattle.tangle_expansion.specs.Numbers.{NumbersRead, names_used}
+use Rattle.tangle_expansion.specs.Expanded.{used_titles}
+use Rattle.tangle_expansion.specs.Numbers.{NumbersRead, titles_used}
 use Rattle.std.specs.Prelude.{Contains, All}
 use Rattle.std.proofs.lemmas.List.Elements.{All-contains_itself, All-weaker}
 use Rattle.tangle_scan.specs.Web.{WebRead}
@@ -24,7 +24,7 @@ module _ (web : WebRead) (table : TableRead) (out : List ℕ)
   fits output c = subst (λ names. IsFit (shapes web table) names output) (sym is.names)
       (outputs_fit web table resolves out output (subst (λ os. Contains os output) is.outputs c))
 
-  pub outputs_ready : (numbers : NumbersRead) → names_used numbers ≡ used_names (shapes web table)
+  pub outputs_ready : (numbers : NumbersRead) → titles_used numbers ≡ used_titles (shapes web table)
       → numbers.names ≡ table.names → All (IsReady numbers kept) store.outputs
   outputs_ready numbers uses_are names_are =
       All-weaker (Contains store.outputs) (IsReady numbers kept)

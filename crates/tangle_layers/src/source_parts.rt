@@ -2,7 +2,7 @@
 use std::alloc::Global;
 use tangle_lexer::{LexerBuffers, Token, first_state, next_block};
 use tangle_lines::{NoMemory, Source};
-use tangle_scan::{is_macro, tokens_of_macro};
+use tangle_scan::{begins_with_name, tokens_of_macro};
 use tangle_text::{Reader, Span};
 
 /// The spans of the runs and the other texts of all C parts, and the tokens of each macro, spaced as
@@ -28,7 +28,7 @@ pub fn read_parts(
         (state, next_head) = next_block(source, &mut buffers, &mut reader, state)?;
         if let Token::MacroStart(_) = head {
             let spaced = tokens_of_macro(alloc, source, &buffers.tokens)?;
-            if is_macro(source, &spaced) {
+            if begins_with_name(source, &spaced) {
                 macros.push(spaced)?;
             }
         } else {

@@ -51,7 +51,7 @@ is_c_part _ = false
 
 -- a position is in a directive of a C part; macros have none
 abbrev pub is_in_directive : LexerState → Bool
-is_in_directive s = is_c_part s.mode && lines_of_c.is_directive s.line.line
+is_in_directive s = is_c_part s.mode && lines_of_c.is_directive_line s.line.line
 
 abbrev pub fault_if : Bool → FaultKind → ℕ → List Token
 fault_if b kind line = if b then token.Fault kind line ∷ [] else []

@@ -8,7 +8,7 @@ use Rattle.tangle_lexer.specs.declared.modes.IncludeState.TheVariants as include
 use Rattle.tangle_lexer.specs.declared.modes.LineOfC.{LineOfC}
 use Rattle.tangle_lexer.specs.declared.modes.LineOfC.TheVariants as line
 use Rattle.tangle_lexer.specs.declared.modes.AtLineEnd.{AtLineEnd}
-use Rattle.tangle_lexer.specs.declared.modes.AtLineEnd.TheVariants.{Ends, GoesOn, Removed}
+use Rattle.tangle_lexer.specs.declared.modes.AtLineEnd.TheVariants.{Ends, Continued, Removed}
 use Rattle.tangle_lexer.specs.declared.modes.LineState.{LineState}
 use Rattle.tangle_lexer.specs.declared.tokens.Token.{Token}
 use Rattle.tangle_lexer.specs.declared.tokens.Token.TheVariants as token
@@ -21,9 +21,9 @@ front = record {
   at_line_end = Ends;
 }
 
-abbrev pub is_directive : LineOfC → Bool
-is_directive line.Directive = true
-is_directive _ = false
+abbrev pub is_directive_line : LineOfC → Bool
+is_directive_line line.Directive = true
+is_directive_line _ = false
 
 -- the line after an item, which may be its first
 abbrev pub with_item : Bool → LineOfC → LineOfC
@@ -36,7 +36,7 @@ abbrev pub after_item : IncludeState → Bool → Bool → LineState → LineSta
 after_item inc is_number_sign is_backslash l = record {
   include = inc;
   line = with_item is_number_sign l.line;
-  at_line_end = if is_backslash then GoesOn else Ends;
+  at_line_end = if is_backslash then Continued else Ends;
 }
 
 -- the line after a join, which removes the line ends after the last item

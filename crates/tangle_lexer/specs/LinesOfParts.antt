@@ -46,12 +46,12 @@ is_directive texts [] = false
 is_directive texts (t ∷ ts) =
     if is_between_items t then is_directive texts ts else is_number_sign texts t
 
--- The line goes on after a line end that is next: its last token, white space aside, ends in a
+-- The line is continued after a line end that is next: its last token, white space aside, ends in a
 -- backslash.
-abbrev pub goes_on : List (List ℕ) → List Token → Bool
-goes_on texts [] = false
-goes_on texts (t ∷ ts) =
-    if list_all is_white_space ts then ends_in_backslash texts t else goes_on texts ts
+abbrev pub is_continued_line : List (List ℕ) → List Token → Bool
+is_continued_line texts [] = false
+is_continued_line texts (t ∷ ts) =
+    if list_all is_white_space ts then ends_in_backslash texts t else is_continued_line texts ts
 
 -- a join is after the last item of these tokens
 abbrev pub join_behind : List Token → Bool
@@ -64,11 +64,11 @@ join_ahead [] = false
 join_ahead (t ∷ ts) = is_join t || is_between_items t && join_ahead ts
 
 -- Whether the token after the tokens of a line ends the line, where `after` is what follows. A use
--- and @h do. So does a line end, unless the line goes on there, or a join before it or after it
+-- and @h do. So does a line end, unless the line is continued there, or a join before it or after it
 -- removes it.
 abbrev pub ends_line_of_c : List (List ℕ) → List Token → Token → List Token → Bool
 ends_line_of_c texts line (token.LineEnd number) after =
-    not (join_behind line || goes_on texts line) && not (join_ahead after)
+    not (join_behind line || is_continued_line texts line) && not (join_ahead after)
 ends_line_of_c texts line t after = is_use t
 
 -- The lines of C of a part, each with the token that ends it. `line` is what is before these tokens

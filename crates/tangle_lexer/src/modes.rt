@@ -54,8 +54,8 @@ pub enum LineOfC {
 pub enum AtLineEnd {
     /// The line of C ends.
     Ends,
-    /// It goes on: a sign or a verbatim text that ends in a backslash is before the line end.
-    GoesOn,
+    /// It is continued: a sign or a verbatim text that ends in a backslash is before the line end.
+    Continued,
     /// It goes on: a join is before the line end, perhaps with others between, and removes it.
     Removed,
 }
@@ -119,7 +119,7 @@ impl LineState {
             _ => LineOfC::Other,
         };
         let at_line_end = if is_backslash {
-            AtLineEnd::GoesOn
+            AtLineEnd::Continued
         } else {
             AtLineEnd::Ends
         };
@@ -137,7 +137,7 @@ impl LineState {
     {
         let (line, at_line_end) = match self.at_line_end {
             AtLineEnd::Ends => (self.line.next(), AtLineEnd::Ends),
-            AtLineEnd::GoesOn => (self.line, AtLineEnd::Ends),
+            AtLineEnd::Continued => (self.line, AtLineEnd::Ends),
             AtLineEnd::Removed => (self.line, AtLineEnd::Removed),
         };
         LineState {

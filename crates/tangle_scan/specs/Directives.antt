@@ -41,16 +41,16 @@ ForEachChoice GroupBegins before P = (now : Bool) → (now ≡ true → before �
 ForEachChoice GroupTurns before P = (now : Bool) → P now
 
 module _ (texts : List (List ℕ)) where
-  -- The line goes on after a line end that is next: its last item, white space aside, ends in a
+  -- The line is continued after a line end that is next: its last item, white space aside, ends in a
   -- backslash.
-  abbrev pub goes_on : List Item → Bool
-  goes_on [] = false
-  goes_on (x ∷ items) =
-      if list_all is_blank items then item_ends_in backslash texts x else goes_on items
+  abbrev pub is_continued_line : List Item → Bool
+  is_continued_line [] = false
+  is_continued_line (x ∷ items) =
+      if list_all is_blank items then item_ends_in backslash texts x else is_continued_line items
 
-  -- the items of the line of C after a line end that is next: none, unless the line goes on
+  -- the items of the line of C after a line end that is next: none, unless the line is continued
   abbrev pub after_line_end : List Item → List Item
-  after_line_end line = if goes_on line then line ++ item.LineEnd ∷ [] else []
+  after_line_end line = if is_continued_line line then line ++ item.LineEnd ∷ [] else []
 
   -- the word that these items begin with, if they begin with one; white space and the ends of
   -- continued lines may be before it
@@ -84,6 +84,6 @@ module _ (texts : List (List ℕ)) where
   border_after line =
       if is_turn line then GroupTurns else if begins_group line then GroupBegins else SameRegion
 
-  -- the border at a line end, which ends the line unless the line goes on
+  -- the border at a line end, which ends the line unless the line is continued
   abbrev pub border_at_line_end : List Item → Border
-  border_at_line_end line = if goes_on line then SameRegion else border_after line
+  border_at_line_end line = if is_continued_line line then SameRegion else border_after line

@@ -218,8 +218,8 @@ abbrev pub is_touching : PartState → Bool
 is_touching at = is_item at.last && not at.has_white
 
 -- the next line continues a line that ends here
-abbrev pub continues : List (List ℕ) → PartState → Bool
-continues texts at = is_item at.last && ends_in_backslash texts at.item
+abbrev pub is_continued_at : List (List ℕ) → PartState → Bool
+is_continued_at texts at = is_item at.last && ends_in_backslash texts at.item
 
 -- a piece that ends here needs a blank at its end
 abbrev pub is_open_after : List (List ℕ) → Last → Token → Bool
@@ -258,7 +258,7 @@ pub record IsPartRead (lines : List SourceLine) (items kept : List Item) (at : P
       (keeps_white at.last && at.has_white) es
   pub keeps : is_joined at.last ≡ false → is_some before ≡ keeps_white at.last
   pub continued : is_joined at.last ≡ false
-      → is_continued (texts_of lines) before ≡ continues (texts_of lines) at
+      → is_continued (texts_of lines) before ≡ is_continued_at (texts_of lines) at
   pub front_open : is_open (texts_of lines) front ≡ run_ends_in slash (texts_of lines) at.item
   pub before_open : is_open (texts_of lines) before ≡ ends_open (texts_of lines) at
   pub merges : (e : Token) → is_run e ≡ false → would_merge (texts_of lines) prev e

@@ -32,5 +32,5 @@ pub use tags::have_same_items;
 pub use tangle_lexer::{Occurrence, OccurrenceRole};
 pub use tangle_text::Span;
 pub use texts::{ItemKind, ItemTag, PieceText};
-pub use web_builder::is_macro;
+pub use web_builder::begins_with_name;
 pub use webs::Web;

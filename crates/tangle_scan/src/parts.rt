@@ -285,8 +285,8 @@ fn ends_in(source: &Source, token: Token, byte: u8) -> bool
 /// Whether the next line continues the one that ends here.
 // No run ends in a backslash, so that its last byte need not be looked up.
 #[inline(always)]
-fn continue_line(source: &Source, at: &PartState) -> bool
-    ensures { result ≡ passes.continues (texts_of source.now.lines) at.now }
+fn is_continued_at(source: &Source, at: &PartState) -> bool
+    ensures { result ≡ passes.is_continued_at (texts_of source.now.lines) at.now }
 {
     matches!(at.last, Last::Item) && ends_in(source, at.item, b'\\')
 }
@@ -405,9 +405,9 @@ fn add_line_end(
     requires { at.old.counted.line < 2 ^ 63 }
     ensures text { OnOk result (let texts = texts_of source.now.lines in
         text.new ≡ with_items texts text.old (passes.line_item source.now.lines
-        (passes.continues texts at.old) (passes.is_whole at.old.turn)
+        (passes.is_continued_at texts at.old) (passes.is_whole at.old.turn)
         (origin_of at.old.counted) line ∷ [])) }
-    ensures at { OnOk result (let continued = passes.continues (texts_of source.now.lines) at.old in
+    ensures at { OnOk result (let continued = passes.is_continued_at (texts_of source.now.lines) at.old in
         at.new ≡ record at.old {
           last = passes.last_after_line_end continued;
           has_white = false;
@@ -417,11 +417,11 @@ fn add_line_end(
         }) }
     ensures counted { OnOk result (origin_of at.new.counted
         ≡ counted_after_line_end source.now.lines
-        (passes.continues (texts_of source.now.lines) at.old) (origin_of at.old.counted) line) }
+        (passes.is_continued_at (texts_of source.now.lines) at.old) (origin_of at.old.counted) line) }
     ensures limit { OnOk result (at.new.counted.line ≤ max (2 ^ 32) (at.old.counted.line + 1)) }
 {
     note_gap(text, at);
-    let is_continued = continue_line(source, at);
+    let is_continued = is_continued_at(source, at);
     let is_turn = is_whole(at.turn);
     at.counted = push_line_end(source, text, at.counted, line, is_continued, is_turn)?;
     at.last = last_after_line_end(is_continued);

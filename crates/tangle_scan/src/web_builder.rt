@@ -30,7 +30,7 @@ use tangle_lexer::{SpanKind, Token};
 use tangle_lines::{Fault, FaultKind, NoMemory, Source};
 
 /// Whether the spaced tokens of a macro begin with an identifier, as they have to.
-pub fn is_macro(source: &Source, tokens: &[Token]) -> bool
+pub fn begins_with_name(source: &Source, tokens: &[Token]) -> bool
     requires { All (IsRunIn (texts_of source.now.lines)) tokens.now }
     ensures { result ≡ rules.is_macro (texts_of source.now.lines)
         (spaced_items (texts_of source.now.lines) tokens.now) }
@@ -180,7 +180,7 @@ impl WebBuilder {
             (rules.macro_items texts (unfolded texts tokens.now)) self.old) }
     {
         let spaced = tokens_of_macro(alloc, source, tokens)?;
-        if is_macro(source, &spaced) {
+        if begins_with_name(source, &spaced) {
             push_macro(&mut self.macros, source, &spaced)?;
         } else {
             add_fault(alloc, source, &mut self.faults, FaultKind::MacroName, line)?;

@@ -14,7 +14,7 @@ use Rattle.tangle_names.specs.declared.Resolved.{Resolved}
 use Rattle.tangle_names.specs.Names.{NameText, Meaning, One, full_names, meaning, only_with, prefix}
 use Rattle.tangle_names.specs.NameTable.{TableRead}
 use Rattle.tangle_names.specs.Resolving.{names_of, resolve, resolved_meaning}
-use Rattle.tangle_bodies.specs.WebShapes.{is_node, is_piece_of, node_of_occurrence, resolved_at, shape_item, use_of}
+use Rattle.tangle_bodies.specs.WebShapes.{is_piece_of, is_titled, resolved_at, shape_item, title_of_piece, use_of}
 use Rattle.tangle_bodies.specs.Shapes.{Shape, ShapeItem, Title}
 use Rattle.digraph.specs.Nodes.{Node}
 use Rattle.tangle_session.specs.Moves.{HaveSameShapes, IsMoved, item_form, occurrence_form, piece_form}
@@ -73,7 +73,7 @@ module _ (table : TableRead) where
 
   abbrev shapes_said : List SaidPiece → Title → Shape
   shapes_said pieces node =
-      map (λ p. map item_said p.1) (filter (λ p. is_node table node (node_of_occurrence table p.0)) pieces)
+      map (λ p. map item_said p.1) (filter (λ p. is_titled table node (title_of_piece table p.0)) pieces)
 
   shape_same : (texts : List (List ℕ)) (node : Title) (pieces : List PieceRead)
       → map (λ (p : PieceRead). map (shape_item texts table) p.items) (filter (is_piece_of table node) pieces)

@@ -22,10 +22,9 @@ use Rattle.tangle_scan.specs.Web.{WebRead}
 use Rattle.tangle_names.specs.declared.Resolved.{Resolved}
 use Rattle.tangle_names.specs.NameTable.{TableRead, table_of}
 use Rattle.tangle_expansion.specs.Outputs.{OutputRead}
-use Rattle.tangle_bodies.specs.ItemTags.{uses_resolved}
 use Rattle.tangle_bodies.specs.WebShapes.{resolved_at, shapes}
 use Rattle.tangle_graph.specs.Grouping.{has_number_in}
-use Rattle.tangle_graph.specs.Outputs.{file_names, first_file_name, first_file_occurrence}
+use Rattle.tangle_graph.specs.Outputs.{file_names, first_file_name, first_file_occurrence, names_resolved}
 use Rattle.tangle_graph.specs.Outputs.{form_at, is_earlier_file, is_named_file}
 use Rattle.tangle_graph.specs.Outputs.{is_written, named_file, outputs}
 use Rattle.tangle_graph.specs.PlainForms.{plain_form}
@@ -52,7 +51,7 @@ module _ (table : TableRead) where
   apart a (suc n) = by (first_file_name table a) (here a) (one (resolved_at table a)) (apart (a + 1) n)
     where
       one : (r : Resolved)
-          → length (filter (λ id. has_number_in a (first_file_occurrence table id)) (uses_resolved r)) ≤ 1
+          → length (filter (λ id. has_number_in a (first_file_occurrence table id)) (names_resolved r)) ≤ 1
       one r = search rules
 
       by : (ids : List ℕ) → All (λ id. first_file_occurrence table id ≡ Some a) ids → length ids ≤ 1

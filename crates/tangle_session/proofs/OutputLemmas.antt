@@ -26,7 +26,7 @@ use Rattle.tangle_graph.specs.Stores.{StoreRead, IsStoreOf}
 use Rattle.std.proofs.Common.{inl, inr}
 use Rattle.std.proofs.lemmas.Bool.{cases_Bool}
 use Rattle.tangle_bodies.proofs.InsideLemmas.{table_inside}
-use Rattle.tangle_expansion.proofs.NumberLemmas.{names_used_of}
+use Rattle.tangle_expansion.proofs.NumberLemmas.{titles_used_of}
 use Rattle.tangle_graph.proofs.ExpandLemmas.{expandable_at}
 use Rattle.tangle_graph.proofs.OutputLemmas.{IsFit, kept_symbols}
 use Rattle.tangle_graph.specs.Keeping.{KeepsJust}
@@ -46,7 +46,7 @@ module _ (files : FileTable) (roles : RolesRead) (store : StoreRead) (kept : Kep
   same_bytes = elim (cases_Bool output.has_piece) [
     | inl has ↦ (let on = (expandable_at (shapes_of web) store is output.node fit.inside).1 (fit.there has) in
         let given = kept_symbols (shapes_of web) store kept (numbers_of web (table_of web) roles.marks) is keeps
-        (names_used_of web (table_of web) roles.marks (table_inside web)) (sym names_are) output.node on in
+        (titles_used_of web (table_of web) roles.marks (table_inside web)) (sym names_are) output.node on in
         rw (given, names_are) refl)
     | inr none ↦ rw none refl
   ]

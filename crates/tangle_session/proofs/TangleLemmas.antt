@@ -31,7 +31,7 @@ use Rattle.tangle_scan.proofs.laws.WebLaws.{web-line-truth}
 use Rattle.tangle_expansion.specs.Location.{AreAtTheirOrigins, classes}
 use Rattle.tangle_bodies.specs.Shapes.{Title}
 use Rattle.tangle_expansion.proofs.LineTruth.{node_is_located}
-use Rattle.tangle_expansion.proofs.NumberLemmas.{names_used_of}
+use Rattle.tangle_expansion.proofs.NumberLemmas.{titles_used_of}
 use Rattle.tangle_bodies.proofs.InsideLemmas.{table_inside}
 use Rattle.tangle_graph.proofs.ExpandLemmas.{expandable_at}
 use Rattle.tangle_graph.proofs.OutputLemmas.{IsFit, outputs_fit, ready}
@@ -145,7 +145,7 @@ module _ {state : SessionState} {roles : RolesRead} {session : SessionRead} (vie
       pub is_ready : IsReady state.analysis.numbers state.kept output.now
       is_ready = rw hold.analysis.numbers (ready (shapes_of web) state.analysis.store state.kept
           (numbers_of web (table_of web) roles.marks) hold.analysis.store.store hold.kept
-          (names_used_of web (table_of web) roles.marks (table_inside web)) (sym hold.analysis.store.names)
+          (titles_used_of web (table_of web) roles.marks (table_inside web)) (sym hold.analysis.store.names)
           output.now fit (λ shapes node e. e.light))
 
       abbrev bytes : List ℕ

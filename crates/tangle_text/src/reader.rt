@@ -115,7 +115,7 @@ fn white_end(bytes: &[u8], from: usize) -> usize
 
 /// The first byte of a line; `None` if the line is empty, or if there is no such line.
 #[tactic(auto, using(crate::proofs::AheadLemmas::first_of_line))]
-fn first_byte(source: &Source, line: usize) -> Option<u8>
+fn first_of_line(source: &Source, line: usize) -> Option<u8>
     ensures { result ≡ byte_at 0 (text_from line (drop line source.now.lines)) }
 {
     if line < source.count() {
@@ -162,7 +162,7 @@ impl<'s, 'a> Reader<'s, 'a> {
         let next = if self.column < self.bytes.len() {
             byte_of(self.bytes, self.column + 1)
         } else {
-            first_byte(self.source, self.line + 1)
+            first_of_line(self.source, self.line + 1)
         };
         Some(Front { byte, next })
     }

@@ -53,8 +53,8 @@ AreLineEnds ts = HasNone is_no_line_end ts
 line_ends-are : (r : Region) (text : List Cell) → AreLineEnds (line_ends r text)
 line_ends-are r text = grind (arith, none-flat)
 
-pub in_directive : (s : LexerState) → s.mode ≡ mode.CPart → is_in_directive s ≡ lines_of_c.is_directive s.line.line
-in_directive s m = ap (λ x. is_c_part x && lines_of_c.is_directive s.line.line) m
+pub in_directive : (s : LexerState) → s.mode ≡ mode.CPart → is_in_directive s ≡ lines_of_c.is_directive_line s.line.line
+in_directive s m = ap (λ x. is_c_part x && lines_of_c.is_directive_line s.line.line) m
 
 module _ (texts : List (List ℕ)) (R : Judgement texts) where
   -- the state after tokens, by the parts of it that say how the line of C was read
@@ -66,7 +66,7 @@ module _ (texts : List (List ℕ)) (R : Judgement texts) where
   Leaves ts = (l : LineOfC) (e : AtLineEnd) → Steps texts R l e ts l e
 
   -- line ends inside white space, which are white space in a directive
-  inner-ends : (b : Bool) (l : LineState) (ts : List Token) → (b ≡ true → lines_of_c.is_directive l.line ≡ true)
+  inner-ends : (b : Bool) (l : LineState) (ts : List Token) → (b ≡ true → lines_of_c.is_directive_line l.line ≡ true)
       → AreLineEnds ts → Follows l (map (inner_end_in b) ts) (after_line_ends b ts l)
   inner-ends b l [] d h = no-steps texts R
   inner-ends false l (token.LineEnd n ∷ ts) d h =
@@ -76,7 +76,7 @@ module _ (texts : List (List ℕ)) (R : Judgement texts) where
       steps-append texts R (token.InnerLineEnd n ∷ []) (map (inner_end_in true) ts)
       (rw (← same l.line (d refl)) (inner-step texts R n)) (inner-ends true l ts d h)
     where
-      same : (k : LineOfC) → lines_of_c.is_directive k ≡ true → line.Directive ≡ k
+      same : (k : LineOfC) → lines_of_c.is_directive_line k ≡ true → line.Directive ≡ k
       same k is = search rules
   inner-ends b l (_ ∷ ts) d h = cc
 

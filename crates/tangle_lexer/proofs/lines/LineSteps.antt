@@ -12,12 +12,12 @@ use Rattle.tangle_lexer.specs.declared.tokens.Token.TheVariants as token
 use Rattle.tangle_lexer.specs.declared.modes.LineOfC.{LineOfC}
 use Rattle.tangle_lexer.specs.declared.modes.LineOfC.TheVariants as line
 use Rattle.tangle_lexer.specs.declared.modes.AtLineEnd.{AtLineEnd}
-use Rattle.tangle_lexer.specs.declared.modes.AtLineEnd.TheVariants.{Ends, GoesOn, Removed}
+use Rattle.tangle_lexer.specs.declared.modes.AtLineEnd.TheVariants.{Ends, Continued, Removed}
 use Rattle.tangle_lexer.specs.LinesOfC.{with_item, joined_line, line_after_end, at_next_line_end}
 use Rattle.tangle_lexer.specs.LinesOfC as lines_of_c
 use Rattle.tangle_lexer.specs.Lexemes.{fault_if}
 use Rattle.tangle_lexer.specs.LinesOfParts.{is_number_sign, is_use, is_directive}
-use Rattle.tangle_lexer.specs.LinesOfParts.{goes_on, join_behind, join_ahead, ends_line_of_c, is_inner_line_end}
+use Rattle.tangle_lexer.specs.LinesOfParts.{is_continued_line, join_behind, join_ahead, ends_line_of_c, is_inner_line_end}
 use Rattle.tangle_lexer.specs.LinesOfParts.{HasInnerEndsAsDirective, uses_in_directive, is_use_fault}
 use Rattle.tangle_lexer.specs.LinesOfParts as parts
 use Rattle.tangle_lexer.specs.SpanBytes.{ends_in_backslash}
@@ -114,7 +114,7 @@ module _ (texts : List (List ℕ)) (R : Judgement texts) where
   is_item t = false
 
   pub item-step : {l : LineOfC} {e : AtLineEnd} (t : Token) → is_item t ≡ true
-      → Steps l e (t ∷ []) (with_item (is_number_sign texts t) l) (if ends_in_backslash texts t then GoesOn else Ends)
+      → Steps l e (t ∷ []) (with_item (is_number_sign texts t) l) (if ends_in_backslash texts t then Continued else Ends)
   item-step {l} {e} t h =
       one-step t (grind arith) (grind arith) (λ before us is. ((grind arith), (grind arith)))
 
@@ -127,11 +127,11 @@ module _ (texts : List (List ℕ)) (R : Judgement texts) where
   line_end-step {l} {e} n =
       one-step (token.LineEnd n) refl refl (λ before us is. (
         (λ h. cc),
-        by before us is (join_behind before) (goes_on texts before) (join_ahead us) is.end refl,
+        by before us is (join_behind before) (is_continued_line texts before) (join_ahead us) is.end refl,
       ))
     where
       by : (before us : List Token) → IsOpen texts before l e (token.LineEnd n ∷ us) → (a g j : Bool)
-          → cond a Removed (cond g GoesOn Ends) ≡ e → join_ahead us ≡ j
+          → cond a Removed (cond g Continued Ends) ≡ e → join_ahead us ≡ j
           → Goes (not (a || g) && not j) before (token.LineEnd n) (line_after_end e l) e (at_next_line_end e) us
       by before us is false false true end joins = search rules
       by before us is false false false end joins = search rules
@@ -141,7 +141,7 @@ module _ (texts : List (List ℕ)) (R : Judgement texts) where
   pub inner-step : {e : AtLineEnd} (n : ℕ) → Steps line.Directive e (token.InnerLineEnd n ∷ []) line.Directive e
   inner-step n =
       one-step (token.InnerLineEnd n) refl refl (λ before us is. (
-        (λ h. directive-is texts before ∙ ap lines_of_c.is_directive is.kind),
+        (λ h. directive-is texts before ∙ ap lines_of_c.is_directive_line is.kind),
         (is.kind, refl),
       ))
 
@@ -151,13 +151,13 @@ module _ (texts : List (List ℕ)) (R : Judgement texts) where
   use_fault b n = fault_if b fault.UseInDirective n
 
   pub use-step : {l : LineOfC} {e : AtLineEnd} (t : Token) (n : ℕ) → is_use t ≡ true
-      → Steps l e (t ∷ use_fault (lines_of_c.is_directive l) n) line.Empty Ends
+      → Steps l e (t ∷ use_fault (lines_of_c.is_directive_line l) n) line.Empty Ends
   use-step {l} {e} t n used = record {
     holds = λ us next before is.
-        let ends : ends_line_of_c texts before t (use_fault (lines_of_c.is_directive l) n ++ us) ≡ true = (grind arith) in
+        let ends : ends_line_of_c texts before t (use_fault (lines_of_c.is_directive_line l) n ++ us) ≡ true = (grind arith) in
         let item : kind_after texts t (kind_of texts before) ≡ with_item false (kind_of texts before) = (grind arith) in
-        let none : join_ahead (t ∷ use_fault (lines_of_c.is_directive l) n ++ us) ≡ false = (grind arith) in
-        rw ends (by us next before (lines_of_c.is_directive l)
+        let none : join_ahead (t ∷ use_fault (lines_of_c.is_directive_line l) n ++ us) ≡ false = (grind arith) in
+        rw ends (by us next before (lines_of_c.is_directive_line l)
         (inner-snoc texts before t is.inner (λ j. absurd (grind arith)))
         (grind (arith, nat_tests, uses-append, directive-is, kind-snoc)));
   }

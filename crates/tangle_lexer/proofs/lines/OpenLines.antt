@@ -11,12 +11,12 @@ use Rattle.tangle_lexer.specs.declared.tokens.Token.TheVariants as token
 use Rattle.tangle_lexer.specs.declared.modes.LineOfC.{LineOfC}
 use Rattle.tangle_lexer.specs.declared.modes.LineOfC.TheVariants as line
 use Rattle.tangle_lexer.specs.declared.modes.AtLineEnd.{AtLineEnd}
-use Rattle.tangle_lexer.specs.declared.modes.AtLineEnd.TheVariants.{Ends, GoesOn, Removed}
+use Rattle.tangle_lexer.specs.declared.modes.AtLineEnd.TheVariants.{Ends, Continued, Removed}
 use Rattle.tangle_lexer.specs.LinesOfC.{with_item, at_next_line_end}
 use Rattle.tangle_lexer.specs.LinesOfC as lines_of_c
 use Rattle.tangle_lexer.specs.LinesOfParts.{is_number_sign, is_use, is_join, is_white_space, is_between_items}
 use Rattle.tangle_lexer.specs.SpanBytes.{ends_in_backslash}
-use Rattle.tangle_lexer.specs.LinesOfParts.{is_directive, goes_on, join_behind, is_inner_line_end}
+use Rattle.tangle_lexer.specs.LinesOfParts.{is_directive, is_continued_line, join_behind, is_inner_line_end}
 
 -- no line ends are known to be removed by a join that is ahead, or they are
 abbrev pub settled : LineOfC → Bool → LineOfC
@@ -42,7 +42,7 @@ module _ (texts : List (List ℕ)) where
   kind-snoc [] t = refl
   kind-snoc (u ∷ us) t = grind (arith, nat_tests, kind-snoc us t)
 
-  pub directive-is : (ts : List Token) → is_directive texts ts ≡ lines_of_c.is_directive (kind_of ts)
+  pub directive-is : (ts : List Token) → is_directive texts ts ≡ lines_of_c.is_directive_line (kind_of ts)
   directive-is [] = refl
   directive-is (t ∷ ts) = grind (arith, nat_tests, directive-is ts)
 
@@ -53,7 +53,7 @@ module _ (texts : List (List ℕ)) where
 
   -- what a line end after a line does
   abbrev pub end_of : List Token → AtLineEnd
-  end_of ts = if join_behind ts then Removed else if goes_on texts ts then GoesOn else Ends
+  end_of ts = if join_behind ts then Removed else if is_continued_line texts ts then Continued else Ends
 
   abbrev pub end_after : Token → AtLineEnd → AtLineEnd
   end_after token.Join e = Removed
@@ -61,7 +61,7 @@ module _ (texts : List (List ℕ)) where
   end_after (token.InnerLineEnd n) e = e
   end_after (token.Fault kind n) e = e
   end_after (token.LineEnd n) e = at_next_line_end e
-  end_after t e = if ends_in_backslash texts t then GoesOn else Ends
+  end_after t e = if ends_in_backslash texts t then Continued else Ends
 
   join-snoc : (ts : List Token) (t : Token)
       → join_behind (ts ++ t ∷ []) ≡ (is_join t || is_between_items t && join_behind ts)
@@ -69,7 +69,7 @@ module _ (texts : List (List ℕ)) where
   join-snoc (u ∷ us) t = grind (arith, nat_tests, list_all-append is_between_items us (t ∷ []), join-snoc us t)
 
   on-snoc : (ts : List Token) (t : Token)
-      → goes_on texts (ts ++ t ∷ []) ≡ cond (is_white_space t) (goes_on texts ts) (ends_in_backslash texts t)
+      → is_continued_line texts (ts ++ t ∷ []) ≡ cond (is_white_space t) (is_continued_line texts ts) (ends_in_backslash texts t)
   on-snoc [] t = grind (arith, nat_tests)
   on-snoc (u ∷ us) t = grind (arith, nat_tests, list_all-append is_white_space us (t ∷ []), on-snoc us t)
 

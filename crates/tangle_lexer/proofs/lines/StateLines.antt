@@ -93,10 +93,10 @@ pub directives-known : (lines : List SourceLine) (before after : List LexemeStar
 unfolding HasRead last-is
 directives-known lines before after here split m =
     let texts = texts_of lines in
-    let b : Bool = lines_of_c.is_directive here.state.line.line in
+    let b : Bool = lines_of_c.is_directive_line here.state.line.line in
     let read : HasRead texts (tokens_of before) here.state = known texts 0 (first_state (length lines)) (text_from 0 lines) (point_at 0 0) [] before after here
     (text-is lines) (λ m. cc) split in
     let last = (read m b).holds []
-    (λ before is other. directive-is texts before ∙ ap lines_of_c.is_directive is.kind ∙ (grind arith))
+    (λ before is other. directive-is texts before ∙ ap lines_of_c.is_directive_line is.kind ∙ (grind arith))
     [] (front-open texts (last_body (tokens_of before) ++ [])) [] in
     search rules

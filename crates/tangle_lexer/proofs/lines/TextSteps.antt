@@ -11,7 +11,7 @@ use Rattle.tangle_text.specs.Regions.{count_before}
 use Rattle.tangle_text.specs.Text.{Cell}
 use Rattle.tangle_lines.specs.Bytes.{at_sign}
 use Rattle.tangle_lexer.specs.declared.modes.AtLineEnd.{AtLineEnd}
-use Rattle.tangle_lexer.specs.declared.modes.AtLineEnd.TheVariants.{Ends, GoesOn}
+use Rattle.tangle_lexer.specs.declared.modes.AtLineEnd.TheVariants.{Ends, Continued}
 use Rattle.tangle_lexer.specs.declared.modes.LineOfC.{LineOfC}
 use Rattle.tangle_lexer.specs.declared.tokens.Token.{Token}
 use Rattle.tangle_lexer.specs.declared.tokens.Token.TheVariants as token
@@ -36,7 +36,7 @@ pub same-item : (l : LineOfC) → with_item false (with_item false l) ≡ with_i
 same-item l = grind arith
 
 abbrev pub end_by : Bool → AtLineEnd
-end_by b = if b then GoesOn else Ends
+end_by b = if b then Continued else Ends
 
 -- what a line end after a range of a text does, by whether the last byte of the range is a backslash
 abbrev pub ending : Region → Bool → AtLineEnd

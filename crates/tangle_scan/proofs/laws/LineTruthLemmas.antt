@@ -28,7 +28,7 @@ use Rattle.tangle_lexer.specs.declared.tokens.SpanKind.TheVariants as span_kind
 use Rattle.tangle_scan.specs.declared.items.Item.TheVariants as item
 use Rattle.tangle_scan.specs.declared.turns.Turn.{Turn}
 use Rattle.tangle_scan.specs.declared.turns.Turn.TheVariants as turn
-use Rattle.tangle_scan.specs.Directives.{ForEachChoice, border_after, goes_on, is_blank}
+use Rattle.tangle_scan.specs.Directives.{ForEachChoice, border_after, is_continued_line, is_blank}
 use Rattle.tangle_scan.specs.Directives.{is_turn, item_ends_in}
 use Rattle.tangle_scan.proofs.lemmas.RuleLemmas.{blanks-item}
 
@@ -69,8 +69,8 @@ after-run : (texts : List (List ℕ)) (line : ℕ) (run es : List Token)
 after-run texts line [] es gaps h = (line, omega arith, λ none. refl, h)
 after-run texts line (e ∷ run) es gaps h = grind (arith, after-run texts (line_after line e) run es)
 
-goes-snoc : (texts : List (List ℕ)) (xs : List Item) (x : Item) → goes_on texts (xs ++ x ∷ [])
-    ≡ (if is_blank x then goes_on texts xs else item_ends_in backslash texts x)
+goes-snoc : (texts : List (List ℕ)) (xs : List Item) (x : Item) → is_continued_line texts (xs ++ x ∷ [])
+    ≡ (if is_blank x then is_continued_line texts xs else item_ends_in backslash texts x)
 goes-snoc texts [] x = grind (arith, nat_tests)
 goes-snoc texts (y ∷ ys) x = grind (arith, nat_tests, list_all-append is_blank ys (x ∷ []), goes-snoc texts ys x)
 
@@ -91,7 +91,7 @@ module _ (lines : List SourceLine) where
     counts : stretch ≡ false → number < length lines → counted ≡ origin_at lines number
     obeys : read ≡ true → number < length lines → origin ≡ Some counted
     turns : number < length lines → turn_of texts line ≡ at
-    goes : goes_on texts line ≡ is_continued texts before
+    goes : is_continued_line texts line ≡ is_continued texts before
 
   -- From each line on from which the tokens `es` follow line by line, the source items that rules 3 to 5 make of `fs`
   -- are at the locations of `gs`.

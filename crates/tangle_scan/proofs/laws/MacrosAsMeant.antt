@@ -70,7 +70,7 @@ module _ (texts : List (List ℕ)) where
       → AreSpaces meant true → IsGap in_name before gap es → EndsInItem texts es (Some token.White) →
       AreRead in_name meant before es (bytes_in_gap gap ++ (text_from false None white es ++ line_feed ∷ []))
 
-  record Reads (es : List Token) : Type 0 where
+  record MacroIsRead (es : List Token) : Type 0 where
     on_line : ReadsOnLine es
     after_line_ends : ReadsAfterLineEnds es
 
@@ -103,7 +103,7 @@ module _ (texts : List (List ℕ)) where
       (grind (arith, read-append, append-nil))
       (ends-before texts (token.LineEnd line) es (Some token.White) refl ends))
 
-  reads : (es : List Token) → Reads es
+  reads : (es : List Token) → MacroIsRead es
   reads [] = grind (arith, nat_tests)
   reads (token.White ∷ es) =
       let next = reads es in

@@ -120,7 +120,7 @@ module _ (lines : List SourceLine) (used : ℕ → List ℕ) (mark : Origin → 
       → is_continued texts before ≡ true → ends_line es ≡ true →
       AreRead meant last (read_tokens texts true es) (front ++ text_from before white at counted es)
 
-  record Reads (es : List Token) : Type 0 where
+  record PartIsRead (es : List Token) : Type 0 where
     plain : ReadsPlain es
     continued : ReadsContinued es
 
@@ -164,7 +164,7 @@ module _ (lines : List SourceLine) (used : ℕ → List ℕ) (mark : Origin → 
       rw continued (subst (AreRead meant last (read_tokens texts false es)) (search (rules, append_assoc))
       (next meant false last (Some (token.LineEnd line)) at (next_line counted) gap (is line) refl))
 
-  plain-item : (e : Token) (es : List Token) → is_front_gap e ≡ false → Reads es → ReadsPlain (e ∷ es)
+  plain-item : (e : Token) (es : List Token) → is_front_gap e ≡ false → PartIsRead es → ReadsPlain (e ∷ es)
   plain-item e es item next meant white last before at counted gap is plain =
       rw (read-item false e es item, text-item before white at counted e es item)
       (by (ends_in_backslash texts e && ends_line es) refl (is_backslash texts e) refl)
@@ -211,7 +211,7 @@ module _ (lines : List SourceLine) (used : ℕ → List ℕ) (mark : Origin → 
           kept (read_tokens texts false es)
           (next.plain [] false (Some e) (Some e) _ _ [] (no-gap (Some e)) both)
 
-  reads : (es : List Token) → Reads es
+  reads : (es : List Token) → PartIsRead es
   reads [] =
       record { plain = plain-end; continued = λ meant white last before at counted front gap bytes is continued ends. absurd cc }
   reads (token.White ∷ es) =

@@ -13,12 +13,12 @@ use Rattle.tangle_scan.specs.declared.parts.Last.TheVariants as last
 use Rattle.tangle_scan.specs.declared.parts.PartState.{PartState}
 use Rattle.tangle_scan.specs.declared.turns.Turn.TheVariants as turn
 use Rattle.tangle_scan.specs.LineTruth.{counted_after_line_end}
-use Rattle.tangle_scan.specs.Passes.{IsMade, IsPassed, before_gap, blank_before, blank_if, continues, counted_after_token}
+use Rattle.tangle_scan.specs.Passes.{IsMade, IsPassed, before_gap, blank_before, blank_if, is_continued_at, counted_after_token}
 use Rattle.tangle_scan.specs.Passes.{counted_at_gap, ends_open, is_after_line_end, is_whole, items_at, line_item}
 use Rattle.tangle_scan.specs.Passes.{origin_of, size_of, turn_after, turn_after_run, turn_at_gap}
 use Rattle.tangle_scan.specs.Rules.{is_gap, part_items, texts_of, white_inner_end}
 use Rattle.tangle_scan.specs.Texts.{TextRead, IsTextOf, item_uses, no_text, with_items, with_run}
-use Rattle.tangle_scan.proofs.lemmas.PartLemmas.{after_end, blanks-at-front, end-joined, gap-goes_on, gap-passed}
+use Rattle.tangle_scan.proofs.lemmas.PartLemmas.{after_end, blanks-at-front, end-joined, gap-continued, gap-passed}
 use Rattle.tangle_scan.proofs.lemmas.PartLemmas.{item-ahead, item-passed, part-ahead, passed-whole}
 use Rattle.tangle_scan.proofs.lemmas.RuleLemmas.{is_solid}
 use Rattle.tangle_scan.proofs.lemmas.TextLemmas.{cut-back, cut-more, no-items, size-more, size-own, text-items, text-run}
@@ -76,27 +76,27 @@ module _ (lines : List SourceLine) (whole : List Item) (text : TextRead) (at : P
 
   -- the items so far with one more, and the state, after a line end
   pub made-end : (line : ℕ) (counted : CountedOrigin) → (at.last ≡ last.Joined → ⊥) →
-      let continued : Bool = continues texts at in
+      let continued : Bool = is_continued_at texts at in
       origin_of counted ≡ counted_after_line_end lines continued (origin_of at.counted) line
       → IsMade lines whole text at (token.LineEnd line ∷ es)
       → IsMade lines whole
       (with_items texts text (line_item lines continued (is_whole at.turn) (origin_of at.counted) line ∷ []))
       (after_end lines continued line text counted at) es
   made-end line counted other is h =
-      let continued : Bool = continues texts at in
+      let continued : Bool = is_continued_at texts at in
       let made = line_item lines continued (is_whole at.turn) (origin_of at.counted) line in
       let was = h.passed in
       let joinless : has_join was.gap ≡ false = search rules in
       let is_continued_by : is_continued texts was.before ≡ continued = search rules in
-      let goes_on = gap-goes_on lines h.kept at continued line text counted was.front in
+      let same_left = gap-continued lines h.kept at continued line text counted was.front in
       let none : item_uses made ≡ [] = grind arith in
       record {
         items = h.items ++ made ∷ [];
         kept = h.kept;
         passed = gap-passed lines whole h.items h.kept at _ _ (at_line_front texts was.before line) (token.LineEnd line) _ es
-            refl refl was goes_on (record {
+            refl refl was same_left (record {
               joined = grind (arith, end-joined);
-              made = λ xs. rw (goes_on (left_of_run (was.gap ++ token.LineEnd line ∷ []) ++ xs), end-joined was.gap line, joinless)
+              made = λ xs. rw (same_left (left_of_run (was.gap ++ token.LineEnd line ∷ []) ++ xs), end-joined was.gap line, joinless)
                   (search (rules, append_assoc, was.read.made (token.LineEnd line ∷ xs), and-false));
               keeps = λ _. rw is_continued_by (grind arith);
               continued = λ _. grind arith;

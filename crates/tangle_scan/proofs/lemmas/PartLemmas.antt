@@ -59,10 +59,10 @@ after_end lines continued line text counted at = record at {
 }
 
 -- the gap goes on after the line end
-pub gap-goes_on : (lines : List SourceLine) (kept : List Item) (at : PartState) (continued : Bool) (line : ℕ)
+pub gap-continued : (lines : List SourceLine) (kept : List Item) (at : PartState) (continued : Bool) (line : ℕ)
     (text : TextRead) (counted : CountedOrigin) (front : Option Token) (es : List Token)
     → from_gap lines kept (after_end lines continued line text counted at) front es ≡ from_gap lines kept at front es
-gap-goes_on lines kept at x line text counted front es = grind arith
+gap-continued lines kept at x line text counted front es = grind arith
 
 -- the items of the tokens after an item
 abbrev ahead : List SourceLine → Token → Turn → Origin → List Token → List Item
@@ -110,7 +110,7 @@ module _ (lines : List SourceLine) (whole items kept : List Item) (at : PartStat
       → is_gap e ≡ true → white_inner_end e ≡ f → (h : IsPassed lines whole items kept at (e ∷ es))
       → ((xs : List Token) → from_gap lines kept next h.front xs ≡ from_gap lines kept at h.front xs)
       → IsPartRead lines new kept next (h.gap ++ f ∷ []) h.front before f → IsPassed lines whole new kept next es
-  gap-passed new next before e f es gap same h goes_on read =
+  gap-passed new next before e f es gap same h same_left read =
       record { gap = h.gap ++ f ∷ []; front = h.front; before = before; prev = f; read = read; left = grind arith }
 
   pub item-ahead : (e : Token) (es : List Token) → is_solid e ≡ true → is_run e ≡ false

@@ -3,7 +3,7 @@ use Rattle.std.specs.Prelude.{Ok}
 use Rattle.std.proofs.Common.{◌≡◌, refl}
 use Rattle.tangle_bodies.specs.Nodes.{title_at}
 use Rattle.tangle_expansion.specs.Expanded.{symbols_of}
-use Rattle.tangle_expansion.specs.Numbers.{expansion_bytes, names_used}
+use Rattle.tangle_expansion.specs.Numbers.{expansion_bytes, titles_used}
 use Rattle.tangle_expansion.specs.Outputs.{node_symbols}
 use Rattle.tangle_faults.proofs.WriteLemmas.{writes_then, written_whole}
 use Rattle.tangle_expansion.proofs.ShortLemmas.{file_fits}
@@ -18,7 +18,7 @@ returns g c =
     let fits = file_fits c.args.numbers.now c.macros.ensures.short output.has_macros
     (node_symbols c.args.numbers.now c.args.kept.now output.node) c.requires.light in
     let kept : expansion_bytes numbers
-    (symbols_of (names_used numbers) (title_at numbers.names c.node-node.result) c.kept_expansion.result.now)
+    (symbols_of (titles_used numbers) (title_at numbers.names c.node-node.result) c.kept_expansion.result.now)
     ≡ expansion_bytes numbers (node_symbols numbers c.args.kept.now output.node) =
     rw (c.node-node.ensures, rw c.node-node.ensures at c.kept_expansion.ensures) refl in
     rw (← c.has_piece.ensures, c.if-not-has_piece.false, ← append_assoc, ← front, ← kept)

@@ -8,12 +8,19 @@ use Rattle.digraph.specs.Graph.{row_at}
 use Rattle.tangle_bodies.specs.NodeBodies.{ItemsRead}
 use Rattle.tangle_bodies.specs.Nodes.{title_at}
 use Rattle.tangle_graph.proofs.BodyLemmas.{new_unless_same}
+use Rattle.tangle_graph.proofs.GraphLemmas.{resolves_inside}
 use Rattle.tangle_graph.proofs.BodyMakingLemmas.{body_made, body_of_items, new_if_pieces, numbers, uses_below}
 use Rattle.tangle_graph.proofs.bodies.body_after.Goals as goal
 use Rattle.tangle_graph.proofs.bodies.body_after.Goals.{then-has_new_shape+in_ok-body-2, else-has_new_shape+in_ok-body-3}
 
-pub make-requires : goal.make-requires
-make-requires c = search (rules, numbers, length-map)
+pub make-requires-clause-numbers : goal.make-requires-clause-numbers
+make-requires-clause-numbers c = search (rules, numbers)
+
+pub make-requires-clause-nodes : goal.make-requires-clause-nodes
+make-requires-clause-nodes c = record {
+  inside = resolves_inside c.args.grouped.web.now c.args.grouped.table.now c.requires.grouped.table;
+  few = rw (← c.requires.grouped.names) c.requires.few;
+}
 
 pub has_shape_of-has_new_shape-requires-clause-inside : goal.has_shape_of-has_new_shape-requires-clause-inside
 has_shape_of-has_new_shape-requires-clause-inside c =
@@ -30,7 +37,7 @@ returns-clause-body c =
           let one = rw c.deref-2.ensures at (c.has_shape_of-has_new_shape.ensures.0 w.if-has_new_shape.false) in
           rw w.body-is (body_of_items c.args.grouped c.requires.grouped
           c.args.node c.requires.node c.row-row.result.now row _ c.in_ok-make.ensures {others = []} {other = []} _
-          (rw is (record { tags = one.tags; bytes = one.bytes; names_used = refl }))
+          (rw is (record { tags = one.tags; bytes = one.bytes; uses = refl }))
           (sym (ap (λ (i : ItemsRead). i.uses) is))))
     ]
 
@@ -49,7 +56,7 @@ returns-clause-new_shape c =
           let one = rw c.deref-2.ensures at (c.has_shape_of-has_new_shape.ensures.0 w.if-has_new_shape.false) in
           rw w.body-is (IfSome_then c.args.old c.in-Some.ensures.shape (λ store held before shape is holds.
           new_unless_same names old_names w.in_ok-body-3.body.value had shape (before (title_at names c.args.node)) same (
-            λ _. rw w.in_ok-body-3.ensures (record { tags = refl; bytes = refl; names_used = one.names_used }),
+            λ _. rw w.in_ok-body-3.ensures (record { tags = refl; bytes = refl; uses = one.uses }),
             λ _. w.if-has_new_shape.false,
           ) holds (held before is))))
     ]

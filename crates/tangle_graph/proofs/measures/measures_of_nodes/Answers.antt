@@ -1,5 +1,5 @@
 use Rattle.std.proofs.Common.{rules}
-use Rattle.std.proofs.Common.{◌≡◌, ◌∙◌, ◌<◌, ◌≤◌, ℕ, List, false, map, ap, arith, get_or, length, length-set, subst, suc}
+use Rattle.std.proofs.Common.{◌≡◌, ◌∙◌, ◌<◌, ◌≤◌, ℕ, List, false, map, ap, arith, get_or, length, length-set, subst}
 use Rattle.std.proofs.Common.{get_or-set_other, get_or-set_same, set}
 use Rattle.std.proofs.lemmas.List.{get_or-replicate, get_or_read, length-replicate, take_all}
 use Rattle.std.specs.Prelude.{Contains}
@@ -79,11 +79,11 @@ loop-node-preserved c =
           (λ k other was. get_or-set_other values n k made no_piece_measure other ∙ was)
           (get_or-set_same values n made _ (omega (arith, low, c.loop-node.invariant.size))
           ∙ c.measure_of_node.ensures shapes names _ (rw c.deref-in-loop-node.ensures is.shape)
-          (λ id used. (
-          let c_used = rw c.deref-in-loop-node.ensures at used in
-          let u = use_up shapes names all uses bodies c.requires.uses n id body.value at c_used in
-          rw c.deref.ensures.value (measured (suc id) (use_in uses c.requires.range n (suc id) u)
-          (λ _. after_uses.after i (suc id) h (subst (λ k. HasUse uses k (suc id)) number u))))))
+          (λ used has. (
+          let c_used = rw c.deref-in-loop-node.ensures at has in
+          let u = use_up shapes names all uses bodies c.requires.uses n used body.value at c_used in
+          rw c.deref.ensures.value (measured used (use_in uses c.requires.range n used u)
+          (λ _. after_uses.after i used h (subst (λ k. HasUse uses k used) number u))))))
           (Contains order m) m (measured m room) into);
     }
 

@@ -1,6 +1,6 @@
 use Rattle.std.proofs.Common.{rules}
 use Rattle.std.proofs.lemmas.Grind.{common_steps}
-use Rattle.std.proofs.Common.{◌≡◌, ◌≤◌, ◌<◌, ℕ, List, arith, length, map, suc, take}
+use Rattle.std.proofs.Common.{◌≡◌, ◌≤◌, ◌<◌, ℕ, List, arith, length, map, take}
 use Rattle.std.specs.Global.{Global}
 use Rattle.std.specs.declared.rc.Rc.{Rc}
 use Rattle.std.proofs.lemmas.List.{length-map}
@@ -9,7 +9,7 @@ use Rattle.tangle_bodies.specs.NodeBodies.{body_uses}
 use Rattle.tangle_bodies.specs.declared.nodes.NodeBody.{NodeBody}
 use Rattle.tangle_graph.specs.NameGraphs.{AreUsesOf}
 use Rattle.tangle_bodies.specs.NodeBodies.{node_bodies}
-use Rattle.tangle_graph.proofs.NameGraphLemmas.{each_in_range, each_increasing, once_all, once_more}
+use Rattle.tangle_graph.proofs.NameGraphLemmas.{each_in_range, each_increasing}
 use Rattle.tangle_graph.proofs.NameGraphLemmas.{uses_more, uses_push}
 use Rattle.tangle_graph.proofs.name_graph.uses_of_bodies.Goals as goal
 
@@ -18,14 +18,6 @@ all_taken : (i : ℕ) (bodies : List (Rc NodeBody Global)) (rows : Graph) → le
 all_taken i bodies rows h are =
     grind (arith, common_steps)
 
-pub fill_with_names-requires : goal.fill_with_names-requires
-fill_with_names-requires c =
-    let given : c.extend_from_slice.new.self.items ≡ body_uses c.body-item.result.value = search rules in
-    let below = once_all (λ id. suc id < length c.args.bodies.now) c.args.bodies.now
-    c.loop-body.body-index c.body-item.result c.once_each.new.row.items
-    c.loop-body-test.true c.body-item.is c.requires (rw given at c.once_each.ensures) in
-    rw c.deref-in-loop-body.ensures.value (λ k id h. (let low = below k id h in omega arith))
-
 pub loop-body-preserved : goal.loop-body-preserved
 loop-body-preserved c =
     let bodies = c.args.bodies.now in
@@ -33,11 +25,10 @@ loop-body-preserved c =
     let body = c.body-item.result in
     let once = c.once_each.new.row.items in
     let given : c.extend_from_slice.new.self.items ≡ body_uses body.value = search rules in
-    let made : c.deref-in-loop-body-2.result.now ≡ map suc once = search rules in
+    let made : c.deref-in-loop-body.result.now ≡ once = search rules in
     rw (uses_more bodies i body c.loop-body-test.true c.body-item.is, c.in_ok-push_row.ensures.ok, made)
-    (uses_push (map body_uses (node_bodies (take i bodies))) c.loop-body.rows (body_uses body.value)
-    (map suc once)
-    c.loop-body.invariant (once_more (body_uses body.value) once (rw given at c.once_each.ensures)))
+    (uses_push (map body_uses (node_bodies (take i bodies))) c.loop-body.rows (body_uses body.value) once
+    c.loop-body.invariant (rw given at c.once_each.ensures))
 
 pub returns-clause-range : goal.returns-clause-range
 returns-clause-range c =

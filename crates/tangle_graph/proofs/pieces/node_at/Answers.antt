@@ -7,8 +7,9 @@ use Rattle.tangle_graph.proofs.GraphLemmas.{resolves_inside}
 use Rattle.tangle_graph.proofs.StoredPieces.{defined_inside, is_of_node}
 use Rattle.tangle_graph.proofs.pieces.node_at.Goals as goal
 
-pub node_of_piece-requires-clause-inside : goal.node_of_piece-requires-clause-inside
-node_of_piece-requires-clause-inside c = resolves_inside c.args.web.now c.args.table.now c.requires.table
+pub node_of_piece-requires-clause-nodes : goal.node_of_piece-requires-clause-nodes
+node_of_piece-requires-clause-nodes c =
+    record { inside = resolves_inside c.args.web.now c.args.table.now c.requires.table; few = c.requires.count }
 
 pub node_of_piece-requires-clause-occurrence : goal.node_of_piece-requires-clause-occurrence
 node_of_piece-requires-clause-occurrence c =

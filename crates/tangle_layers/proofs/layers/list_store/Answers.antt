@@ -1,7 +1,7 @@
 use Rattle.std.proofs.Common.{◌∙◌, ap, refl, subst, sym}
 use Rattle.tangle_names.specs.NameTable.{TableRead, table_of}
 use Rattle.tangle_expansion.specs.Numbers.{numbers_of}
-use Rattle.tangle_expansion.proofs.NumberLemmas.{names_used_of}
+use Rattle.tangle_expansion.proofs.NumberLemmas.{titles_used_of}
 use Rattle.tangle_bodies.specs.Nodes.{IsGroupedBy}
 use Rattle.tangle_bodies.specs.WebShapes.{shapes, ResolvesInside}
 use Rattle.tangle_bodies.proofs.InsideLemmas.{table_inside}
@@ -23,5 +23,5 @@ list_outputs-requires g c =
     let numbers = c.in_ok-numbers.ensures ∙ ap (λ t. numbers_of web t c.marks.result) (sym c.requires) in
     let ready = outputs_ready web table c.out.result.now c.in_ok-store.field-0.store
     c.in_ok-kept.kept store kept inside (λ shapes node e. e.light) (numbers_of web table c.marks.result)
-    (names_used_of web table c.marks.result inside) refl in
+    (titles_used_of web table c.marks.result inside) refl in
     rw (c.outputs.ensures, numbers) ready

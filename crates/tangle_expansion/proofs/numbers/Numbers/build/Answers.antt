@@ -7,7 +7,7 @@ use Rattle.tangle_names.specs.NameTable.{table_of}
 use Rattle.tangle_expansion.specs.Numbers.{numbers_of_piece}
 use Rattle.tangle_expansion.specs.PieceNumbers.{numbers_of_rows}
 use Rattle.tangle_expansion.proofs.LookupLemmas.{rows_numbers}
-use Rattle.tangle_expansion.proofs.NumberLemmas.{bodies_name}
+use Rattle.tangle_expansion.proofs.NumberLemmas.{bodies_use}
 use Rattle.tangle_expansion.proofs.ShortLemmas.{numbers_hold}
 use Rattle.tangle_expansion.proofs.numbers.Numbers.build.Goals as goal
 
@@ -27,5 +27,5 @@ returns c =
     ∙ rows_numbers pieces web.pieces c.in_ok-read.ensures.sections c.in_ok-read.ensures.origins
     c.args.pieces.now.value c.requires.pieces.inside
     ∙ ap (map (map numbers_of_piece)) c.requires.pieces.right in
-    let uses = bodies_name table.names (shapes web table) _ (rw c.requires.names at c.requires.bodies) in
+    let uses = bodies_use table.names (shapes web table) _ (rw c.requires.names at c.requires.bodies) in
     search (rules, map-map)

@@ -1,5 +1,5 @@
 use Rattle.std.proofs.Common.{rules}
-use Rattle.std.proofs.Common.{◌≡◌, ap, subst, suc, sym}
+use Rattle.std.proofs.Common.{◌≡◌, ap, subst, sym}
 use Rattle.std.proofs.lemmas.Result.{IfOk-weaker}
 use Rattle.std.specs.Prelude.{Some}
 use Rattle.tangle_expansion.specs.Kept.{kept_at}
@@ -8,7 +8,7 @@ use Rattle.tangle_expansion.proofs.FilledLemmas.{body_gives}
 use Rattle.tangle_graph.specs.Keeping.{IsRight}
 use Rattle.tangle_graph.specs.Stores.{body_at}
 use Rattle.tangle_graph.proofs.ExpandLemmas.{expandable_at}
-use Rattle.tangle_graph.proofs.BodyLemmas.{used_name}
+use Rattle.tangle_graph.proofs.BodyLemmas.{used_node}
 use Rattle.tangle_graph.proofs.StoredBodies.{had, in_store}
 use Rattle.tangle_graph.proofs.store.Store.expand.Goals as goal
 
@@ -30,5 +30,5 @@ returns-clause-right c = λ shapes is keeps.
     let own = is.bodies.each node body has in
     let shallow = ((expandable_at shapes store is node at).0 c.requires.expandable).shallow in
     IfOk-weaker c.expand.result _ _ (λ e h. subst (IsRight shapes store node) (sym h) (body_gives store.names shapes levels _ body
-    (λ id. kept_at c.args.kept.now (suc id)) own.shape shallow
-    (λ id used. keeps id (search (rules, used_name))))) (rw c.deref.ensures at c.expand.ensures.right)
+    (kept_at c.args.kept.now) own.shape shallow
+    (λ used has. keeps used (search (rules, used_node))))) (rw c.deref.ensures at c.expand.ensures.right)

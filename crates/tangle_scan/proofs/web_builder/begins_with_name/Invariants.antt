@@ -1,7 +1,7 @@
 use Rattle.std.proofs.Common.{◌≡◌, drop}
 use Rattle.tangle_scan.specs.Passes.{spaced_items}
 use Rattle.tangle_scan.specs.Rules.{is_macro, texts_of}
-use Rattle.tangle_scan.proofs.web_builder.is_macro.Given as goal
+use Rattle.tangle_scan.proofs.web_builder.begins_with_name.Given as goal
 
 abbrev pub invariant-loop-token : goal.invariant-loop-token
 invariant-loop-token l =

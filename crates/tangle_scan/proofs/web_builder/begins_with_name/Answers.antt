@@ -1,7 +1,7 @@
 use Rattle.std.proofs.lemmas.Bool.Decides.{nat_tests}
 use Rattle.std.proofs.Common.{arith}
 use Rattle.tangle_scan.proofs.lemmas.SpacedTokens.{macro_by_first}
-use Rattle.tangle_scan.proofs.web_builder.is_macro.Goals as goal
+use Rattle.tangle_scan.proofs.web_builder.begins_with_name.Goals as goal
 
 pub returns-in-Span-Word-default : goal.returns-in-Span-Word-default
 returns-in-Span-Word-default c =
