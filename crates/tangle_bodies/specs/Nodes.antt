@@ -1,6 +1,6 @@
 -- The nodes of a web: the names that they are, their titles, and the rows of their pieces.
 use Rattle.std.specs.Prelude.{◌≡◌, ◌<◌, ◌≤◌, ℕ, zero, suc, List, [], ◌∷◌, length, map, slice_index_or}
-use Rattle.std.specs.Prelude.{◌+◌, ◌^◌, Option, Some, None}
+use Rattle.std.specs.Prelude.{Option, Some, None}
 use Rattle.std.specs.List.{All}
 use Rattle.digraph.specs.Nodes.{Node}
 use Rattle.tangle_scan.specs.Web.{WebRead, PieceRead, no_piece}
@@ -8,7 +8,7 @@ use Rattle.tangle_names.specs.NameTable.{TableRead}
 use Rattle.tangle_names.specs.declared.Resolved.{Resolved}
 use Rattle.tangle_names.specs.declared.Resolved.TheVariants.{Name}
 use Rattle.tangle_bodies.specs.Shapes.{Title, Program, Named}
-use Rattle.tangle_bodies.specs.WebShapes.{ResolvesInside, pieces_of, resolved_at}
+use Rattle.tangle_bodies.specs.WebShapes.{pieces_of, resolved_at}
 
 -- the title of the node: the program, or the name with its number
 abbrev pub title_at : List (List ℕ) → Node → Title
@@ -30,12 +30,6 @@ node_of_occurrence table occurrence = node_of (resolved_at table occurrence)
 -- the node is the program or a name of the table
 abbrev pub IsNodeOf : List (List ℕ) → Node → Type 0
 IsNodeOf names node = node ≤ length names
-
--- each occurrence that resolves to a name resolves to one of the table, and the names are few
--- enough for each to be a node
-pub record HasNodes (table : TableRead) : Type 0 where
-  pub inside : ResolvesInside table
-  pub few : length table.names + 1 < 2 ^ 64
 
 -- the pieces with these numbers
 abbrev pub pieces_at : List PieceRead → List ℕ → List PieceRead

@@ -1,5 +1,5 @@
 -- The shapes of a web with its table of names.
-use Rattle.std.specs.Prelude.{ℕ, ◌<◌, length, Bool, false, List, [], ◌∷◌, map, filter}
+use Rattle.std.specs.Prelude.{ℕ, length, Bool, false, List, [], ◌∷◌, map, filter}
 use Rattle.std.specs.Prelude.{slice_index_or, decimal, Option, Some, None}
 use Rattle.tangle_files.specs.Bytes.{space, line_feed}
 use Rattle.tangle_scan.specs.declared.items.Item.{Item}
@@ -8,7 +8,7 @@ use Rattle.tangle_scan.specs.Rules.{span_text}
 use Rattle.tangle_scan.specs.Web.{WebRead, PieceRead}
 use Rattle.tangle_names.specs.declared.Resolved.{Resolved}
 use Rattle.tangle_names.specs.declared.Resolved.TheVariants.{Name, NoFullName}
-use Rattle.tangle_names.specs.NameTable.{TableRead}
+use Rattle.tangle_names.specs.NameTable.{IsNameBelow, TableRead}
 use Rattle.tangle_bodies.specs.Shapes.{Title, Program, Named, title_eq, ShapeItem, Written}
 use Rattle.tangle_bodies.specs.Shapes.{Mark, AllMacros, Use, NoUse, Shape, Shapes}
 use Rattle.tangle_bodies.specs.Shapes as kind
@@ -43,11 +43,6 @@ module _ (table : TableRead) where
 
   abbrev pub is_piece_of : Title → PieceRead → Bool
   is_piece_of title piece = is_titled title (title_of_piece piece.occurrence)
-
--- an occurrence with this resolution resolves to one of the first `count` names, or to none
-abbrev pub IsNameBelow : ℕ → Resolved → Type 0
-IsNameBelow count (Name id) = id < count
-IsNameBelow count _ = Unit {0}
 
 -- each occurrence that resolves to a name resolves to one of the table
 abbrev pub ResolvesInside : TableRead → Type 0

@@ -8,8 +8,7 @@ ghost use Rattle.tangle_bodies.specs.ItemTags.{nodes_of, resolved_tags};
 ghost use Rattle.tangle_bodies.specs.NodeBodies.{AreItemsOf, HaveOneShape, body_items};
 ghost use Rattle.tangle_bodies.specs.NodeBodies.{body_uses, items_read, nothing_made};
 ghost use Rattle.tangle_bodies.specs.NodeBodies.{with_piece};
-ghost use Rattle.tangle_bodies.specs.Nodes.{HasNodes, IsNodeOf, node_of_occurrence, pieces_at};
-ghost use Rattle.tangle_bodies.specs.Nodes.{titles_at};
+ghost use Rattle.tangle_bodies.specs.Nodes.{IsNodeOf, node_of_occurrence, pieces_at, titles_at};
 
 use crate::nodes::{NodeBody, NodeItems, node_of_occurrence};
 use crate::shapes::{have_titles_of, same_items};
@@ -59,7 +58,6 @@ impl BodyBuilder {
     pub fn make(&mut self, web: &Web, table: &NameTable, numbers: &[usize]) -> Result<(), NoMemory>
         requires numbers { All (λ n. n < length web.now.pieces) numbers.now }
         requires ours { length table.now.resolved ≡ length web.now.occurrences }
-        requires nodes { HasNodes table.now }
         ensures { OnOk result (AreItemsOf web.now.texts table.now
             (pieces_at web.now.pieces numbers.now) self.new) }
     {
@@ -139,8 +137,7 @@ impl BodyBuilder {
     /// Adds the nodes of the names to which these occurrences resolve. Returns whether each resolves
     /// to one.
     fn add_uses(&mut self, table: &NameTable, uses: &[OccurrenceNumber]) -> Result<bool, NoMemory>
-        requires uses { All (λ n. n < length table.now.resolved) uses.now }
-        requires nodes { HasNodes table.now }
+        requires { All (λ n. n < length table.now.resolved) uses.now }
         ensures uses { OnOk result (self.new ≡ record self.old {
           uses = self.old.uses ++ nodes_of table.now uses.now;
         }) }
@@ -159,8 +156,7 @@ impl BodyBuilder {
 
     /// Adds a piece.
     fn add_piece(&mut self, table: &NameTable, text: PieceText) -> Result<(), NoMemory>
-        requires uses { All (λ n. n < length table.now.resolved) (text_of text).uses }
-        requires nodes { HasNodes table.now }
+        requires { All (λ n. n < length table.now.resolved) (text_of text).uses }
         ensures { OnOk result (self.new ≡ with_piece table.now self.old (text_of text.entry)) }
     {
         let all_resolve = self.add_uses(table, text.uses)?;
@@ -180,8 +176,7 @@ fn resolved_tag<'u>(
     tag: ItemTag,
     uses: &'u [OccurrenceNumber],
 ) -> (ItemTag, &'u [OccurrenceNumber])
-    requires uses { All (λ n. n < length table.now.resolved) uses.now }
-    requires nodes { HasNodes table.now }
+    requires { All (λ n. n < length table.now.resolved) uses.now }
     ensures tag { (tags : List TagRead) → resolved_tags table.now (tag ∷ tags) uses.now
         ≡ result.0 ∷ resolved_tags table.now tags result.1.now }
     ensures left { All (λ n. n < length table.now.resolved) result.1.now }
@@ -209,7 +204,6 @@ fn mark_unresolved(
 )
     requires first { first ≤ length tags.old.items }
     requires uses { All (λ n. n < length table.now.resolved) uses.now }
-    requires nodes { HasNodes table.now }
     requires all { all_resolve
         ≡ list_all (λ n. is_some (node_of_occurrence table.now n)) uses.now }
     ensures { tags.new.items ≡ take first tags.old.items

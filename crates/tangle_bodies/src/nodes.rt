@@ -1,7 +1,7 @@
 //! The nodes of names, and the bodies of nodes.
 ghost use Rattle.std.specs.Prelude.{◌≡◌, ◌<◌, ◌↔◌, IfSome, length, true};
 ghost use Rattle.tangle_bodies.specs.NodeBodies.{body_uses};
-ghost use Rattle.tangle_bodies.specs.Nodes.{HasNodes, IsNodeOf, node_of_occurrence, title_at};
+ghost use Rattle.tangle_bodies.specs.Nodes.{IsNodeOf, node_of_occurrence, title_at};
 
 use digraph::Node;
 use std::rc::Rc;
@@ -10,8 +10,7 @@ use tangle_scan::ItemTag;
 
 /// The node of the name to which the occurrence with this number resolves, if it resolves to one.
 pub fn node_of_occurrence(table: &NameTable, occurrence: usize) -> Option<Node>
-    requires nodes { HasNodes table.now }
-    requires occurrence { occurrence < length table.now.resolved }
+    requires { occurrence < length table.now.resolved }
     ensures node { result ≡ node_of_occurrence table.now occurrence }
     ensures within { IfSome result (IsNodeOf table.now.names) }
 {

@@ -17,13 +17,13 @@ use borrow.Author.Tests.{ltb-true}
 use Rattle.digraph.specs.Graph.{row_at}
 use Rattle.tangle_scan.specs.Web.{WebRead, PieceRead}
 use Rattle.tangle_names.specs.declared.Resolved.{Resolved}
-use Rattle.tangle_names.specs.NameTable.{TableRead}
+use Rattle.tangle_names.specs.NameTable.{IsNameBelow, TableRead}
 use Rattle.tangle_bodies.proofs.EachLemmas.{part_read, some_at}
 use Rattle.tangle_bodies.specs.NodeBodies.{AreBodiesOf, body_uses, node_bodies}
 use Rattle.tangle_bodies.specs.Nodes.{title_at, titles_at}
 use Rattle.tangle_bodies.specs.Shapes.{Title, Program, Named, Shapes, shape_titles}
 use Rattle.tangle_bodies.specs.WebShapes.{is_titled, title_of, title_of_piece, is_piece_of, pieces_of, resolved_at}
-use Rattle.tangle_bodies.specs.WebShapes.{IsNameBelow, ResolvesInside, shape_of, shapes}
+use Rattle.tangle_bodies.specs.WebShapes.{ResolvesInside, shape_of, shapes}
 use Rattle.tangle_bodies.specs.declared.nodes.NodeBody.{NodeBody}
 use Rattle.tangle_expansion.specs.Expanded.{used_titles}
 use Rattle.tangle_expansion.specs.Numbers.{each_node, node_numbers, numbers_of, numbers_of_piece, row_number, titles_used}

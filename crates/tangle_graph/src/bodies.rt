@@ -1,5 +1,5 @@
 //! The body of each node, and whether its shape is new.
-ghost use Rattle.std.specs.Prelude.{◌≡◌, ◌≢◌, ◌<◌, ◌+◌, ◌^◌, [], IfOk, length, All, IfSome};
+ghost use Rattle.std.specs.Prelude.{◌≡◌, ◌≢◌, [], IfOk, All, IfSome};
 ghost use Rattle.std.specs.Prelude.{true, MatchOption, None};
 ghost use Rattle.digraph.specs.Nodes.{Node};
 ghost use Rattle.tangle_bodies.specs.NodeBodies.{HoldsShape, body_items, body_uses};
@@ -125,7 +125,6 @@ fn body_after(
     same_names: bool,
 ) -> Result<BodyAfter, NoMemory>
     requires grouped { IsGrouped grouped }
-    requires few { length grouped.names.now + 1 < 2 ^ 64 }
     requires node { IsNodeOf grouped.names.now node }
     requires same_names { same_names ≡ true
         → IfSome old (λ store. store.now.names ≡ grouped.names.now) }

@@ -1,9 +1,9 @@
 //! The pieces of each node.
-ghost use Rattle.std.specs.Prelude.{◌≡◌, ◌<◌, ◌+◌, ◌^◌, ℕ, IfOk, IfSome, length, slice_index_or};
+ghost use Rattle.std.specs.Prelude.{◌≡◌, ◌<◌, ◌+◌, ℕ, IfOk, IfSome, length, slice_index_or};
 ghost use Rattle.digraph.specs.Rows.{IsRowsOf};
 ghost use Rattle.tangle_names.specs.NameTable.{table_of};
 ghost use Rattle.tangle_scan.specs.Web.{no_piece};
-ghost use Rattle.tangle_bodies.specs.Nodes.{HasNodes, IsNodeOf, title_at};
+ghost use Rattle.tangle_bodies.specs.Nodes.{IsNodeOf, title_at};
 ghost use Rattle.tangle_bodies.specs.WebShapes.{is_piece_of};
 ghost use Rattle.tangle_graph.specs.Grouping.{node_of_piece, has_number_in};
 ghost use Rattle.tangle_graph.specs.Grouping.{positions_of};
@@ -28,8 +28,7 @@ fn node_count(table: &NameTable) -> Result<usize, AllocError>
 /// The node that a piece belongs to, by the occurrence that defines the piece. A piece without an
 /// occurrence belongs to the program.
 fn node_of_piece(table: &NameTable, occurrence: Option<OccurrenceNumber>) -> Option<Node>
-    requires nodes { HasNodes table.now }
-    requires occurrence { IfSome occurrence (λ n. n < length table.now.resolved) }
+    requires { IfSome occurrence (λ n. n < length table.now.resolved) }
     ensures node { result ≡ node_of_piece table.now occurrence }
     ensures within { IfSome result (IsNodeOf table.now.names) }
 {
@@ -43,7 +42,6 @@ fn node_of_piece(table: &NameTable, occurrence: Option<OccurrenceNumber>) -> Opt
 fn node_at(web: &Web, table: &NameTable, i: usize) -> Option<Node>
     requires table { table.now ≡ table_of web.now }
     requires piece { i < length web.now.pieces }
-    requires count { length table.now.names + 1 < 2 ^ 64 }
     ensures node { (n : ℕ) → n < length table.now.names + 1 → has_number_in n result
         ≡ is_piece_of table.now (title_at table.now.names n)
         (slice_index_or web.now.pieces i no_piece) }

@@ -2,7 +2,9 @@
 use Rattle.std.proofs.Common.{rules}
 use Rattle.std.proofs.lemmas.Bool.Decides.{nat_tests}
 use Rattle.std.proofs.Common.{◌≡◌, ◌∙◌, Bool, true, false, cond, not, List, [], ◌∷◌, filter}
-use Rattle.std.proofs.Common.{refl, ap, sym, arith, Contains, find}
+use Rattle.std.proofs.Common.{refl, ap, sym, arith, All, Contains, find, get_or, length, map}
+use Rattle.std.proofs.lemmas.List.{get_or_default}
+use Rattle.std.proofs.lemmas.List.Elements.{All-map}
 use Rattle.std.specs.List.{IsDistinct, list_any, position_or_len}
 use Rattle.std.specs.Prelude.{IsSome}
 use Rattle.std.specs.Str.{bytes_eq}
@@ -15,6 +17,7 @@ use Rattle.tangle_names.specs.Names.{only_with, prefix}
 use Rattle.tangle_names.specs.Resolving.{first_occurrence, names_in_order, resolve, resolved_meaning}
 use Rattle.tangle_names.specs.Resolving.{resolves_to}
 use Rattle.tangle_names.specs.Laws.{Begins, IsNumberOf, ResolvesFull, ResolvesPrefix}
+use Rattle.tangle_names.specs.NameTable.{IsNameBelow}
 use Rattle.tangle_names.proofs.ContainsLemmas.{out_of_filter}
 use Rattle.tangle_names.proofs.ContainsLemmas.{out_of_map}
 use Rattle.tangle_names.proofs.MeaningLemmas.{Fits, any_inside, contains-any, itself, list_any-some, only_with-fits}
@@ -67,6 +70,16 @@ pub prefix_law : (os : List OccurrenceRead) (o : OccurrenceRead) → Contains os
 prefix_law os o c is =
     prefix_law-by os (prefix o.text) (meaning (full_names os) o) (search (rules, only_with-fits, itself))
     (search (rules, among))
+
+-- each occurrence resolves to one of the names, or to none
+pub inside : (os : List OccurrenceRead) → All (IsNameBelow (length (names_in_order os))) (map (resolve os) os)
+inside os = All-map (IsNameBelow (length (names_in_order os))) (resolve os) os
+    (λ i o low. by (get_or os i o) (i, low, get_or_default os i (get_or os i o) o low) (get_or os i o).is_abbreviation refl)
+  where
+    by : (o : OccurrenceRead) → Contains os o → (t : Bool)
+        → o.is_abbreviation ≡ t → IsNameBelow (length (names_in_order os)) (resolve os o)
+    by o h true e = search (rules, prefix_law)
+    by o h false e = search (rules, full_law)
 
 -- an occurrence resolves to each name
 found_first : (q : OccurrenceRead → Bool) (os : List OccurrenceRead) → list_any q os ≡ true → IsSome (find q os)

@@ -1,6 +1,7 @@
 -- The table of a web's names.
-use Rattle.std.specs.Prelude.{◌≡◌, ℕ, Bool, List, Option, map}
+use Rattle.std.specs.Prelude.{◌≡◌, ◌<◌, ℕ, Bool, List, Option, map}
 use Rattle.tangle_names.specs.declared.Resolved.{Resolved}
+use Rattle.tangle_names.specs.declared.Resolved.TheVariants.{Name}
 use Rattle.tangle_lexer.specs.Occurrences.{OccurrenceRead}
 use Rattle.tangle_scan.specs.Web.{WebRead}
 use Rattle.tangle_names.specs.Names.{NameText}
@@ -13,6 +14,11 @@ pub record TableRead : Type 0 where
   pub resolved : List Resolved
   pub first_occurrences : List ℕ
   pub first_file_occurrences : List (Option ℕ)
+
+-- the resolution is one of the first `count` names, or none
+abbrev pub IsNameBelow : ℕ → Resolved → Type 0
+IsNameBelow count (Name id) = id < count
+IsNameBelow count _ = Unit {0}
 
 -- the table of these occurrences
 abbrev pub table_over : List OccurrenceRead → TableRead

@@ -1,10 +1,10 @@
 -- The parts of a web's names that depend on no origin. Only private contracts cite these
 -- definitions.
-use Rattle.std.specs.Prelude.{◌≡◌, List, length, map}
+use Rattle.std.specs.Prelude.{◌≡◌, List, length, map, All}
 use Rattle.tangle_lexer.specs.Occurrences.{OccurrenceRead}
 use Rattle.tangle_names.specs.declared.resolution.Resolution.{Resolution}
 use Rattle.tangle_names.specs.Faults.{begins_another}
-use Rattle.tangle_names.specs.NameTable.{TableRead, table_over}
+use Rattle.tangle_names.specs.NameTable.{IsNameBelow, TableRead, table_over}
 use Rattle.tangle_names.specs.Numbers.{number_below}
 
 -- a resolution as a table
@@ -17,8 +17,10 @@ table_read r = record {
       map (number_below (length r.resolved.items)) r.first_file_occurrences.items;
 }
 
--- Each name has a first occurrence and a flag, which says whether the name begins another.
+-- Each occurrence resolves to one of the names, or to none. Each name has a first occurrence and a
+-- flag, which says whether the name begins another.
 pub record ResolutionInvariant (r : Resolution) : Type 0 where
+  pub inside : All (IsNameBelow (length r.names.keys)) r.resolved.items
   pub first_occurrences : length r.first_occurrences.items ≡ length r.names.keys
   pub first_file_occurrences : length r.first_file_occurrences.items ≡ length r.names.keys
   pub begins : r.begins.items ≡ map (begins_another r.names.keys) r.names.keys

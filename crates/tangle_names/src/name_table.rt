@@ -1,5 +1,5 @@
 //! The table of a web's names.
-ghost use Rattle.std.specs.Prelude.{◌≡◌, ◌<◌, ℕ, IfOk, length, map, slice_index_or, position};
+ghost use Rattle.std.specs.Prelude.{◌≡◌, ◌<◌, ◌+◌, ◌^◌, ℕ, IfOk, length, map, slice_index_or, position};
 ghost use Rattle.std.specs.Prelude.{is_some, None, []};
 ghost use Rattle.std.specs.Str.{bytes_eq};
 ghost use Rattle.tangle_lexer.specs.Occurrences.{OccurrenceRead};
@@ -39,7 +39,7 @@ impl Model for NameTable {
 
 impl NameTable {
     ghost use Rattle.tangle_names.specs.Faults.{name_faults};
-    ghost use Rattle.tangle_names.specs.NameTable.{table_of, table_over};
+    ghost use Rattle.tangle_names.specs.NameTable.{IsNameBelow, table_of, table_over};
 
     /// The table of a web's names. A name that ends in three dots is an abbreviation; the others
     /// are full names, also those that are only mentioned. An abbreviation resolves to the one full
@@ -87,7 +87,9 @@ impl NameTable {
     /// The resolution of the occurrence with this number: its full name, or why it has none.
     pub fn resolve(&self, occurrence: usize) -> Resolved
         requires { occurrence < length self.now.resolved }
-        ensures { result ≡ slice_index_or self.now.resolved occurrence NoFullName }
+        ensures resolution { result ≡ slice_index_or self.now.resolved occurrence NoFullName }
+        ensures inside { IsNameBelow (length self.now.names) result }
+        ensures few { length self.now.names + 1 < 2 ^ 64 }
     {
         self.resolution.resolved[occurrence]
     }

@@ -8,19 +8,12 @@ use Rattle.digraph.specs.Graph.{row_at}
 use Rattle.tangle_bodies.specs.NodeBodies.{ItemsRead}
 use Rattle.tangle_bodies.specs.Nodes.{title_at}
 use Rattle.tangle_graph.proofs.BodyLemmas.{new_unless_same}
-use Rattle.tangle_graph.proofs.GraphLemmas.{resolves_inside}
 use Rattle.tangle_graph.proofs.BodyMakingLemmas.{body_made, body_of_items, new_if_pieces, numbers, uses_below}
 use Rattle.tangle_graph.proofs.bodies.body_after.Goals as goal
 use Rattle.tangle_graph.proofs.bodies.body_after.Goals.{then-has_new_shape+in_ok-body-2, else-has_new_shape+in_ok-body-3}
 
 pub make-requires-clause-numbers : goal.make-requires-clause-numbers
 make-requires-clause-numbers c = search (rules, numbers)
-
-pub make-requires-clause-nodes : goal.make-requires-clause-nodes
-make-requires-clause-nodes c = record {
-  inside = resolves_inside c.args.grouped.web.now c.args.grouped.table.now c.requires.grouped.table;
-  few = rw (← c.requires.grouped.names) c.requires.few;
-}
 
 pub has_shape_of-has_new_shape-requires-clause-inside : goal.has_shape_of-has_new_shape-requires-clause-inside
 has_shape_of-has_new_shape-requires-clause-inside c =

@@ -3,16 +3,11 @@ use Rattle.std.proofs.Common.{◌<◌, length, ap, arith, sym}
 use Rattle.std.proofs.lemmas.List.{length-map}
 use Rattle.tangle_scan.specs.Web.{stored_piece}
 use Rattle.tangle_scan.specs.declared.pieces.Piece.{Piece}
-use Rattle.tangle_graph.proofs.GraphLemmas.{resolves_inside}
 use Rattle.tangle_graph.proofs.StoredPieces.{defined_inside, is_of_node}
 use Rattle.tangle_graph.proofs.pieces.node_at.Goals as goal
 
-pub node_of_piece-requires-clause-nodes : goal.node_of_piece-requires-clause-nodes
-node_of_piece-requires-clause-nodes c =
-    record { inside = resolves_inside c.args.web.now c.args.table.now c.requires.table; few = c.requires.count }
-
-pub node_of_piece-requires-clause-occurrence : goal.node_of_piece-requires-clause-occurrence
-node_of_piece-requires-clause-occurrence c =
+pub node_of_piece-requires : goal.node_of_piece-requires
+node_of_piece-requires c =
     let web = c.args.web.now in
     let stored = c.pieces-pieces.result.now in
     let is = c.pieces-pieces.ensures.pieces in

@@ -8,6 +8,7 @@ use Rattle.std.proofs.lemmas.Simd.{map-map}
 use Rattle.tangle_names.specs.declared.first_numbers.Counted.TheVariants.{All, Files}
 use Rattle.tangle_names.specs.Sorted.{borrowed_names}
 use Rattle.tangle_names.proofs.KeptLemmas.{names_same}
+use Rattle.tangle_names.proofs.LawLemmas.{inside}
 use Rattle.tangle_names.proofs.TableLemmas.{distinct_names, firsts_are, meant_by}
 use Rattle.tangle_names.proofs.resolution.Resolution.build.Goals as goal
 
@@ -44,4 +45,5 @@ returns c =
     rw count (ap (map below) (firsts_are os Files c.in_ok-first_file_occurrences.first_file_occurrences.items
     (omega (arith, c.in_ok-first_file_occurrences.ensures.size, c.len-count.ensures.len)) (grind (arith, nat_tests)))
     ∙ map-map below _ (names_in_order os)) in
-    search rules
+    let below = rw (← long, ← all) at (inside os) in
+    search (rules, below)
