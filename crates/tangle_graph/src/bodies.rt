@@ -32,21 +32,6 @@ pub(crate) struct GroupedWeb<'w, 's, 'a> {
     pub(crate) pieces: &'w Rows<usize>,
 }
 
-/// The old node that has the title of this one, if there is one: the same, if no name changed.
-fn old_node(old: &Names, names: &Names, same_names: bool, node: Node) -> Option<Node>
-    requires same_names { same_names ≡ true → old.now ≡ names.now }
-    requires node { IsNodeOf names.now node }
-    ensures inside { IfSome result (IsNodeOf old.now) }
-    ensures title { IfSome result (λ before. title_at old.now before ≡ title_at names.now node) }
-    ensures none { result ≡ None → (other : Node) → IsNodeOf old.now other
-        → title_at old.now other ≢ title_at names.now node }
-{
-    if same_names {
-        return Some(node);
-    }
-    node_before(old, names, node)
-}
-
 /// The old body of a node, with the old names, and whether these are still the names.
 #[derive(Clone, Copy)]
 struct OldBody<'s> {
@@ -75,7 +60,7 @@ fn body_before<'s>(
         before.body.now.value)) }
 {
     let old = old?;
-    let before = old_node(old.names(), names, same_names, node)?;
+    let before = node_before(old.names(), names, node)?;
     Some(OldBody {
         names: old.names(),
         body: old.body(before),
