@@ -10,7 +10,7 @@ use Rattle.digraph.specs.Nodes.{Node}
 use Rattle.tangle_graph.specs.Cycles.{contains_itself, reaches_cycle}
 use Rattle.tangle_graph.specs.Faults.{fault_of_name, faults_of_names}
 use Rattle.tangle_graph.specs.Measures.{AreMeasures}
-use Rattle.tangle_graph.specs.NamedFiles.{AreFlagged}
+use Rattle.tangle_graph.specs.NamedFiles.{AreFileFlags}
 use Rattle.tangle_graph.specs.Stores.{contains_itself_at, reaches_cycle_at}
 use Rattle.tangle_graph.specs.declared.faults.FaultSearch.{FaultSearch}
 
@@ -28,7 +28,7 @@ module _ (search : FaultSearch) where
         → reaches_cycle_at search.store.now n
         ≡ reaches_cycle (shapes search.web.now search.table.now) search.table.now.names
         (title_at search.table.now.names n)
-    pub named : AreFlagged (shapes search.web.now search.table.now) search.table.now
+    pub named : AreFileFlags (shapes search.web.now search.table.now) search.table.now
         search.out.now search.named_files
     pub uses_size : length search.first_uses.items ≡ length search.table.now.names
     pub first_uses : (id : ℕ) → id < length search.table.now.names

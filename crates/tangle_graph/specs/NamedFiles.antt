@@ -29,5 +29,5 @@ module _ (shapes : Shapes) (table : TableRead) (out : List ℕ) where
   flags_of id = (is_main_file shapes table out id, is_earlier_file shapes table out id)
 
   -- each name has these flags
-  abbrev pub AreFlagged : NamedFiles → Type 0
-  AreFlagged files = (id : ℕ) → id < length table.names → flags_at files id ≡ flags_of id
+  abbrev pub AreFileFlags : NamedFiles → Type 0
+  AreFileFlags files = (id : ℕ) → id < length table.names → flags_at files id ≡ flags_of id

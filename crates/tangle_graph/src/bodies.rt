@@ -60,10 +60,14 @@ fn body_before<'s>(
         before.body.now.value)) }
 {
     let old = old?;
-    let before = node_before(old.names(), names, node)?;
+    let found = if same_names {
+        node
+    } else {
+        node_before(old.names(), names, node)?
+    };
     Some(OldBody {
         names: old.names(),
-        body: old.body(before),
+        body: old.body(found),
         same_names,
     })
 }

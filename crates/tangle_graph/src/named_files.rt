@@ -2,7 +2,7 @@
 ghost use Rattle.std.specs.Prelude.{◌≡◌, ◌<◌, ◌+◌, ◌||◌, List, ℕ, IfOk, length, suc};
 ghost use Rattle.tangle_bodies.specs.Shapes.{Shapes};
 ghost use Rattle.tangle_graph.specs.Measures.{AreMeasures, measure_at};
-ghost use Rattle.tangle_graph.specs.NamedFiles.{AreFlagged, HaveForms, flags_at, flags_of};
+ghost use Rattle.tangle_graph.specs.NamedFiles.{AreFileFlags, HaveForms, flags_at, flags_of};
 ghost use Rattle.tangle_graph.specs.Outputs.{is_file};
 ghost use Rattle.tangle_graph.specs.PlainForms.{plain_form};
 
@@ -79,7 +79,7 @@ impl NamedFiles {
     ) -> Result<NamedFiles, NoMemory>
         ensures { IfOk result (λ files. (shapes : Shapes)
             → AreMeasures shapes table.now.names measures.now
-            → AreFlagged shapes table.now out.now files) }
+            → AreFileFlags shapes table.now out.now files) }
     {
         let main_form = plain_form(alloc, out)?;
         let mut forms = IndexSet::new(alloc);
