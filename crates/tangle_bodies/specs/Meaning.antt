@@ -36,13 +36,13 @@ left_over used = flat_map (λ symbols. Byte space ∷ symbols) used
 -- The symbols of the remaining tags of a node: `piece` pieces are before the current one, `marks`
 -- marks were in it, and these bytes and symbols of used names remain.
 abbrev pub tags_flat : Title → ℕ → ℕ → List ℕ → List ItemTag → List (List Symbol) → List Symbol
-tags_flat node piece marks bytes [] used = left_over used
-tags_flat node piece marks bytes (t ∷ tags) used =
+tags_flat title piece marks bytes [] used = left_over used
+tags_flat title piece marks bytes (t ∷ tags) used =
     map Byte (take t.size bytes)
-    ++ with_used t.kind (own_symbols node piece marks t.kind) used
-    (tags_flat node (next_piece piece t.kind) (next_mark marks t.kind) (drop t.size bytes) tags)
+    ++ with_used t.kind (own_symbols title piece marks t.kind) used
+    (tags_flat title (next_piece piece t.kind) (next_mark marks t.kind) (drop t.size bytes) tags)
 
 -- the symbols of a node with these items, where the names that it uses have these ones, in the
 -- order of the uses
 abbrev pub node_flat : Title → NodeItems → List (List Symbol) → List Symbol
-node_flat node items used = tags_flat node 0 0 items.bytes.items items.tags.items used
+node_flat title items used = tags_flat title 0 0 items.bytes.items items.tags.items used

@@ -1,4 +1,4 @@
--- The nodes of a web: the names that they are, their titles, and the rows of their pieces.
+-- The nodes of a web: their titles, those that occurrences mean, and the rows of their pieces.
 use Rattle.std.specs.Prelude.{◌≡◌, ◌<◌, ◌≤◌, ℕ, zero, suc, List, [], ◌∷◌, length, map, slice_index_or}
 use Rattle.std.specs.Prelude.{Option, Some, None}
 use Rattle.std.specs.List.{All}
@@ -10,7 +10,7 @@ use Rattle.tangle_names.specs.declared.Resolved.TheVariants.{Name}
 use Rattle.tangle_bodies.specs.Shapes.{Title, Program, Named}
 use Rattle.tangle_bodies.specs.WebShapes.{pieces_of, resolved_at}
 
--- the title of the node: the program, or the name with its number
+-- the title of the node: it is the program, or one of these names
 abbrev pub title_at : List (List ℕ) → Node → Title
 title_at names zero = Program
 title_at names (suc id) = Named (slice_index_or names id [])

@@ -3,7 +3,7 @@
 use Rattle.std.specs.Prelude.{ℕ, Bool, true, false, List, [], ◌∷◌, flat_map, map, Contains}
 use Rattle.std.specs.Str.{bytes_eq}
 
--- a node: the unnamed program, or a full name by its bytes
+-- the title of a node: that it is the unnamed program, or its full name, by its bytes
 pub data Title : Type 0 where
   Program : Title
   Named : List ℕ → Title

@@ -71,7 +71,7 @@ module _ (texts : List (List ℕ)) (table : TableRead) where
 module _ (web : WebRead) (table : TableRead) where
   -- the pieces of a node, in the order of the source
   abbrev pub pieces_of : Title → List PieceRead
-  pieces_of node = filter (is_piece_of table node) web.pieces
+  pieces_of title = filter (is_piece_of table title) web.pieces
 
   abbrev pub shapes : Shapes
-  shapes node = shape_of web.texts table (pieces_of node)
+  shapes title = shape_of web.texts table (pieces_of title)

@@ -21,7 +21,7 @@ use tangle_names::{NameTable, Names};
 use tangle_scan::{ItemKind, ItemTag, OccurrenceNumber, PieceText, Web};
 
 /// Buffers in which the items of one node after another are made. They are kept for the next node,
-/// so that a body takes only the memory that it needs, and none if an old one has the same items.
+/// so that a body takes only the memory that it needs, and its items none if an old one has them.
 #[derive(Drop)]
 pub struct BodyBuilder {
     items: NodeItems,
@@ -90,7 +90,7 @@ impl BodyBuilder {
             && (same_uses || have_titles_of(names, &self.uses, other_names, &body.uses))
     }
 
-    /// Whether the uses that were made are the same nodes as those of a body.
+    /// Whether the uses that were made have the same numbers as those of a body.
     pub fn has_uses_of(&self, body: &NodeBody) -> bool
         ensures { (result ≡ true) ↔ (self.now.uses ≡ body_uses body.now) }
     {

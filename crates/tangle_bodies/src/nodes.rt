@@ -1,4 +1,4 @@
-//! The nodes of names, and the bodies of nodes.
+//! The nodes that occurrences mean, and the bodies of nodes.
 ghost use Rattle.std.specs.Prelude.{◌≡◌, ◌<◌, ◌↔◌, IfSome, length, true};
 ghost use Rattle.tangle_bodies.specs.NodeBodies.{body_uses};
 ghost use Rattle.tangle_bodies.specs.Nodes.{IsNodeOf, node_of_occurrence, title_at};
@@ -20,7 +20,7 @@ pub fn node_of_occurrence(table: &NameTable, occurrence: usize) -> Option<Node>
     }
 }
 
-/// Whether the node has the same title as another node, which has its name among other names.
+/// Whether a node of one table of names has the title of a node of another table.
 pub(crate) fn has_title_of(names: &Names, node: Node, other_names: &Names, other: Node) -> bool
     requires node { IsNodeOf names.now node }
     requires other { IsNodeOf other_names.now other }

@@ -10,7 +10,7 @@ use digraph::Node;
 use tangle_names::Names;
 use tangle_scan::have_same_items;
 
-/// Whether the nodes of one table have, one by one, the titles of the others in the other table.
+/// Whether these nodes of one table of names have, one by one, the titles of those of another.
 pub(crate) fn have_titles_of(
     names: &Names,
     nodes: &[Node],

@@ -38,12 +38,12 @@ classes_of_bytes numbers _ _ = []
 -- those of a file, which are computed from the source: of the macros, if they begin it, and of the
 -- expansion of its node and a line feed, if the node has a piece
 abbrev pub classes_of_file : SourceRead → Bool → Bool → Title → List ByteClass
-classes_of_file source has_macros has_piece node =
+classes_of_file source has_macros has_piece title =
     let numbers : NumbersRead = numbers_in source Full in
     map (λ b. no_class) (front_bytes numbers has_macros)
     ++ (if has_piece
-    then classes_of_bytes numbers (flat_of (shapes_in source) node)
-    (classes levels source (web_of source) node)
+    then classes_of_bytes numbers (flat_of (shapes_in source) title)
+    (classes levels source (web_of source) title)
     ++ no_class ∷ []
     else [])
 
@@ -126,19 +126,19 @@ SourceLinesAreLow lines = AllByRecursion (λ l. IsLow l.origin) lines
 module _ (source : SourceRead) where
   -- the bytes of a file, with line marks that are written in full
   abbrev pub bytes_of_file : Bool → Bool → Title → List ℕ
-  bytes_of_file has_macros has_piece node =
+  bytes_of_file has_macros has_piece title =
       output_file_bytes (numbers_in source Full) has_macros has_piece
-      (flat_of (shapes_in source) node)
+      (flat_of (shapes_in source) title)
 
   -- A file is counted as it is written if the macros that it begins with are read alone, the pieces
   -- that its node reaches are whole, and its directives are seen.
   abbrev pub FilesAreCountedAsWritten : Type 0
   FilesAreCountedAsWritten =
-      (name : List ℕ) (has_macros has_piece : Bool) (node : Title)
+      (name : List ℕ) (has_macros has_piece : Bool) (title : Title)
       → (has_macros ≡ true → MacrosAreReadAlone source)
-      → (has_piece ≡ true → IsExpandableNode (shapes_in source) node × ReachesWholePieces source node)
-      → DirectivesAreSeen (classes_of_file source has_macros has_piece node)
-      (bytes_of_file has_macros has_piece node)
+      → (has_piece ≡ true → IsExpandableNode (shapes_in source) title × ReachesWholePieces source title)
+      → DirectivesAreSeen (classes_of_file source has_macros has_piece title)
+      (bytes_of_file has_macros has_piece title)
       → IsCountedAsWritten (web_of source).file_names
-      (classes_of_file source has_macros has_piece node) name
-      (bytes_of_file has_macros has_piece node)
+      (classes_of_file source has_macros has_piece title) name
+      (bytes_of_file has_macros has_piece title)

@@ -11,13 +11,14 @@ pub record ItemsOfNode : Type 0 where
   pub tags : List ItemTag
   pub bytes : List ℕ
 
--- What is shared for the uses of a node, in their order: the items of the used name, and what is
--- shared for its own uses. A name without a piece has no items.
+-- What is shared for the uses of a node, in their order: the items of the used node, and what is
+-- shared for its own uses. A node without a piece has no items.
 pub data Shared : Type 0 where
   End : Shared
   Next : ItemsOfNode → Shared → Shared → Shared
 
--- An expansion. It has neither titles nor numbers, since it may be kept while these change.
+-- An expansion. It has no numbers of nodes, since it may be kept while these change: the web for
+-- which it is written says which nodes are used.
 pub record Expanded : Type 0 where
   pub items : ItemsOfNode
   pub used : Shared
@@ -48,7 +49,7 @@ abbrev pub UsedTitles : Type 0
 UsedTitles = Title → List Title
 
 abbrev pub used_titles : Shapes → UsedTitles
-used_titles shapes node = shape_titles (shapes node)
+used_titles shapes title = shape_titles (shapes title)
 
 module _ (uses : UsedTitles) where
   -- the symbols of what is shared for the uses of nodes with these titles
@@ -58,11 +59,11 @@ module _ (uses : UsedTitles) where
       (shared_symbols used (uses title)) ∷ shared_symbols rest titles
   shared_symbols _ _ = []
 
-  -- The symbols that an expansion gives, where nodes use these names, to the node with this
+  -- The symbols that an expansion gives, with these titles for its uses, to the node with this
   -- title. If there is no expansion, there are none.
   abbrev pub symbols_of : Title → Expanded → List Symbol
-  symbols_of node e =
-      tags_flat node 0 0 e.items.bytes e.items.tags (shared_symbols e.used (uses node))
+  symbols_of title e =
+      tags_flat title 0 0 e.items.bytes e.items.tags (shared_symbols e.used (uses title))
 
   abbrev pub symbols_if_any : Title → Option Expanded → List Symbol
-  symbols_if_any node e = symbols_of node (unwrap_or e nothing)
+  symbols_if_any title e = symbols_of title (unwrap_or e nothing)

@@ -18,13 +18,13 @@ unfoldable pub weight_cap : ℕ
 weight_cap = 16777217
 
 abbrev pub flat_of : Shapes → Title → List Symbol
-flat_of shapes node = flat levels shapes node
+flat_of shapes title = flat levels shapes title
 
 abbrev pub weight_of : Shapes → Title → ℕ
-weight_of shapes node = min weight_cap (weight weight_cap shapes node)
+weight_of shapes title = min weight_cap (weight weight_cap shapes title)
 
 abbrev pub depth_of : Shapes → Title → ℕ
-depth_of shapes node = depth levels shapes node
+depth_of shapes title = depth levels shapes title
 
 abbrev pub IsExpandableNode : Shapes → Title → Type 0
-IsExpandableNode shapes node = IsExpandable levels heaviest shapes node
+IsExpandableNode shapes title = IsExpandable levels heaviest shapes title

@@ -72,13 +72,13 @@ module _ (table : TableRead) (used : List ℕ → List ByteClass) where
 
 -- those of a node's pieces; an opening and its mark come before the items of each
 abbrev pub classes : ℕ → SourceRead → WebRead → Title → List ByteClass
-classes zero source web node = []
-classes (suc fuel) source web node =
+classes zero source web title = []
+classes (suc fuel) source web title =
     flat_map
     (λ p. Other SameRegion ∷ Other SameRegion
     ∷ items_classes (table_of web) (λ name. classes fuel source web (Named name))
     web.texts source.lines [] p.1 p.0.items)
-    (filter (λ p. is_piece_of (table_of web) node p.0) (zip web.pieces (piece_locations source.lines)))
+    (filter (λ p. is_piece_of (table_of web) title p.0) (zip web.pieces (piece_locations source.lines)))
 
 -- The counted origin, where marks are written in full.
 
@@ -98,8 +98,8 @@ module _ (numbers : NumbersRead) where
   -- macros it is unknown until the next mark
   abbrev pub origin_after : Bool → Option Origin → Symbol → ByteClass → Option Origin
   origin_after read origin (Byte b) (LineFeed border) = with_line_end origin
-  origin_after read origin (MarkOf node piece mark) class =
-      origin_after_mark read (origin_of_mark numbers node piece mark) origin
+  origin_after read origin (MarkOf title piece mark) class =
+      origin_after_mark read (origin_of_mark numbers title piece mark) origin
   origin_after read origin AllMacros class = None
   origin_after read origin symbol class = origin
 

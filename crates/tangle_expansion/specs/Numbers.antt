@@ -1,5 +1,5 @@
--- The section numbers and origins of a web, the bytes of its macros, and the bytes that an
--- expansion gives with them.
+-- The section numbers and origins of a web, what its nodes use, the bytes of its macros, and the
+-- bytes that an expansion gives with them.
 use Rattle.std.specs.Prelude.{ℕ, suc, ◌+◌, ◌==◌, ◌||◌, List, [], ◌∷◌, ◌++◌, map, flat_map, get_or, codes}
 use Rattle.std.specs.Prelude.{decimal, length, position, if◌then◌else◌}
 use Rattle.std.specs.Option.{option_map_or}
@@ -25,7 +25,7 @@ pub record PieceNumbersRead : Type 0 where
   pub section : ℕ
   pub origins : List Origin
 
--- what the bytes of a web's expansions depend on, besides the symbols
+-- what the bytes of a web's expansions depend on, besides their items
 pub record NumbersRead : Type 0 where
   -- for each file, what comes after the number in its line marks
   pub mark_ends : List (List ℕ)
@@ -62,7 +62,7 @@ abbrev pub numbers_of : WebRead → TableRead → MarkMode → NumbersRead
 numbers_of web table marks = record {
   mark_ends = map mark_end web.file_names;
   names = table.names;
-  rows = each_node table.names (λ node. map numbers_of_piece (pieces_of web table node));
+  rows = each_node table.names (λ title. map numbers_of_piece (pieces_of web table title));
   uses = each_node table.names (used_titles (shapes web table));
   macros = flat_map (macro_bytes web.texts) web.macros;
   marks = marks;
@@ -87,7 +87,7 @@ no_numbers = record { section = 0; origins = [] }
 abbrev pub no_origin : Origin
 no_origin = record { file = 0; line = 0 }
 
--- the number of a node's row: that after the last one for a name that is none of these
+-- the number of the row of the node with this title; no row has it if the name is none of these
 abbrev pub row_number : List (List ℕ) → Title → ℕ
 row_number names Program = 0
 row_number names (Named name) =
@@ -96,17 +96,17 @@ row_number names (Named name) =
 module _ (numbers : NumbersRead) where
   -- the numbers of a node's pieces
   abbrev pub node_numbers : Title → List PieceNumbersRead
-  node_numbers node = row_at numbers.rows (row_number numbers.names node)
+  node_numbers title = row_at numbers.rows (row_number numbers.names title)
 
   -- the titles of what each node uses
   abbrev pub titles_used : UsedTitles
-  titles_used node = row_at numbers.uses (row_number numbers.names node)
+  titles_used title = row_at numbers.uses (row_number numbers.names title)
 
   abbrev pub numbers_at : Title → ℕ → PieceNumbersRead
-  numbers_at node piece = get_or (node_numbers node) piece no_numbers
+  numbers_at title piece = get_or (node_numbers title) piece no_numbers
 
   abbrev pub origin_of_mark : Title → ℕ → ℕ → Origin
-  origin_of_mark node piece mark = get_or (numbers_at node piece).origins mark no_origin
+  origin_of_mark title piece mark = get_or (numbers_at title piece).origins mark no_origin
 
   -- the bytes of a line mark with this origin
   abbrev pub mark_bytes_at : Origin → List ℕ
@@ -115,9 +115,9 @@ module _ (numbers : NumbersRead) where
 
   abbrev pub symbol_bytes : Symbol → List ℕ
   symbol_bytes (Byte b) = b ∷ []
-  symbol_bytes (Opening node piece) = opening_bytes (numbers_at node piece).section
-  symbol_bytes (MarkOf node piece mark) = mark_bytes_at (origin_of_mark node piece mark)
-  symbol_bytes (Closing node piece) = closing_bytes (numbers_at node piece).section
+  symbol_bytes (Opening title piece) = opening_bytes (numbers_at title piece).section
+  symbol_bytes (MarkOf title piece mark) = mark_bytes_at (origin_of_mark title piece mark)
+  symbol_bytes (Closing title piece) = closing_bytes (numbers_at title piece).section
   symbol_bytes AllMacros = line_feed ∷ numbers.macros
 
   abbrev pub expansion_bytes : List Symbol → List ℕ

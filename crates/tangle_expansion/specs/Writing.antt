@@ -23,11 +23,11 @@ pub record IsAfterTag (at : Cursor) (t : ItemTag) (next : Cursor) : Type 0 where
   pub marks : next.marks ≡ next_mark at.marks t.kind
   pub start : next.start ≡ min (at.start + t.size) (2 ^ 64 - 1)
 
-module _ (node : Title) (items : NodeItems) (at : Cursor) where
+module _ (title : Title) (items : NodeItems) (at : Cursor) where
   -- the symbols of the remaining tags
   abbrev pub symbols_from : List (List Symbol) → List Symbol
   symbols_from used =
-      tags_flat node at.piece at.marks
+      tags_flat title at.piece at.marks
       (drop at.start items.bytes.items) (drop at.tag items.tags.items) used
 
   -- their bytes

@@ -1,4 +1,4 @@
-//! Expansions, which share the bodies of their nodes and the expansions of the used names.
+//! Expansions, which share the items of their nodes and the expansions of the used nodes.
 ghost use Rattle.std.specs.Prelude.{◌≡◌, IfOk};
 
 use std::marker::Model;
@@ -6,8 +6,8 @@ use std::rc::Rc;
 use tangle_bodies::NodeItems;
 use tangle_lines::NoMemory;
 
-/// The expansion of a node: its items, and the expansions of the names that it uses. It has neither
-/// names nor numbers, since it may be kept while they change: these are given where it is written.
+/// The expansion of a node: its items, and the expansions of the nodes that it uses. It has no
+/// numbers of nodes, since it may be kept while these change: they are given where it is written.
 #[cycle(expansion)]
 #[derive(Drop)]
 pub struct Expansion {

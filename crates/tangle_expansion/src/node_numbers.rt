@@ -5,7 +5,7 @@ ghost use Rattle.tangle_expansion.specs.Numbers.{no_numbers, no_origin};
 ghost use Rattle.tangle_expansion.specs.PieceNumbers.{numbers_of_rows};
 
 use crate::piece_numbers::PieceNumbers;
-use digraph::Rows;
+use digraph::{Node, Rows};
 use std::marker::Model;
 use tangle_lines::Origin;
 
@@ -27,13 +27,13 @@ impl<'n> Model for NodeNumbers<'n> {
 }
 
 impl<'n> NodeNumbers<'n> {
-    /// The numbers of the pieces in a row; no numbers where there is no row.
-    pub(crate) fn at(pieces: &'n PieceNumbers, rows: &'n Rows<usize>, n: usize) -> Self
-        ensures { result ≡ row_at (numbers_of_rows pieces.now rows.now) n }
+    /// The numbers of the pieces in the row of a node; no numbers where there is no row.
+    pub(crate) fn at(pieces: &'n PieceNumbers, rows: &'n Rows<usize>, node: Node) -> Self
+        ensures { result ≡ row_at (numbers_of_rows pieces.now rows.now) node }
     {
         NodeNumbers {
             pieces,
-            row: rows.row(n),
+            row: rows.row(node.number()),
         }
     }
 

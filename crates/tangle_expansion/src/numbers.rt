@@ -1,4 +1,4 @@
-//! The section numbers and origins of a web, and the bytes of its macros.
+//! The section numbers and origins of a web, the uses of its nodes, and the bytes of its macros.
 ghost use Rattle.std.specs.Prelude.{◌≡◌, [], IfOk, get_or, All};
 ghost use Rattle.tangle_names.specs.NameTable.{table_of};
 ghost use Rattle.tangle_bodies.specs.NodeBodies.{AreBodiesOf, node_bodies};
@@ -45,10 +45,9 @@ impl Model for Numbers {
 }
 
 impl Numbers {
-    /// Reads from a web what its outputs need besides the items in its expansions: section
-    /// numbers, the origins of marks and the bytes of the macros. Line marks are written as `marks`
-    /// says. The names and the bodies must be those of the web; the rows have the numbers of the
-    /// pieces of each node.
+    /// Reads from a web what its outputs need besides the items in its expansions, and shares its
+    /// names, bodies and rows. Line marks are written as `marks` says. The names and the bodies must
+    /// be those of the web; `pieces` has a row for each node, with the positions of its pieces.
     ///
     /// # Errors
     ///
@@ -84,7 +83,7 @@ impl Numbers {
         ensures numbers { result ≡ node_numbers self.now (title_at self.now.names node) }
         ensures short { SymbolsAreShort self.now }
     {
-        NodeNumbers::at(&self.pieces, &self.rows, node.number())
+        NodeNumbers::at(&self.pieces, &self.rows, node)
     }
 
     /// The nodes that the node uses: one for each use that resolves to a name.

@@ -12,10 +12,10 @@ use tangle_bodies::{ItemKind, ItemTag, NodeItems, symbols_of_kind};
 pub(crate) fn after_bytes(items: &NodeItems, from: Cursor) -> Cursor
     ensures tag { from.tag ≤ result.tag }
     ensures start { from.start ≤ result.start }
-    ensures text { (node : Title) (numbers : NumbersRead) (used : List (List Symbol))
-        → bytes_from node items.now from numbers used
+    ensures text { (title : Title) (numbers : NumbersRead) (used : List (List Symbol))
+        → bytes_from title items.now from numbers used
         ≡ bytes_between items.now.bytes.items from.start result.start
-        ++ bytes_from node items.now result numbers used }
+        ++ bytes_from title items.now result numbers used }
 {
     let mut at = from;
     while at.tag < items.tags.len() {

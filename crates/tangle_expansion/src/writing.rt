@@ -85,9 +85,9 @@ fn write_symbols<S: Sink>(
     so_far: Written,
 ) -> Written
     requires { at.tag + 1 < 2 ^ 64 }
-    ensures { (node : Title) → text.now.pieces ≡ node_numbers text.now.numbers.now node
+    ensures { (title : Title) → text.now.pieces ≡ node_numbers text.now.numbers.now title
         → IsWrittenAfter (S.stream sink.old) (S.stream sink.new) so_far
-        (expansion_bytes text.now.numbers.now (own_symbols node at.piece at.marks kind)) result }
+        (expansion_bytes text.now.numbers.now (own_symbols title at.piece at.marks kind)) result }
 {
     match kind {
         ItemKind::PieceStart => {
@@ -119,12 +119,12 @@ fn write_to_use<S: Sink>(
     sink: &mut S,
     so_far: Written,
 ) -> (Cursor, Written)
-    ensures { (node : Title) (used : List (List Symbol))
-        → text.now.pieces ≡ node_numbers text.now.numbers.now node
+    ensures { (title : Title) (used : List (List Symbol))
+        → text.now.pieces ≡ node_numbers text.now.numbers.now title
         → Wrote (S.stream sink.old) (S.stream sink.new) so_far result.1
         (from_use text.now.numbers.now
-        (bytes_from node text.now.items.now result.0 text.now.numbers.now) used)
-        (bytes_from node text.now.items.now from text.now.numbers.now used) }
+        (bytes_from title text.now.items.now result.0 text.now.numbers.now) used)
+        (bytes_from title text.now.items.now from text.now.numbers.now used) }
 {
     let items = text.items;
     let mut at = from;

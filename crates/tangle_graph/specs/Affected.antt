@@ -13,7 +13,7 @@ pub record EditedShapes : Type 0 where
   pub new : Shapes
 
 -- Exactly the affected nodes of the new store: each once, and after those listed nodes that it uses.
--- Whether a node is affected is said of its title, which names the same node in both shapes.
+-- Whether a node is affected is said of its title, since a title means the same in both shapes.
 pub record ListsAffected (old new : Shapes) (store : StoreRead) (nodes : List Node) : Type 0 where
   pub once : AllPairs (λ a b. a ≢ b) nodes
   pub just : (node : Node) → Contains nodes node

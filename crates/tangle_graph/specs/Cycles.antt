@@ -13,8 +13,8 @@ has_use shapes user (Named name) = list_any (bytes_eq name) (shape_names (shapes
 
 -- the node reaches itself in one step or more, along these names
 unfoldable pub contains_itself : Shapes → List (List ℕ) → Title → Bool
-contains_itself shapes names node = reaches_by (has_use shapes) (map Named names) node node
+contains_itself shapes names title = reaches_by (has_use shapes) (map Named names) title title
 
 -- the node reaches a name that contains itself, along these names
 unfoldable pub reaches_cycle : Shapes → List (List ℕ) → Title → Bool
-reaches_cycle shapes names node = reaches_cycle_by (has_use shapes) (map Named names) node
+reaches_cycle shapes names title = reaches_cycle_by (has_use shapes) (map Named names) title

@@ -1,10 +1,10 @@
 -- From what the faults of the graph are found. Only private contracts cite these definitions.
-use Rattle.std.specs.Prelude.{◌≡◌, ◌<◌, ◌≤◌, ℕ, List, flat_map, length, slice_index_or}
+use Rattle.std.specs.Prelude.{◌≡◌, ◌<◌, ℕ, List, flat_map, length, slice_index_or}
 use Rattle.tangle_faults.specs.declared.faults.FaultKind.{FaultKind}
 use Rattle.tangle_names.specs.declared.first_numbers.Counted.TheVariants as counted
 use Rattle.tangle_names.specs.Numbers.{first_by_number}
 use Rattle.tangle_names.specs.Resolving.{resolve}
-use Rattle.tangle_bodies.specs.Nodes.{title_at}
+use Rattle.tangle_bodies.specs.Nodes.{IsNodeOf, title_at}
 use Rattle.tangle_bodies.specs.WebShapes.{shapes}
 use Rattle.digraph.specs.Nodes.{Node}
 use Rattle.tangle_graph.specs.Cycles.{contains_itself, reaches_cycle}
@@ -20,11 +20,11 @@ module _ (search : FaultSearch) where
   pub record IsFaultSearch : Type 0 where
     pub measured : AreMeasures (shapes search.web.now search.table.now) search.table.now.names
         search.store.now.measures
-    pub containing : (n : Node) → n ≤ length search.table.now.names
+    pub containing : (n : Node) → IsNodeOf search.table.now.names n
         → contains_itself_at search.store.now n
         ≡ contains_itself (shapes search.web.now search.table.now) search.table.now.names
         (title_at search.table.now.names n)
-    pub reaching : (n : Node) → n ≤ length search.table.now.names
+    pub reaching : (n : Node) → IsNodeOf search.table.now.names n
         → reaches_cycle_at search.store.now n
         ≡ reaches_cycle (shapes search.web.now search.table.now) search.table.now.names
         (title_at search.table.now.names n)

@@ -1,10 +1,10 @@
 -- The store of a web with its table of names.
-use Rattle.std.specs.Prelude.{◌≡◌, ◌≤◌, ◌↔◌, ℕ, true, List, length}
+use Rattle.std.specs.Prelude.{◌≡◌, ◌↔◌, ℕ, true, List}
 use Rattle.tangle_scan.specs.Web.{WebRead}
 use Rattle.tangle_names.specs.NameTable.{TableRead}
 use Rattle.digraph.specs.Nodes.{Node}
 use Rattle.digraph.specs.Reach.{ReachesCycle}
-use Rattle.tangle_bodies.specs.Nodes.{IsGroupedBy, title_at}
+use Rattle.tangle_bodies.specs.Nodes.{IsGroupedBy, IsNodeOf, title_at}
 use Rattle.tangle_bodies.specs.WebShapes.{shapes}
 use Rattle.tangle_bodies.specs.Shapes.{Uses}
 use Rattle.tangle_graph.specs.Outputs.{outputs}
@@ -19,7 +19,7 @@ pub record IsStoreOfWeb (web : WebRead) (table : TableRead)
     (out : List ℕ) (made : StoreRead) : Type 0 where
   pub store : IsStoreOf (shapes web table) made
   pub names : made.names ≡ table.names
-  pub reaching_cycles : (n : Node) → n ≤ length table.names
+  pub reaching_cycles : (n : Node) → IsNodeOf table.names n
       → (reaches_cycle_at made n ≡ true)
       ↔ ReachesCycle (Uses (shapes web table)) (title_at table.names n)
   pub outputs : made.outputs ≡ outputs web table out

@@ -104,7 +104,7 @@ fn kept_body(
     Ok(Rc::new(alloc, builder.body_of(alloc, stored.items.clone()?)?)?)
 }
 
-/// The body of the node. It shares the old body's items if these are those of the node's pieces.
+/// The body of the node. It shares the old body's items if the node has its old shape.
 fn body_after(
     alloc: Global,
     builder: &mut BodyBuilder,
@@ -161,7 +161,8 @@ pub(crate) struct Bodies {
     pub(crate) new_shapes: Vec<bool>,
 }
 
-/// The body of each node of the web. An old body is shared if its items did not change.
+/// The body of each node of the web. An old body is shared if the node has its old shape and uses
+/// the same numbers.
 pub(crate) fn bodies_by_node(
     alloc: Global,
     grouped: GroupedWeb,

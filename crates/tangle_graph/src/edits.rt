@@ -43,7 +43,7 @@ pub(crate) fn reaching_new_shapes(
         → IsStoreOf before old → IsStoreOf after new.now
         → IfOk result (λ flags. AreFlagged before after new.now flags.items order.now) }
 {
-    // In this order no search is needed, as `digraph::reaching` makes one.
+    // In this order each node comes after what it uses, so no search is needed.
     let mut flags = new.no_flags(alloc)?;
     for node in order {
         let flag = has_cause(new, new_shapes, &flags, *node);

@@ -1,6 +1,7 @@
 //! The faults of the graph of names: a name is undefined, never used, contains itself, is too large,
 //! or is that of the main file or of an earlier file; or the program is too large or has no piece.
-ghost use Rattle.std.specs.Prelude.{◌≡◌, ◌<◌, ◌≤◌, ◌++◌, false, None, All, IfOk, OnOk};
+ghost use Rattle.std.specs.Prelude.{◌≡◌, ◌<◌, ◌++◌, false, None, All, IfOk, OnOk};
+ghost use Rattle.tangle_bodies.specs.Nodes.{IsNodeOf};
 ghost use Rattle.std.specs.Prelude.{length, if◌then◌else◌};
 ghost use Rattle.tangle_graph.specs.Faults.{fault_if, fault_occurrence, fault_of_name};
 ghost use Rattle.tangle_graph.specs.Faults.{faults_of_names, first_use, graph_faults};
@@ -66,7 +67,7 @@ impl<'f, 's, 'a> FaultSearch<'f, 's, 'a> {
 
     fn has_piece(&self, node: Node) -> bool
         requires search { IsFaultSearch self.now }
-        requires node { node ≤ length self.now.table.now.names }
+        requires node { IsNodeOf self.now.table.now.names node }
         ensures { result ≡ has_piece_of_node self.now.web.now self.now.table.now node }
     {
         self.store.has_piece(node)
@@ -75,7 +76,7 @@ impl<'f, 's, 'a> FaultSearch<'f, 's, 'a> {
     /// Whether the node has a piece, reaches no name that contains itself, and is beyond a limit.
     fn is_too_large(&self, node: Node) -> bool
         requires search { IsFaultSearch self.now }
-        requires node { node ≤ length self.now.table.now.names }
+        requires node { IsNodeOf self.now.table.now.names node }
         ensures { result ≡ is_too_large self.now.web.now self.now.table.now node }
     {
         self.has_piece(node) && (!self.store.reaches_cycle(node) && !self.store.expandable(node))

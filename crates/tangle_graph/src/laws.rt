@@ -14,12 +14,12 @@ ghost use Rattle.tangle_graph.specs.Stores.{StoreRead};
 /// A node of a web contains itself, or reaches a name that does, exactly where the functions say so
 /// from which the faults are made.
 pub fn cycles_are_computed()
-    ensures contains_itself { (web : WebRead) (node : Title)
+    ensures contains_itself { (web : WebRead) (title : Title)
         → let all = shapes web (table_of web) in
-        Decides (contains_itself all (table_of web).names node) (ContainsItself (Uses all) node) }
-    ensures reaches_cycle { (web : WebRead) (node : Title)
+        Decides (contains_itself all (table_of web).names title) (ContainsItself (Uses all) title) }
+    ensures reaches_cycle { (web : WebRead) (title : Title)
         → let all = shapes web (table_of web) in
-        Decides (reaches_cycle all (table_of web).names node) (ReachesCycle (Uses all) node) }
+        Decides (reaches_cycle all (table_of web).names title) (ReachesCycle (Uses all) title) }
 {}
 
 /// An edit that leaves every shape unchanged affects no node: for example one that shifts lines or

@@ -254,7 +254,7 @@ impl Store {
         search.faults(alloc)
     }
 
-    /// Nodes of the store, each once and after the names that it uses. Each expandable node is
+    /// Nodes of the store, each once and after the nodes that it uses. Each expandable node is
     /// among them.
     pub fn order(&self) -> &[Node]
         ensures { IsOrderIn self.now result.now }

@@ -11,7 +11,7 @@ use Rattle.tangle_session.specs.Sessions.{shapes_of}
 
 -- each node keeps its shape
 abbrev pub HaveSameShapes : WebRead → WebRead → Type 0
-HaveSameShapes old new = (node : Title) → shapes_of new node ≡ shapes_of old node
+HaveSameShapes old new = (title : Title) → shapes_of new title ≡ shapes_of old title
 
 -- a table without names
 abbrev pub no_names : TableRead

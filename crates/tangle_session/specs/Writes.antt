@@ -42,7 +42,7 @@ pub record IsTrueFile (files : FileTable) (roles : RolesRead) (name : List ℕ) 
       (outputs (web_at files roles) (table_at files roles) roles.out) ≡ Some output
   pub are_its : output_at files roles name ≡ Some (output_bytes files roles output)
   pub origins :
-      let node : Title = title_at (table_at files roles).names output.node in
+      let title : Title = title_at (table_at files roles).names output.node in
       AreAtTheirOrigins (numbers_of (web_at files roles) (table_at files roles) Full) true None
-      (flat_of (shapes (web_at files roles) (table_at files roles)) node)
-      (classes levels (source_at files roles) (web_at files roles) node)
+      (flat_of (shapes (web_at files roles) (table_at files roles)) title)
+      (classes levels (source_at files roles) (web_at files roles) title)
