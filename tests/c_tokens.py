@@ -86,7 +86,7 @@ def tokens(text):
 
 # ---------------------------------------------------------------------- worked texts
 
-READS = re.compile(rb'\bReads\s+"((?:\\.|[^"\\])*)"\s+"((?:\\.|[^"\\])*)"')
+READS = re.compile(rb'\bHasTokens\s+"((?:\\.|[^"\\])*)"\s+"((?:\\.|[^"\\])*)"')
 ESCAPES = {b'n': b'\n', b't': b'\t'}
 
 
